@@ -1,0 +1,11 @@
+-- `recovery::sessions_agree` meets its contract: the cases are computed in proofs/Sessions and proofs/MoreSessions. Assumes nothing.
+use Rattle.recovery.proofs.Sessions.{sessions}
+use Rattle.recovery.proofs.MoreSessions.{more-sessions}
+use Rattle.recovery.proofs.sessions_agree.Statement.{statement}
+use Rattle.recovery.proofs.sessions_agree.Tie as tie
+
+returns : tie.Need-returns
+returns c = (sessions, more-sessions)
+
+pub sessions-agree-spec : {M : Type 1} → statement M
+sessions-agree-spec = tie.close (tie.spec returns)
