@@ -1,12 +1,8 @@
 // Joining.
 ghost use mathlib.Core.Path.{_≡_};
-ghost use mathlib.Core.Bool.{true};
-ghost use Prim.Native.Nat.{_<_};
 ghost use Rattle.words.specs.Edition.{one};
 ghost use Rattle.words.specs.Memory.{memory};
-ghost use Rattle.words.specs.BlockMap.{withBit};
 ghost use Rattle.points.specs.Record.{noTable, noText, noWrite};
-ghost use Rattle.points.specs.Search.{withJoined};
 ghost use Rattle.points.specs.Calls.{badFirst, joinRefusal, joining};
 use crate::Head;
 use crate::Joined;
@@ -70,23 +66,6 @@ fn idle_at(number: u32, place: Place) -> Point
     }
 }
 
-// The shared record with another set of joined points.
-pub(crate) fn with_joined(shared: Shared, joined: u32) -> Shared
-    ensures { λ r. ⌜ r ≡ withJoined shared joined ⌝ }
-{
-    let mut s = shared;
-    s.joined = joined;
-    s
-}
-
-// The points with one more joined.
-fn with_point(joined: u32, number: u32) -> u32
-    requires { ⌜ number < 32 ⌝ }
-    ensures { λ r. ⌜ r ≡ withBit true joined number ⌝ }
-{
-    joined | 1u32 << number
-}
-
 // Joining.
 pub fn join(image: &[u64], shared: Shared, number: u32) -> Joined
     ensures { λ r. ⌜ r ≡ joining one (now (image .entry)) shared number ⌝ }
@@ -109,7 +88,10 @@ pub fn join(image: &[u64], shared: Shared, number: u32) -> Joined
     let first = log::links::first_index(image) as u32;
     Joined {
         reply: Reply::Done,
-        shared: with_joined(shared, with_point(shared.joined, number)),
+        shared: crate::shared::with_joined(
+            shared,
+            crate::shared::with_point(shared.joined, number),
+        ),
         point: idle_at(
             number,
             Place {

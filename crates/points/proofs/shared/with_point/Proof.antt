@@ -1,9 +1,9 @@
--- `points::join::with_point` meets its contract: a bit is set by `|` with a shifted 1. Assumes nothing.
+-- `points::shared::with_point` meets its contract: a bit is set by `|` with a shifted 1. Assumes nothing.
 use native.Mathlib.Omega.{arith}
 use borrow.Author.Needs.{needs}
 use Rattle.points.proofs.Joins.{bit-on}
-use Rattle.points.proofs.join.with_point.Statement.{statement}
-use Rattle.points.proofs.join.with_point.Tie as tie
+use Rattle.points.proofs.shared.with_point.Statement.{statement}
+use Rattle.points.proofs.shared.with_point.Tie as tie
 
 shl-result : tie.Need-shl-result
 shl-result c = search needs

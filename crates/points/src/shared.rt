@@ -1,0 +1,41 @@
+// Changes of the shared record: points that join or leave, blocks that are taken or become free.
+ghost use mathlib.Core.Path.{_≡_};
+ghost use mathlib.Core.Bool.{true, false};
+ghost use Prim.Native.Nat.{_<_};
+ghost use Rattle.words.specs.BlockMap.{withBit};
+ghost use Rattle.points.specs.Search.{withJoined, withTaken};
+use log::Shared;
+
+// The shared record with other joined points.
+pub(crate) fn with_joined(shared: Shared, joined: u32) -> Shared
+    ensures { λ r. ⌜ r ≡ withJoined shared joined ⌝ }
+{
+    let mut s = shared;
+    s.joined = joined;
+    s
+}
+
+// The shared record with another map.
+pub(crate) fn with_taken(shared: Shared, taken: [u64; 16]) -> Shared
+    ensures { λ r. ⌜ r ≡ withTaken shared taken ⌝ }
+{
+    let mut s = shared;
+    s.taken = taken;
+    s
+}
+
+// The joined points with one more.
+pub(crate) fn with_point(joined: u32, number: u32) -> u32
+    requires { ⌜ number < 32 ⌝ }
+    ensures { λ r. ⌜ r ≡ withBit true joined number ⌝ }
+{
+    joined | 1u32 << number
+}
+
+// The joined points with one less.
+pub(crate) fn without_point(joined: u32, number: u32) -> u32
+    requires { ⌜ number < 32 ⌝ }
+    ensures { λ r. ⌜ r ≡ withBit false joined number ⌝ }
+{
+    joined & !(1u32 << number)
+}
