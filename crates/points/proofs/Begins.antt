@@ -2,7 +2,7 @@
 use Prim.Native.Nat.{ℕ, zero, suc, _+_, _-_, _≤_, _<_}
 use native.Mathlib.Omega.{arith}
 use native.Mathlib.Numerals.{add-one}
-use native.Mathlib.Nat.{zero-add, le-trans}
+use native.Mathlib.Nat.{zero-add}
 use mathlib.Core.Path.{_≡_, refl, sym, _∙_, ap, subst}
 use mathlib.Core.Bool.{Bool, true, false, not}
 use mathlib.Core.List.{List, [], _∷_, _++_}
@@ -114,35 +114,53 @@ module _ (words : List ℕ) (s : Shared) (p : Point) (offset : ℕ) (text : List
   begin-refused h =
       rw e (sym (refused-so (beginRefusal one words s (p .head) (p .table) offset (length text)) _ (λ n. record { reply = Refused n; shared = s; point = p }) (λ z. h (e ∙ z))))
 
-  module _ (h : r ≡ 0) where
-    none : beginRefusal one words s (p .head) (p .table) offset (length text) ≡ 0
-    none = sym e ∙ h
+-- what a beginning that is not refused has passed
+pub record Ready (words : List ℕ) (s : Shared) (p : Point) (offset : ℕ) (text : List ℕ) : Type 0 where
+  pub none : beginRefusal one words s (p .head) (p .table) offset (length text) ≡ 0
+  pub sound : broken one (s .blocks) (ahead one (memory one words) (s .blocks) (p .head .place)) ≡ false
+  pub few : s .blocks ≤ 1024
+  pub fits : TextFits offset (length text)
+  pub inside : search s (span one offset (length text)) + span one offset (length text) ≤ s .blocks
 
-    pub begin-ahead : broken one (s .blocks) (ahead one (memory one words) (s .blocks) (p .head .place)) ≡ false
-    begin-ahead = begin-sound words s p offset text none
+module _ (words : List ℕ) (s : Shared) (p : Point) (offset : ℕ) (text : List ℕ) where
+  pub ready : beginRefusal one words s (p .head) (p .table) offset (length text) ≡ 0 → Ready words s p offset text
+  ready e =
+      let f = shared-facts words s (begin-shared words s p offset text e) in
+      record {
+        none = e;
+        sound = begin-sound words s p offset text e;
+        few = f .few-blocks;
+        fits = text-facts offset (length text) (begin-text words s p offset text e) (begin-end words s p offset text e);
+        inside = search-spec s (span one offset (length text)) (f .next-some) (nonzero _ (begin-found words s p offset text e)) .inImage;
+      }
 
-    pub begin-few : s .blocks ≤ 1024
-    begin-few = shared-facts words s (begin-shared words s p offset text none) .few-blocks
-
-    pub begin-fits : TextFits offset (length text)
-    begin-fits = text-facts offset (length text) (begin-text words s p offset text none) (begin-end words s p offset text none)
-
-    pub begin-run : search s (span one offset (length text)) + span one offset (length text) ≤ 1024
-    begin-run =
-        let f = shared-facts words s (begin-shared words s p offset text none) in
-        let g = search-spec s (span one offset (length text)) (f .next-some) (nonzero _ (begin-found words s p offset text none)) in
-        le-trans (g .inImage) (f .few-blocks)
-
-    pub begin-done :
-        (place : Place) (run n size : ℕ) (table bytes : List ℕ) (head : Head) (t : Shared)
-        → place ≡ placeAfter (ahead one (memory one words) (s .blocks) (p .head .place)) → run ≡ search s (span one offset (length text))
-        → record { table = table; size = size } ≡ replayOn one (fileAt (p .head) (p .table)) (ahead one (memory one words) (s .blocks) (p .head .place) .entries)
-        → bytes ≡ textOf text → head ≡ record { number = p .head .number; length = size; place = place; write = newWrite offset (length text) run }
-        → n ≡ span one offset (length text) → t ≡ taking s run n
-        → record { reply = Done; shared = t; point = record { head = head; table = table; text = bytes } } ≡ beginning one words s p offset text
-    unfolding beginning caughtUp
-    begin-done place run n size table bytes head t ep er ef eb eh en et =
-        let f : Mapped = record { table = table; size = size } in
-        rw (et, eh, eb, en, ep, er)
-        (ap (λ (m : Mapped). record { reply = Done; shared = taking s (search s (span one offset (length text))) (span one offset (length text)); point = record { head = record { number = p .head .number; length = m .size; place = placeAfter (ahead one (memory one words) (s .blocks) (p .head .place)); write = newWrite offset (length text) (search s (span one offset (length text))) }; table = m .table; text = textOf text } }) ef
-        ∙ sym (chosen-zero (beginRefusal one words s (p .head) (p .table) offset (length text)) _ _ none))
+  pub begin-done :
+      Ready words s p offset text → (place : Place) (run n size : ℕ) (table bytes : List ℕ) (head : Head) (t : Shared)
+      → place ≡ placeAfter (ahead one (memory one words) (s .blocks) (p .head .place)) → run ≡ search s (span one offset (length text))
+      → record { table = table; size = size } ≡ replayOn one (fileAt (p .head) (p .table)) (ahead one (memory one words) (s .blocks) (p .head .place) .entries)
+      → bytes ≡ textOf text → head ≡ record { number = p .head .number; length = size; place = place; write = newWrite offset (length text) run }
+      → n ≡ span one offset (length text) → t ≡ taking s run n
+      → record { reply = Done; shared = t; point = record { head = head; table = table; text = bytes } } ≡ beginning one words s p offset text
+  unfolding beginning caughtUp
+  begin-done r place run n size table bytes head t ep er ef eb eh en et =
+      rw (et, eh, eb, en, ep, er)
+      (ap begun ef ∙ sym (chosen-zero (beginRefusal one words s (p .head) (p .table) offset (length text)) _ _ (r .none)))
+    where
+      begun : Mapped → Begun
+      begun f =
+          record {
+            reply = Done;
+            shared = taking s (search s (span one offset (length text))) (span one offset (length text));
+            point =
+                record {
+                  head =
+                      record {
+                        number = p .head .number;
+                        length = f .size;
+                        place = placeAfter (ahead one (memory one words) (s .blocks) (p .head .place));
+                        write = newWrite offset (length text) (search s (span one offset (length text)));
+                      };
+                  table = f .table;
+                  text = textOf text;
+                };
+          }
