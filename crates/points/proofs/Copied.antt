@@ -83,6 +83,10 @@ module _ (f : ℕ → ℕ) (xs₀ : List ℕ) (at i n : ℕ) where
           left = now .left ∙ rw (a, b, c, e) (sets-more f xs (at + k) (i + k) m (n - (k + m)));
         }
 
+    -- the rest
+    pub copied-rest : (ys : List ℕ) (m : ℕ) → k + m ≡ n → ys ≡ sets xs (at + k) (listFrom (i + k) m f) → ys ≡ sets xs₀ at (listFrom i n f)
+    copied-rest ys m h e = let c : n - k ≡ m = omega arith in e ∙ sym (rw c at (now .left))
+
     pub copied-all : n ≤ k → xs ≡ sets xs₀ at (listFrom i n f)
     copied-all h = let c : n - k ≡ 0 = omega arith in sym (rw c at (now .left))
 
@@ -91,3 +95,8 @@ pub word-bytes : (part : List ℕ) (i : ℕ) → listFrom 0 8 (byteOf (getD part
 word-bytes part i =
     listFrom-same (byteOf (getD part i 0)) (byteIn part) 0 (8 * i) 8
     (λ k l. let q : (8 * i + k) / 8 ≡ i = omega arith in let r : (8 * i + k) % 8 ≡ k = omega arith in let z : 0 + k ≡ k = omega arith in rw (q, r, z))
+
+-- whole words from a byte on, where that is a word's first byte or there are none
+pub words-aligned : (f : ℕ → ℕ) (p w : ℕ) → (0 < w → p % 8 ≡ 0) → listFrom (8 * (p / 8)) (8 * w) f ≡ listFrom p (8 * w) f
+words-aligned f p zero h = refl
+words-aligned f p (suc w) h = let z : p % 8 ≡ 0 = h (omega arith) in let e : 8 * (p / 8) ≡ p = omega arith in rw e
