@@ -34,6 +34,15 @@ module _ (f : ℕ → ℕ) where
       let c : suc m + n ≡ suc (m + n) = omega arith in
       rw (a, b, c) (sets-more (set xs at (f i)) (suc at) (suc i) m n)
 
+  -- three copies, one behind the other, are one
+  pub sets-three :
+      (xs ys zs us : List ℕ) (at i h m r n : ℕ) → h + m + r ≡ n
+      → ys ≡ sets xs at (listFrom i h f) → zs ≡ sets ys (at + h) (listFrom (i + h) m f) → us ≡ sets zs (at + h + m) (listFrom (i + h + m) r f)
+      → us ≡ sets xs at (listFrom i n f)
+  sets-three xs ys zs us at i h m r n s a b c =
+      let t : h + (m + r) ≡ n = omega arith in
+      rw (c, b, a, ← t) (sym (sets-more xs at i h (m + r) ∙ sets-more (sets xs at (listFrom i h f)) (at + h) (i + h) m r))
+
   -- from the buffer's front
   pub sets-front : (xs : List ℕ) (i n : ℕ) → n ≤ length xs → sets xs 0 (listFrom i n f) ≡ listFrom i n f ++ drop n xs
   sets-front xs i n h =
@@ -82,10 +91,6 @@ module _ (f : ℕ → ℕ) (xs₀ : List ℕ) (at i n : ℕ) where
           same = ap length e ∙ length-sets xs (at + k) (listFrom (i + k) m f) ∙ now .same;
           left = now .left ∙ rw (a, b, c, e) (sets-more f xs (at + k) (i + k) m (n - (k + m)));
         }
-
-    -- the rest
-    pub copied-rest : (ys : List ℕ) (m : ℕ) → k + m ≡ n → ys ≡ sets xs (at + k) (listFrom (i + k) m f) → ys ≡ sets xs₀ at (listFrom i n f)
-    copied-rest ys m h e = let c : n - k ≡ m = omega arith in e ∙ sym (rw c at (now .left))
 
     pub copied-all : n ≤ k → xs ≡ sets xs₀ at (listFrom i n f)
     copied-all h = let c : n - k ≡ 0 = omega arith in sym (rw c at (now .left))

@@ -1,4 +1,10 @@
 -- `points::read::copy` meets its contract: its three copies follow each other. Assumes nothing.
+use Prim.Native.Nat.{ℕ, _+_, _*_, _-_, _/_, _%_, _≤_, _<_, min}
+use mathlib.Core.Path.{_≡_, refl, sym, ap, _∙_}
+use native.Mathlib.Omega.{arith}
+use lib.Seq.{sets}
+use Rattle.words.specs.Memory.{byteIn}
+use Rattle.points.proofs.Copied.{sets-three, words-aligned}
 use borrow.Author.Needs.{needs}
 use Rattle.points.proofs.read.copy.Statement.{statement}
 use Rattle.points.proofs.read.copy.Tie as tie
@@ -60,10 +66,15 @@ returns : tie.Need-returns
 returns c =
     let a = c .before .before .before .before .before .before .before .before .before .before .before .before .before .before .before .args in
     let head = c .before .before .before .before .before .before .before .before .before .before .before .before .least in
-    let first = c .before .before .before .before .before .before .before .before .copy-bytes in
-    let middle = c .before .before .before .before .before .copy-words in
-    let last = c .before .before .copy-bytes2 in
-    ?
+    let h = head .result in
+    let w = (a .n - h) / 8 in
+    let f = byteIn (a .part .now) in
+    let l : h ≡ min ((8 - a .from % 8) % 8) (a .n) = head .ensures in
+    let aligned = words-aligned f (a .from + h) w (omega arith) in
+    sets-three f (a .buffer .now) _ _ _ (a .at) (a .from) h (8 * w) (a .n - h - 8 * w) (a .n) (omega arith)
+    (c .before .before .before .before .before .before .before .before .before .before .copy-bytes .ensures)
+    (c .before .before .before .before .before .before .copy-words .ensures ∙ ap (sets _ (a .at + h)) aligned)
+    (c .before .before .copy-bytes2 .ensures)
 
 pub copy-spec : {M : Type 1} → statement M
 copy-spec =
