@@ -7,7 +7,7 @@ use mathlib.Core.List.{List, [], _∷_, _++_}
 use lib.ListN.{getD}
 use Rattle.words.specs.Edition.{one}
 use Rattle.words.specs.Logic.{Reason, first, _when_}
-use Rattle.words.specs.Memory.{Memory, memory, blockAt}
+use Rattle.words.specs.Memory.{memory}
 use Rattle.words.proofs.Tests.{no-reason, passes}
 use Rattle.log.specs.declared.Shared.{Shared}
 use Rattle.log.specs.declared.Seen.{Seen}
@@ -15,7 +15,7 @@ use Rattle.log.specs.CatchUp.{Walk, ahead, broken}
 use Rattle.log.specs.Look.{seenBy}
 use Rattle.points.specs.declared.Head.{Head}
 use Rattle.points.specs.Unfit.{unfit}
-use Rattle.points.specs.Sight.{sightRefusal, partOf}
+use Rattle.points.specs.Sight.{sightRefusal}
 use Rattle.points.proofs.Unfit.{shared-reasons, unfit-before, fit-goes-on, first-settled, first-goes-on}
 
 -- reasons that all fail leave it to those that come after
@@ -66,8 +66,3 @@ module _ (I : List ℕ) (s : Shared) (h : Head) (table : List ℕ) (past : Bool)
 
     pub sight-inside : past ≡ false
     sight-inside = sight-passed 3
-
--- an index that is not 0 names its block
-pub part-block : (m : Memory) (b : ℕ) → b ≢ 0 → partOf m b ≡ blockAt m b
-part-block m zero h = absurd (h refl)
-part-block m (suc b) h = refl

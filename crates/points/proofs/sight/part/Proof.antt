@@ -2,7 +2,7 @@
 use mathlib.Core.Path.{sym, _∙_}
 use Rattle.words.specs.Edition.{one}
 use Rattle.words.specs.Memory.{memory}
-use Rattle.points.proofs.Seeing.{part-block}
+use Rattle.points.proofs.FilePieces.{part-block}
 use borrow.Author.Needs.{needs}
 use Rattle.points.proofs.sight.part.Statement.{statement}
 use Rattle.points.proofs.sight.part.Tie as tie
