@@ -54,7 +54,7 @@ module _ (f : ℕ → ℕ) where
   pub sets-eight :
       (xs : List ℕ) (at : ℕ)
       → set (set (set (set (set (set (set (set xs at (f 0)) (at + 1) (f 1)) (at + 2) (f 2)) (at + 3) (f 3)) (at + 4) (f 4)) (at + 5) (f 5)) (at + 6) (f 6)) (at + 7) (f 7)
-        ≡ sets xs at (listFrom 0 8 f)
+      ≡ sets xs at (listFrom 0 8 f)
   sets-eight xs at =
       let a : at + 1 ≡ suc at = omega arith in
       let b : at + 2 ≡ suc (suc at) = omega arith in

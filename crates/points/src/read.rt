@@ -82,7 +82,13 @@ fn copy(part: &[u64], from: usize, buffer: &mut [u8], at: usize, n: usize)
     let middle = 8 * whole;
     copy_bytes(part, from, buffer, at, head);
     copy_words(part, (from + head) / 8, buffer, at + head, whole);
-    copy_bytes(part, from + head + middle, buffer, at + head + middle, n - head - middle);
+    copy_bytes(
+        part,
+        from + head + middle,
+        buffer,
+        at + head + middle,
+        n - head - middle,
+    );
 }
 
 // n bytes of a logical block go to the buffer from a place on; zeros where the index is 0 or names no block.
@@ -124,7 +130,13 @@ fn left(size: u32, offset: usize, room: usize) -> usize
 }
 
 // Reading: the file's bytes from an offset on fill the buffer, as far as both go; the count is answered, and no further byte is touched.
-pub fn read(image: &[u64], shared: Shared, mut point: Point, offset: usize, buffer: &mut [u8]) -> Count
+pub fn read(
+    image: &[u64],
+    shared: Shared,
+    mut point: Point,
+    offset: usize,
+    buffer: &mut [u8],
+) -> Count
     ensures { λ r. ⌜ (r ≡ reading one (now (image .entry)) shared (point .head) (point .table) offset (length (now (buffer .entry)))) × (now (buffer .exit) ≡ bufferAfter one (now (image .entry)) shared (point .head) (point .table) offset (now (buffer .entry))) ⌝ }
 {
     let head = point.head;

@@ -19,10 +19,7 @@ pub struct Sight {
 fn unseen(reason: u32) -> Sight
     ensures { λ r. ⌜ r .reason ≡ reason ⌝ }
 {
-    Sight {
-        reason,
-        size: 0,
-    }
+    Sight { reason, size: 0 }
 }
 
 // The first of 10, 11, 14, 17 where the block asked for lies past the file, and 18; where there is none, the table is caught up, and the length answered.
@@ -43,10 +40,7 @@ pub fn see(image: &[u64], shared: Shared, head: Head, table: &mut [u16; 256], pa
         return unseen(log::LOG_BROKEN);
     }
     let size = log::ahead::catch_up(image, blocks, place, table, head.length);
-    Sight {
-        reason: 0,
-        size,
-    }
+    Sight { reason: 0, size }
 }
 
 // The logical block of a virtual one; 0 where nothing is mapped, and past the table.

@@ -5,12 +5,6 @@ use Rattle.points.proofs.ReadAnswers.{locate-early, locate-inside, loca
 use borrow.Author.Needs.{needs}
 use Rattle.points.proofs.locate.find.Statement.{statement}
 use Rattle.points.proofs.locate.find.Tie as tie
-use Rattle.points.proofs.locate.find.Reads as reads
-use Rattle.points.proofs.locate.find.Lts as lts
-use Rattle.points.proofs.locate.wide.Reads as wide-reads
-use Rattle.points.proofs.sight.counted.Reads as counted-reads
-use Rattle.points.proofs.sight.refused.Reads as refused-reads
-use Rattle.points.proofs.sight.see.Reads as see-reads
 
 see-requires : tie.Need-see-requires
 see-requires c κs = search needs

@@ -9,10 +9,6 @@ use Rattle.points.proofs.ReadAnswers.{view-part}
 use borrow.Author.Needs.{needs}
 use Rattle.points.proofs.locate.view.Statement.{statement}
 use Rattle.points.proofs.locate.view.Tie as tie
-use Rattle.points.proofs.locate.view.Reads as reads
-use Rattle.points.proofs.locate.view.Lts as lts
-use Rattle.points.proofs.locate.find.Reads as find-reads
-use Rattle.points.proofs.sight.part.Reads as part-reads
 
 find-requires : tie.Need-find-requires
 find-requires c κs = search needs

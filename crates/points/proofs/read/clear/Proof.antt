@@ -10,8 +10,6 @@ use Rattle.words.specs.Memory.{byteIn}
 use Rattle.points.proofs.Copied.{Copied, copied-none, copied-more, copied-all, word-bytes}
 use Rattle.points.proofs.read.clear.Statement.{statement}
 use Rattle.points.proofs.read.clear.Tie as tie
-use Rattle.points.proofs.read.clear.Reads as reads
-use Rattle.points.proofs.read.clear.Lts as lts
 
 abbrev Inv-loop : tie.InvT-loop
 Inv-loop buffer₀ at n k₀ buffer k = Copied (λ _. 0) buffer₀ at 0 n buffer k

@@ -8,11 +8,6 @@ use Rattle.points.proofs.Copied.{sets-three, words-aligned}
 use borrow.Author.Needs.{needs}
 use Rattle.points.proofs.read.copy.Statement.{statement}
 use Rattle.points.proofs.read.copy.Tie as tie
-use Rattle.points.proofs.read.copy.Reads as reads
-use Rattle.points.proofs.read.copy.Lts as lts
-use Rattle.points.proofs.read.copy_bytes.Reads as copy-bytes-reads
-use Rattle.points.proofs.read.copy_words.Reads as copy-words-reads
-use Rattle.points.proofs.read.least.Reads as least-reads
 
 sub-least : tie.Need-sub-least
 sub-least c = search needs

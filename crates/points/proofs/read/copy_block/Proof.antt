@@ -8,11 +8,6 @@ use Rattle.points.proofs.FilePieces.{part-bytes, hole-bytes, part-whole
 use borrow.Author.Needs.{needs}
 use Rattle.points.proofs.read.copy_block.Statement.{statement}
 use Rattle.points.proofs.read.copy_block.Tie as tie
-use Rattle.points.proofs.read.copy_block.Reads as reads
-use Rattle.points.proofs.read.copy_block.Lts as lts
-use Rattle.points.proofs.read.clear.Reads as clear-reads
-use Rattle.points.proofs.read.copy.Reads as copy-reads
-use Rattle.points.proofs.sight.part.Reads as part-reads
 
 part-requires : tie.Need-part-requires
 part-requires c κs = search needs

@@ -10,9 +10,6 @@ use Rattle.words.specs.Memory.{byteIn}
 use Rattle.points.proofs.Copied.{Copied, copied-none, copied-more, copied-all, word-bytes}
 use Rattle.points.proofs.read.copy_bytes.Statement.{statement}
 use Rattle.points.proofs.read.copy_bytes.Tie as tie
-use Rattle.points.proofs.read.copy_bytes.Reads as reads
-use Rattle.points.proofs.read.copy_bytes.Lts as lts
-use Rattle.points.proofs.read.byte.Reads as byte-reads
 
 abbrev Inv-loop : tie.InvT-loop
 Inv-loop part from buffer₀ at n k₀ buffer k = Copied (byteIn part) buffer₀ at from n buffer k

@@ -10,9 +10,6 @@ use Rattle.words.specs.Memory.{byteIn}
 use Rattle.points.proofs.Copied.{Copied, copied-none, copied-more, copied-all, word-bytes}
 use Rattle.points.proofs.read.copy_words.Statement.{statement}
 use Rattle.points.proofs.read.copy_words.Tie as tie
-use Rattle.points.proofs.read.copy_words.Reads as reads
-use Rattle.points.proofs.read.copy_words.Lts as lts
-use Rattle.points.proofs.read.put_word.Reads as put-word-reads
 
 abbrev Inv-loop : tie.InvT-loop
 Inv-loop part from buffer₀ at n k₀ buffer k = Copied (byteIn part) buffer₀ at (8 * from) (8 * n) buffer (8 * k)

@@ -11,11 +11,6 @@ use Rattle.points.proofs.Copied.{Copied, copied-none, copied-more, copi
 use Rattle.points.proofs.FilePieces.{file-piece}
 use Rattle.points.proofs.read.fill.Statement.{statement}
 use Rattle.points.proofs.read.fill.Tie as tie
-use Rattle.points.proofs.read.fill.Reads as reads
-use Rattle.points.proofs.read.fill.Lts as lts
-use Rattle.points.proofs.read.copy_block.Reads as copy-block-reads
-use Rattle.points.proofs.read.least.Reads as least-reads
-use Rattle.points.proofs.sight.mapped.Reads as mapped-reads
 
 abbrev byteFrom : List ℕ → List ℕ → ℕ → ℕ
 byteFrom image table = fileByte one (memory one image) (record { table = table; size = 0 })

@@ -6,9 +6,6 @@ use Rattle.points.proofs.Copied.{sets-eight}
 use borrow.Author.Needs.{needs}
 use Rattle.points.proofs.read.put_word.Statement.{statement}
 use Rattle.points.proofs.read.put_word.Tie as tie
-use Rattle.points.proofs.read.put_word.Reads as reads
-use Rattle.points.proofs.read.put_word.Lts as lts
-use Rattle.points.proofs.read.byte.Reads as byte-reads
 
 byte-requires : tie.Need-byte-requires
 byte-requires c κs = search needs

@@ -4,13 +4,6 @@ use Rattle.points.proofs.ReadAnswers.{read-refused, read-untouched, rea
 use borrow.Author.Needs.{needs}
 use Rattle.points.proofs.read.read.Statement.{statement}
 use Rattle.points.proofs.read.read.Tie as tie
-use Rattle.points.proofs.read.read.Reads as reads
-use Rattle.points.proofs.read.read.Lts as lts
-use Rattle.points.proofs.read.fill.Reads as fill-reads
-use Rattle.points.proofs.read.left.Reads as left-reads
-use Rattle.points.proofs.sight.counted.Reads as counted-reads
-use Rattle.points.proofs.sight.refused.Reads as refused-reads
-use Rattle.points.proofs.sight.see.Reads as see-reads
 
 see-requires : tie.Need-see-requires
 see-requires c κs = search needs
@@ -45,9 +38,10 @@ returns-2 c =
     let a = c .before .before .before .before .before .before .before .before .before .before .before .before .before .before .before .before .args in
     let see = c .before .before .before .before .before .before .before .before .before .before .before .see in
     let z = c .before .before .before .before .before .before .before .before .before .if1 .left in
-    let n = c .before .before .before .before .before .before .before .before .left in
-    (c .counted .ensures ∙ read-done (a .image .now) (a .shared) (a .t3 .head) (a .t3 .table) (a .offset) (a .buffer .now) _ (see .ensures .0) z _ (see .ensures .1 z) _ (n .ensures),
-    read-filled (a .image .now) (a .shared) (a .t3 .head) (a .t3 .table) (a .offset) (a .buffer .now) _ (see .ensures .0) z _ (see .ensures .1 z) _ (n .ensures) _ (c .before .before .before .fill .ensures))
+    let n = c .before .before .before .before .before .before .before .before .left in (
+      c .counted .ensures ∙ read-done (a .image .now) (a .shared) (a .t3 .head) (a .t3 .table) (a .offset) (a .buffer .now) _ (see .ensures .0) z _ (see .ensures .1 z) _ (n .ensures),
+      read-filled (a .image .now) (a .shared) (a .t3 .head) (a .t3 .table) (a .offset) (a .buffer .now) _ (see .ensures .0) z _ (see .ensures .1 z) _ (n .ensures) _ (c .before .before .before .fill .ensures),
+    )
 
 pub read-spec : {M : Type 1} → statement M
 read-spec =

@@ -5,8 +5,6 @@ use lib.ListN.{List·getD-eq-default}
 use borrow.Author.Needs.{needs}
 use Rattle.points.proofs.sight.mapped.Statement.{statement}
 use Rattle.points.proofs.sight.mapped.Tie as tie
-use Rattle.points.proofs.sight.mapped.Reads as reads
-use Rattle.points.proofs.sight.mapped.Lts as lts
 
 mul-result : tie.Need-mul-result
 mul-result c = search needs

@@ -6,9 +6,6 @@ use Rattle.points.proofs.FilePieces.{part-block}
 use borrow.Author.Needs.{needs}
 use Rattle.points.proofs.sight.part.Statement.{statement}
 use Rattle.points.proofs.sight.part.Tie as tie
-use Rattle.points.proofs.sight.part.Reads as reads
-use Rattle.points.proofs.sight.part.Lts as lts
-use Rattle.words.proofs.image.block.Reads as block-reads
 
 sub-result : tie.Need-sub-result
 sub-result c = search needs

@@ -11,12 +11,6 @@ use Rattle.points.proofs.Seeing.{unseen-so, look-broken, sight-unfit, s
 use borrow.Author.Needs.{needs}
 use Rattle.points.proofs.sight.see.Statement.{statement}
 use Rattle.points.proofs.sight.see.Tie as tie
-use Rattle.points.proofs.sight.see.Reads as reads
-use Rattle.points.proofs.sight.see.Lts as lts
-use Rattle.log.proofs.ahead.catch_up.Reads as catch-up-reads
-use Rattle.log.proofs.ahead.look.Reads as look-reads
-use Rattle.points.proofs.record.unfit.Reads as unfit-reads
-use Rattle.points.proofs.sight.unseen.Reads as unseen-reads
 
 unfit-requires : tie.Need-unfit-requires
 unfit-requires c κs = search needs
