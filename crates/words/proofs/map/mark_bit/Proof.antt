@@ -26,7 +26,8 @@ same-length : tie.Need-same-length
 same-length c = search needs
 
 returns : tie.Need-returns
-returns c = let a = c .before .before .before .before .args in mark-at (a .on) (a .map .now) (a .k) (a .j) (c .with-bit .result) (c .before .before .before .before .pre) (c .with-bit .ensures)
+returns c = let a = c .before .before .before .before .args in
+    mark-at (a .on) (a .map .now) (a .k) (a .j) (c .with-bit .result) (c .before .before .before .before .pre) (c .with-bit .ensures)
 
 returns-2 : tie.Need-returns-2
 returns-2 c = let a = c .before .before .args in sym (mark-past (a .on) (a .map .now) (64 * a .k + a .j) (omega arith))

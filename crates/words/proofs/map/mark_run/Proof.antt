@@ -17,7 +17,9 @@ abbrev μ-loop : tie.MeasureT-loop
 μ-loop map₀ b n on k₀ j₀ left₀ map k j left = left
 
 loop-holds : tie.Need-loop-holds Inv-loop μ-loop
-loop-holds c = let a = c .before .args in let e : a .b ≡ 64 * (a .b / 64) + a .b % 64 = omega arith in (omega arith, refl, ap (λ (x : ℕ). markRun (a .on) (a .map .now) x (a .n)) e)
+loop-holds c = let a = c .before .args in
+    let e : a .b ≡ 64 * (a .b / 64) + a .b % 64 = omega arith in
+    (omega arith, refl, ap (λ (x : ℕ). markRun (a .on) (a .map .now) x (a .n)) e)
 
 mark-bit-requires : tie.Need-mark-bit-requires Inv-loop μ-loop
 mark-bit-requires c κs = omega arith
@@ -48,13 +50,17 @@ same-length : tie.Need-same-length Inv-loop μ-loop
 same-length c = c .before .before .loop .inv .1
 
 returns : tie.Need-returns Inv-loop μ-loop
-returns c = let a = c .before .before .before .before .args in let l = c .before .before .loop in sym (l .inv .2 ∙ markRun-past (a .on) (l .map) (64 * l .k + l .j) (l .left) (omega (arith, ltb-false)))
+returns c = let a = c .before .before .before .before .args in
+    let l = c .before .before .loop in
+    sym (l .inv .2 ∙ markRun-past (a .on) (l .map) (64 * l .k + l .j) (l .left) (omega (arith, ltb-false)))
 
 same-length-2 : tie.Need-same-length-2 Inv-loop μ-loop
 same-length-2 c = c .before .loop .inv .1
 
 returns-2 : tie.Need-returns-2 Inv-loop μ-loop
-returns-2 c = let a = c .before .before .before .args in let l = c .before .loop in sym (l .inv .2 ∙ markRun-none (a .on) (l .map) (64 * l .k + l .j) (l .left) (c .loop-test .left))
+returns-2 c = let a = c .before .before .before .args in
+    let l = c .before .loop in
+    sym (l .inv .2 ∙ markRun-none (a .on) (l .map) (64 * l .k + l .j) (l .left) (c .loop-test .left))
 
 pub mark-run-spec : {M : Type 1} → statement M
 mark-run-spec =
