@@ -1,0 +1,140 @@
+-- The shared tests as the code makes them, from the first on, are the definitions' lists of tests. Assumes nothing.
+use Prim.Native.Nat.{ℕ, zero, suc, _+_, _*_, _-_, _/_, _%_, _^_, _≤_, _<_}
+use native.Mathlib.Omega.{arith}
+use native.Mathlib.Numerals.{add-one}
+use mathlib.Core.Path.{_≡_, refl, sym, _∙_, ap}
+use mathlib.Core.Bool.{Bool, true, false, _&&_, _||_, not, and-true, and-assoc, or-false, or-assoc}
+use mathlib.Core.List.{List, [], _∷_}
+use lib.ListN.{length, getD, drop}
+use lib.Seq.{drop-cons, drop-length}
+use lib.Dec.{leb, ltb, eqb}
+use lib.Pow.{shr-lt, pow-mono}
+use native.Mathlib.Nat.{lt-of-lt-of-le, zero-add}
+use borrow.Author.Tests.{lt-ltb, ltb-true}
+use Rattle.words.specs.Edition.{one}
+use Rattle.words.specs.Logic.{every, any, all-of, between}
+use Rattle.words.proofs.Choice.{choose-true, choose-false}
+use Rattle.words.proofs.Logic.{agree}
+use Rattle.words.specs.Word.{bit}
+use Rattle.log.specs.declared.Place.{Place}
+use Rattle.log.specs.declared.Shared.{Shared}
+use Rattle.points.specs.declared.Write.{Write}
+use Rattle.points.specs.declared.Head.{Head}
+use Rattle.points.specs.Record.{isIdle, isZeroing, span, badShared, badText, pastEnd, inside, placeFits, zeroingFits, writeFits, headFits, tableFits, fits}
+
+-- ---- several tests, made from the first on
+
+abbrev pub ands : Bool → List Bool → Bool
+ands a [] = a
+ands a (b ∷ bs) = ands (a && b) bs
+
+pub ands-every : (a : Bool) (bs : List Bool) → ands a bs ≡ every (a ∷ bs)
+unfolding every
+ands-every a [] = sym (and-true a)
+ands-every a (b ∷ bs) = ands-every (a && b) bs ∙ and-assoc a b (every bs)
+
+abbrev pub ors : Bool → List Bool → Bool
+ors a [] = a
+ors a (b ∷ bs) = ors (a || b) bs
+
+pub ors-any : (a : Bool) (bs : List Bool) → ors a bs ≡ any (a ∷ bs)
+unfolding any
+ors-any a [] = sym (or-false a)
+ors-any a (b ∷ bs) = ors-any (a || b) bs ∙ or-assoc a b (any bs)
+
+-- ---- the shared record
+
+pub shared-tests :
+    (words : List ℕ) (s : Shared)
+    → (not (between 4 (s .blocks) 1024) || not (eqb (64 * s .blocks) (length words))) || not (leb 1 (s .next) && ltb (s .next) (s .blocks)) ≡ badShared one words s
+unfolding badShared
+shared-tests words s = ors-any (not (between 4 (s .blocks) 1024)) (not (eqb (64 * s .blocks) (length words)) ∷ not (leb 1 (s .next) && ltb (s .next) (s .blocks)) ∷ [])
+
+-- ---- the head
+
+module _ (blocks : ℕ) (p : Place) where
+  pub place-tests : (inside blocks (p .block) 1 && between 2 (p .slot) 64) && between 1 (p .passed) 64 ≡ placeFits one blocks p
+  unfolding placeFits
+  place-tests = ands-every (inside blocks (p .block) 1) (between 2 (p .slot) 64 ∷ between 1 (p .passed) 64 ∷ [])
+
+  module _ (w : Write) where
+    pub zeroing-tests : ((inside blocks (w .zeroing) 1 && leb (w .position) 64) && eqb (p .slot) 64) && ltb (p .passed) 64 ≡ zeroingFits one blocks p w
+    unfolding zeroingFits
+    zeroing-tests = ands-every (inside blocks (w .zeroing) 1) (leb (w .position) 64 ∷ eqb (p .slot) 64 ∷ ltb (p .passed) 64 ∷ [])
+
+    abbrev pub runTests : Bool
+    runTests = (not (badText (w .size)) && not (pastEnd one (w .offset) (w .size))) && inside blocks (w .run) (span one (w .offset) (w .size))
+
+    abbrev pub positionTest : Bool
+    positionTest = elim (isZeroing (w .phase)) [ true ↦ zeroingFits one blocks p w | false ↦ leb (w .position) (span one (w .offset) (w .size) * 64) ]
+
+    write-tests : runTests && positionTest ≡ writeFits one blocks p w
+    unfolding writeFits
+    write-tests = ands-every (not (badText (w .size))) (not (pastEnd one (w .offset) (w .size)) ∷ inside blocks (w .run) (span one (w .offset) (w .size)) ∷ positionTest ∷ [])
+
+    pub write-zeroing : isZeroing (w .phase) ≡ true → runTests && zeroingFits one blocks p w ≡ writeFits one blocks p w
+    write-zeroing e = ap (λ (t : Bool). runTests && t) (sym (choose-true (isZeroing (w .phase)) (zeroingFits one blocks p w) (leb (w .position) (span one (w .offset) (w .size) * 64)) e)) ∙ write-tests
+
+    pub write-filling : isZeroing (w .phase) ≡ false → runTests && leb (w .position) (64 * span one (w .offset) (w .size)) ≡ writeFits one blocks p w
+    write-filling e =
+        let q : 64 * span one (w .offset) (w .size) ≡ span one (w .offset) (w .size) * 64 = omega arith in
+        ap (λ (k : ℕ). runTests && leb (w .position) k) q
+        ∙ ap (λ (t : Bool). runTests && t) (sym (choose-false (isZeroing (w .phase)) (zeroingFits one blocks p w) (leb (w .position) (span one (w .offset) (w .size) * 64)) e))
+        ∙ write-tests
+
+module _ (blocks : ℕ) (h : Head) where
+  abbrev writeTest : Bool
+  writeTest = elim (isIdle (h .write .phase)) [ true ↦ true | false ↦ writeFits one blocks (h .place) (h .write) ]
+
+  head-tests : (placeFits one blocks (h .place) && leb (h .length) 131072) && writeTest ≡ headFits one blocks h
+  unfolding headFits
+  head-tests = ands-every (placeFits one blocks (h .place)) (leb (h .length) 131072 ∷ writeTest ∷ [])
+
+  pub head-idle : isIdle (h .write .phase) ≡ true → placeFits one blocks (h .place) && leb (h .length) 131072 ≡ headFits one blocks h
+  head-idle e =
+      sym (and-true _)
+      ∙ ap (λ (t : Bool). (placeFits one blocks (h .place) && leb (h .length) 131072) && t) (sym (choose-true (isIdle (h .write .phase)) true (writeFits one blocks (h .place) (h .write)) e))
+      ∙ head-tests
+
+  pub head-busy :
+      isIdle (h .write .phase) ≡ false → (placeFits one blocks (h .place) && leb (h .length) 131072) && writeFits one blocks (h .place) (h .write) ≡ headFits one blocks h
+  head-busy e =
+      ap (λ (t : Bool). (placeFits one blocks (h .place) && leb (h .length) 131072) && t) (sym (choose-false (isIdle (h .write .phase)) true (writeFits one blocks (h .place) (h .write)) e))
+      ∙ head-tests
+
+-- ---- the table, from an index on
+
+module _ (blocks : ℕ) (table : List ℕ) where
+  pub table-next :
+      (i : ℕ) (ok : Bool) → i < length table → ok && tableFits blocks (drop i table) ≡ (ok && ltb (getD table i 0) blocks) && tableFits blocks (drop (i + 1) table)
+  unfolding tableFits
+  table-next i ok h = rw (add-one, drop-cons table i 0) (sym (and-assoc ok (ltb (getD table i 0) blocks) (all-of (λ b. ltb b blocks) (drop (suc i) table))))
+
+  pub table-end : (ok : Bool) → ok && tableFits blocks (drop (length table) table) ≡ ok
+  unfolding tableFits
+  table-end ok = rw drop-length (and-true ok)
+
+  pub table-fits : (head : Bool) → head && tableFits blocks table ≡ every (head ∷ tableFits blocks table ∷ [])
+  table-fits head = ands-every head (tableFits blocks table ∷ [])
+
+pub table-all : (blocks : ℕ) (table : List ℕ) → ((i : ℕ) → i < length table → getD table i 0 < blocks) → tableFits blocks table ≡ true
+unfolding tableFits
+table-all blocks [] h = refl
+table-all blocks (x ∷ xs) h = rw (lt-ltb x blocks (h 0 (omega arith))) (table-all blocks xs (λ i l. h (suc i) (omega arith)))
+
+-- ---- the end of the file, and bits past a number's width
+
+pub end-past : (offset size : ℕ) → 131072 < size → pastEnd one offset size ≡ true
+end-past offset size h = lt-ltb 131072 (offset + size) (omega arith)
+
+pub end-left : (offset size : ℕ) → size ≤ 131072 → ltb (131072 - size) offset ≡ pastEnd one offset size
+end-left offset size h =
+    agree (ltb (131072 - size) offset) (pastEnd one offset size)
+    (λ e. let l = ltb-true (131072 - size) offset e in lt-ltb 131072 (offset + size) (omega arith))
+    (λ e. let l = ltb-true 131072 (offset + size) e in lt-ltb (131072 - size) offset (omega arith))
+
+pub no-bit : (n w j : ℕ) → w < 2 ^ n → n ≤ j → bit w j ≡ false
+no-bit n w j l h =
+    let z : w / 2 ^ j < 2 ^ 0 = shr-lt 0 j (lt-of-lt-of-le l (rw (zero-add j) (pow-mono h))) in
+    let e : w / 2 ^ j ≡ 0 = omega arith in
+    rw e

@@ -1,0 +1,144 @@
+-- What reading, locating and viewing answer: one law for each exit of the code. Assumes nothing.
+use Prim.Native.Nat.{ℕ, zero, suc, _+_, _-_, _<_, min}
+use native.Mathlib.Omega.{arith}
+use mathlib.Core.Path.{_≡_, refl, sym, ap, _∙_}
+use mathlib.Core.Logic.{_≢_}
+use mathlib.Core.Bool.{Bool, true, false}
+use mathlib.Core.List.{List, [], _∷_, _++_}
+use lib.ListN.{length, getD, drop}
+use lib.Seq.{sets}
+use lib.Dec.{leb}
+use borrow.Author.Tests.{leb-false}
+use Rattle.words.specs.Edition.{one}
+use Rattle.words.specs.Logic.{Reason, isZero, listFrom, first, _when_}
+use Rattle.words.specs.Memory.{Memory, memory, blockAt}
+use Rattle.words.proofs.Tests.{is-zero, not-zero, nonzero, passes}
+use Rattle.log.specs.declared.Shared.{Shared}
+use Rattle.log.specs.declared.Reply.the-variants.{Done, Refused}
+use Rattle.log.specs.Replay.{Mapped, fileByte}
+use Rattle.log.specs.Opening.{replyOf}
+use Rattle.points.specs.declared.Head.{Head}
+use Rattle.points.specs.declared.Count.{Count}
+use Rattle.points.specs.Reading.{seen, readRefusal, readCount, reading, bufferAfter, locateRefusal, located, locating, viewed}
+use Rattle.points.specs.Sight.{sightRefusal, partOf}
+use Rattle.points.proofs.Copied.{listFrom-same, sets-front}
+use Rattle.points.proofs.FilePieces.{part-block}
+use Rattle.points.proofs.Seeing.{sight-reasons, sight-passed, sight-inside, failed-before}
+use Rattle.points.proofs.Unfit.{first-settled, first-goes-on, settled-before}
+
+-- ---- an answer by its refusal's number
+
+abbrev answer : ℕ → ℕ → Count
+answer r n = record { reply = replyOf r; count = elim r [ zero ↦ n | suc k ↦ 0 ] }
+
+answer-refused : (r n k : ℕ) → k ≡ r → k ≢ 0 → record { reply = Refused k; count = 0 } ≡ answer r n
+answer-refused zero n k e ne = absurd (ne e)
+answer-refused (suc r) n k e ne = rw e
+
+answer-done : (r n k : ℕ) → r ≡ 0 → k ≡ n → record { reply = Done; count = k } ≡ answer r n
+answer-done zero n k e f = rw f
+answer-done (suc r) n k e f = absurd (omega arith)
+
+-- the part of an answer that is 0 exactly where it is refused
+view-answer : (m : Memory) (r n b : ℕ) → b ≡ answer r n .count → (r ≡ 0 → n ≢ 0) → partOf m b ≡ (elim r [ zero ↦ blockAt m b | suc k ↦ [] ])
+view-answer m zero n b e ne = part-block m b (λ z. ne refl (sym e ∙ z))
+view-answer m (suc r) n b e ne = ap (partOf m) e
+
+module _ (I : List ℕ) (s : Shared) (h : Head) (table : List ℕ) where
+  abbrev file : Mapped
+  file = seen one I s h table
+
+  -- ---- reading: it has no reason of its own
+
+  read-sight : readRefusal one I s h table ≡ sightRefusal one I s h table false
+  unfolding readRefusal sightRefusal
+  read-sight = refl
+
+  module _ (offset : ℕ) (buffer : List ℕ) where
+    module _ (k : ℕ) (e : k ≡ sightRefusal one I s h table false) (ne : k ≢ 0) where
+      pub read-refused : record { reply = Refused k; count = 0 } ≡ reading one I s h table offset (length buffer)
+      unfolding reading readCount
+      read-refused = answer-refused (readRefusal one I s h table) (min (length buffer) (file .size - offset)) k (e ∙ sym read-sight) ne
+
+      no-bytes : readCount one I s h table offset (length buffer) ≡ 0
+      unfolding reading
+      no-bytes = ap (λ (c : Count). c .count) (sym read-refused)
+
+      pub read-untouched : buffer ≡ bufferAfter one I s h table offset buffer
+      unfolding bufferAfter
+      read-untouched = rw no-bytes
+
+    module _ (k : ℕ) (e : k ≡ sightRefusal one I s h table false) (z : k ≡ 0) (f : Mapped) (is : f ≡ file) (n : ℕ) (l : n ≡ min (length buffer) (f .size - offset)) where
+      pub read-done : record { reply = Done; count = n } ≡ reading one I s h table offset (length buffer)
+      unfolding reading readCount
+      read-done =
+          answer-done (readRefusal one I s h table) (min (length buffer) (file .size - offset)) n (read-sight ∙ sym e ∙ z)
+          (l ∙ ap (λ (g : Mapped). min (length buffer) (g .size - offset)) is)
+
+      some-bytes : n ≡ readCount one I s h table offset (length buffer)
+      unfolding reading
+      some-bytes = ap (λ (c : Count). c .count) read-done
+
+      pub read-filled :
+          (out : List ℕ) → out ≡ sets buffer 0 (listFrom offset n (fileByte one (memory one I) (record { table = f .table; size = 0 }))) → out ≡ bufferAfter one I s h table offset buffer
+      unfolding bufferAfter fileByte
+      read-filled out o =
+          let g : ℕ → ℕ = fileByte one (memory one I) (record { table = f .table; size = 0 }) in
+          let same : listFrom offset n g ≡ listFrom offset n (fileByte one (memory one I) file) = listFrom-same g (fileByte one (memory one I) file) offset offset n (λ i _. rw is) in
+          rw (← some-bytes, o) (sets-front g buffer offset n (omega arith) ∙ ap (λ (bytes : List ℕ). bytes ++ drop n buffer) same)
+
+  -- ---- locating: 22 is its own
+
+  module _ (v : ℕ) where
+    abbrev past : Bool
+    past = leb 256 v
+
+    abbrev unmapped : List Reason
+    unmapped = 22 when isZero (getD (file .table) v 0) ∷ []
+
+    locate-settled : (k : ℕ) → k ≡ sightRefusal one I s h table past → k ≢ 0 → k ≡ locateRefusal one I s h table v
+    unfolding sightRefusal locateRefusal
+    locate-settled zero e ne = absurd (ne refl)
+    locate-settled (suc k) e ne = sym (settled-before (sight-reasons I s h table past) unmapped k (sym e))
+
+    pub locate-early : (k : ℕ) → k ≡ sightRefusal one I s h table past → k ≢ 0 → record { reply = Refused k; count = 0 } ≡ locating one I s h table v
+    unfolding locating located
+    locate-early k e ne = answer-refused (locateRefusal one I s h table v) (getD (file .table) v 0) k (locate-settled k e ne) ne
+
+    module _ (k : ℕ) (e : k ≡ sightRefusal one I s h table past) (z : k ≡ 0) where
+      pub locate-inside : v < 256
+      locate-inside = leb-false 256 v (sight-inside I s h table past (sym e ∙ z))
+
+      locate-late : locateRefusal one I s h table v ≡ first unmapped
+      unfolding locateRefusal
+      locate-late = failed-before (sight-reasons I s h table past) unmapped (sight-passed I s h table past (sym e ∙ z))
+
+      module _ (f : Mapped) (is : f ≡ file) (b : ℕ) (at : b ≡ getD (f .table) v 0) where
+        index-is : b ≡ getD (file .table) v 0
+        index-is = at ∙ ap (λ (g : Mapped). getD (g .table) v 0) is
+
+        pub locate-unmapped : b ≡ 0 → record { reply = Refused 22; count = 0 } ≡ locating one I s h table v
+        unfolding locating located
+        locate-unmapped n =
+            answer-refused (locateRefusal one I s h table v) (getD (file .table) v 0) 22
+            (sym (locate-late ∙ first-settled 22 (isZero (getD (file .table) v 0)) [] (is-zero (getD (file .table) v 0) (sym index-is ∙ n)))) (omega arith)
+
+        pub locate-found : b ≢ 0 → record { reply = Done; count = b } ≡ locating one I s h table v
+        unfolding locating located
+        locate-found n =
+            answer-done (locateRefusal one I s h table v) (getD (file .table) v 0) b
+            (locate-late ∙ first-goes-on 22 (isZero (getD (file .table) v 0)) [] (not-zero (getD (file .table) v 0) (λ m. n (index-is ∙ m)))) index-is
+
+    -- ---- viewing: the located block, which is 0 exactly when locating refuses
+
+    locate-some : locateRefusal one I s h table v ≡ 0 → getD (file .table) v 0 ≢ 0
+    unfolding locateRefusal
+    locate-some r = nonzero (getD (file .table) v 0) (passes (sight-reasons I s h table past ++ unmapped) refl r 5)
+
+    located-is : located one I s h table v ≡ answer (locateRefusal one I s h table v) (getD (file .table) v 0) .count
+    unfolding located
+    located-is = refl
+
+    pub view-part : partOf (memory one I) (located one I s h table v) ≡ viewed one I s h table v
+    unfolding viewed
+    view-part = view-answer (memory one I) (locateRefusal one I s h table v) (getD (file .table) v 0) (located one I s h table v) located-is locate-some

@@ -1,0 +1,62 @@
+-- The reasons that calls with a record share: a call's list of reasons goes on where 10, 11 and 14 fail, and is settled where one holds.
+-- Assumes nothing.
+use Prim.Native.Nat.{ℕ, zero, suc, _-_}
+use native.Mathlib.Omega.{arith}
+use mathlib.Core.Path.{_≡_, refl, sym, _∙_}
+use mathlib.Core.Bool.{Bool, true, false, not}
+use mathlib.Core.List.{List, [], _∷_, _++_}
+use lib.ListN.{getD}
+use borrow.Author.Tests.{not-false}
+use Rattle.words.specs.Edition.{one}
+use Rattle.words.specs.Logic.{Reason, first, _when_}
+use Rattle.words.proofs.Choice.{choose-true, choose-false}
+use Rattle.words.proofs.Tests.{no-reason, passes}
+use Rattle.log.specs.declared.Shared.{Shared}
+use Rattle.points.specs.declared.Head.{Head}
+use Rattle.points.specs.Record.{badShared, fits, isJoined}
+use Rattle.points.specs.Unfit.{unfit}
+
+-- ---- any list of reasons
+
+-- a reason that holds; reasons that come after
+pub first-settled : (n : ℕ) (b : Bool) (rs : List Reason) → b ≡ true → first (n when b ∷ rs) ≡ n
+first-settled n b rs e = choose-true b n (first rs) e
+
+pub first-goes-on : (n : ℕ) (b : Bool) (rs : List Reason) → b ≡ false → first (n when b ∷ rs) ≡ first rs
+first-goes-on n b rs e = choose-false b n (first rs) e
+
+-- reasons of which one holds stay so, whatever comes after
+pub settled-before : (rs more : List Reason) (k : ℕ) → first rs ≡ suc k → first (rs ++ more) ≡ suc k
+settled-before [] more k e = absurd (omega arith)
+settled-before (r ∷ rs) more k e = go (r .holds) refl (λ h. settled-before rs more k h)
+  where
+    go : (b : Bool) → r .holds ≡ b → (first rs ≡ suc k → first (rs ++ more) ≡ suc k) → first (r ∷ (rs ++ more)) ≡ suc k
+    go true x ih = first-settled (r .number) (r .holds) (rs ++ more) x ∙ sym (first-settled (r .number) (r .holds) rs x) ∙ e
+    go false x ih = first-goes-on (r .number) (r .holds) (rs ++ more) x ∙ ih (sym (first-goes-on (r .number) (r .holds) rs x) ∙ e)
+
+-- ---- 10, 11 and 14
+
+module _ (words : List ℕ) (s : Shared) (h : Head) (table : List ℕ) where
+  abbrev pub shared-reasons : List Reason
+  shared-reasons = 10 when badShared one words s ∷ 11 when not (fits one (s .blocks) h table) ∷ 14 when not (isJoined s (h .number)) ∷ []
+
+  pub unfit-before : (more : List Reason) (k : ℕ) → unfit one words s h table ≡ suc k → first (shared-reasons ++ more) ≡ suc k
+  unfolding unfit
+  unfit-before more k e = settled-before shared-reasons more k e
+
+  module _ (e : unfit one words s h table ≡ 0) where
+    passed : (i : ℕ) → getD shared-reasons i no-reason .holds ≡ false
+    unfolding unfit
+    passed = passes shared-reasons refl e
+
+    pub fit-shared : badShared one words s ≡ false
+    fit-shared = passed 0
+
+    pub fit-record : fits one (s .blocks) h table ≡ true
+    fit-record = not-false (fits one (s .blocks) h table) (passed 1)
+
+    pub fit-joined : isJoined s (h .number) ≡ true
+    fit-joined = not-false (isJoined s (h .number)) (passed 2)
+
+    pub fit-goes-on : (more : List Reason) → first (shared-reasons ++ more) ≡ first more
+    fit-goes-on more = rw (fit-shared, fit-record, fit-joined)

@@ -1,0 +1,55 @@
+-- `points::record::write_fits` meets its contract: its tests are those of the list; the last one goes by the phase. Assumes nothing.
+use mathlib.Core.Path.{sym, _∙_}
+use borrow.Author.Needs.{needs}
+use Rattle.points.proofs.Fits.{write-zeroing, write-filling}
+use Rattle.points.proofs.record.write_fits.Statement.{statement}
+use Rattle.points.proofs.record.write_fits.Tie as tie
+
+span-requires : tie.Need-span-requires
+span-requires c κs = search needs
+
+cast-size : tie.Need-cast-size
+cast-size c = search needs
+
+bad-text-requires : tie.Need-bad-text-requires
+bad-text-requires c κs = search needs
+
+cast-past-end : tie.Need-cast-past-end
+cast-past-end c = search needs
+
+past-end-requires : tie.Need-past-end-requires
+past-end-requires c κs = search needs
+
+inside-requires : tie.Need-inside-requires
+inside-requires c κs = search needs
+
+is-zeroing-requires : tie.Need-is-zeroing-requires
+is-zeroing-requires c κs = search needs
+
+zeroing-fits-requires : tie.Need-zeroing-fits-requires
+zeroing-fits-requires c κs = search needs
+
+returns : tie.Need-returns
+returns c = let a = c .before .before .before .before .before .before .before .before .before .args in cc (write-zeroing (a .blocks) (a .place) (a .write) (sym (c .before .before .is-zeroing .ensures) ∙ c .before .if1 .taken))
+
+mul-result : tie.Need-mul-result
+mul-result c = search needs
+
+returns-2 : tie.Need-returns-2
+returns-2 c = let a = c .before .before .before .before .before .before .before .before .before .args in cc (write-filling (a .blocks) (a .place) (a .write) (sym (c .before .before .is-zeroing .ensures) ∙ c .before .if1 .left))
+
+pub write-fits-spec : {M : Type 1} → statement M
+write-fits-spec =
+    tie.close
+    (tie.spec
+    span-requires
+    cast-size
+    bad-text-requires
+    cast-past-end
+    past-end-requires
+    inside-requires
+    is-zeroing-requires
+    zeroing-fits-requires
+    returns
+    mul-result
+    returns-2)

@@ -1,0 +1,150 @@
+// Reading: the file's bytes into a lent buffer, block by block, whole words where they are aligned.
+ghost use mathlib.Core.Path.{_≡_};
+ghost use Prim.Native.Nat.{_+_, _*_, _-_, _≤_, _<_, _^_, min};
+ghost use lib.ListN.{length};
+ghost use lib.Seq.{sets};
+ghost use Rattle.words.specs.Edition.{one};
+ghost use Rattle.words.specs.Logic.{listFrom};
+ghost use Rattle.words.specs.Word.{byteOf};
+ghost use Rattle.words.specs.Memory.{memory, byteIn};
+ghost use Rattle.log.specs.Replay.{mappedByte, fileByte};
+ghost use Rattle.points.specs.Reading.{reading, bufferAfter};
+use crate::Count;
+use crate::Point;
+use log::Shared;
+
+// Byte j of a word.
+fn byte(w: u64, j: u64) -> u8
+    ensures { λ r. ⌜ r ≡ byteOf w j ⌝ }
+{
+    words::bytes::byte(w, j) as u8
+}
+
+fn least(a: usize, b: usize) -> usize
+    ensures { λ r. ⌜ r ≡ min a b ⌝ }
+{
+    if a < b { a } else { b }
+}
+
+// The eight bytes of a word go to the buffer from a place on.
+fn put_word(w: u64, buffer: &mut [u8], at: usize)
+    requires { ⌜ at + 8 ≤ length (now buffer) ⌝ }
+    ensures { λ _. ⌜ now (buffer .exit) ≡ sets (now (buffer .entry)) at (listFrom 0 8 (byteOf w)) ⌝ }
+{
+    buffer[at] = byte(w, 0);
+    buffer[at + 1] = byte(w, 1);
+    buffer[at + 2] = byte(w, 2);
+    buffer[at + 3] = byte(w, 3);
+    buffer[at + 4] = byte(w, 4);
+    buffer[at + 5] = byte(w, 5);
+    buffer[at + 6] = byte(w, 6);
+    buffer[at + 7] = byte(w, 7);
+}
+
+// The bytes of n words of a part go to the buffer from a place on.
+fn copy_words(part: &[u64], from: usize, buffer: &mut [u8], at: usize, n: usize)
+    requires { ⌜ (from + n ≤ length (now part)) × (at + 8 * n ≤ length (now buffer)) ⌝ }
+    ensures { λ _. ⌜ now (buffer .exit) ≡ sets (now (buffer .entry)) at (listFrom (8 * from) (8 * n) (byteIn (now (part .entry)))) ⌝ }
+{
+    for k in 0..n {
+        put_word(part[from + k], buffer, at + 8 * k);
+    }
+}
+
+// The same for n bytes of a part, one by one.
+fn copy_bytes(part: &[u64], from: usize, buffer: &mut [u8], at: usize, n: usize)
+    requires { ⌜ (from + n ≤ 8 * length (now part)) × (at + n ≤ length (now buffer)) ⌝ }
+    ensures { λ _. ⌜ now (buffer .exit) ≡ sets (now (buffer .entry)) at (listFrom from n (byteIn (now (part .entry)))) ⌝ }
+{
+    for k in 0..n {
+        let p = from + k;
+        buffer[at + k] = byte(part[p / 8], (p % 8) as u64);
+    }
+}
+
+// n bytes of the buffer from a place on become 0.
+fn clear(buffer: &mut [u8], at: usize, n: usize)
+    requires { ⌜ at + n ≤ length (now buffer) ⌝ }
+    ensures { λ _. ⌜ now (buffer .exit) ≡ sets (now (buffer .entry)) at (listFrom 0 n (λ _. 0)) ⌝ }
+{
+    for k in 0..n {
+        buffer[at + k] = 0;
+    }
+}
+
+// n bytes of a part go to the buffer from a place on: single bytes up to a word's start, whole words, and the bytes left.
+fn copy(part: &[u64], from: usize, buffer: &mut [u8], at: usize, n: usize)
+    requires { ⌜ (from + n ≤ 8 * length (now part)) × (at + n ≤ length (now buffer)) ⌝ }
+    ensures { λ _. ⌜ now (buffer .exit) ≡ sets (now (buffer .entry)) at (listFrom from n (byteIn (now (part .entry)))) ⌝ }
+{
+    let head = least((8 - from % 8) % 8, n);
+    let whole = (n - head) / 8;
+    let middle = 8 * whole;
+    copy_bytes(part, from, buffer, at, head);
+    copy_words(part, (from + head) / 8, buffer, at + head, whole);
+    copy_bytes(
+        part,
+        from + head + middle,
+        buffer,
+        at + head + middle,
+        n - head - middle,
+    );
+}
+
+// n bytes of a logical block go to the buffer from a place on; zeros where the index is 0 or names no block.
+fn copy_block(image: &[u64], b: usize, from: usize, buffer: &mut [u8], at: usize, n: usize)
+    requires { ⌜ (from + n ≤ 512) × (at + n ≤ length (now buffer)) ⌝ }
+    ensures { λ _. ⌜ now (buffer .exit) ≡ sets (now (buffer .entry)) at (listFrom from n (mappedByte (memory one (now (image .entry))) b)) ⌝ }
+{
+    let part = crate::sight::part(image, b);
+    if part.len() == 0 {
+        clear(buffer, at, n);
+        return;
+    }
+    copy(part, from, buffer, at, n);
+}
+
+// n bytes of the file from an offset on go to the buffer's front, block by block.
+fn fill(image: &[u64], table: &[u16], offset: usize, buffer: &mut [u8], n: usize)
+    requires { ⌜ (n ≤ length (now buffer)) × (offset + n < 2 ^ 64) ⌝ }
+    ensures { λ _. ⌜ now (buffer .exit) ≡ sets (now (buffer .entry)) 0 (listFrom offset n (fileByte one (memory one (now (image .entry))) (record { table = now (table .entry); size = 0 }))) ⌝ }
+{
+    let mut done = 0;
+    while done < n {
+        let p = offset + done;
+        let b = crate::sight::mapped(table, p / 512);
+        let count = least(n - done, 512 - p % 512);
+        copy_block(image, b, p % 512, buffer, done, count);
+        done += count;
+    }
+}
+
+// The lesser of a buffer's room and the bytes left in a file from an offset on.
+fn left(size: u32, offset: usize, room: usize) -> usize
+    ensures { λ r. ⌜ r ≡ min room (size - offset) ⌝ }
+{
+    if size as usize <= offset {
+        return 0;
+    }
+    least(room, size as usize - offset)
+}
+
+// Reading: the file's bytes from an offset on fill the buffer, as far as both go; the count is answered, and no further byte is touched.
+pub fn read(
+    image: &[u64],
+    shared: Shared,
+    mut point: Point,
+    offset: usize,
+    buffer: &mut [u8],
+) -> Count
+    ensures { λ r. ⌜ (r ≡ reading one (now (image .entry)) shared (point .head) (point .table) offset (length (now (buffer .entry)))) × (now (buffer .exit) ≡ bufferAfter one (now (image .entry)) shared (point .head) (point .table) offset (now (buffer .entry))) ⌝ }
+{
+    let head = point.head;
+    let sight = crate::sight::see(image, shared, head, &mut point.table, false);
+    if sight.reason != 0 {
+        return crate::sight::refused(sight.reason);
+    }
+    let n = left(sight.size, offset, buffer.len());
+    fill(image, &point.table, offset, buffer, n);
+    crate::sight::counted(n as u32)
+}

@@ -1,0 +1,199 @@
+// The tests that every later call begins with, reasons 10, 11 and 14, and how many blocks a write spans: each is total.
+ghost use mathlib.Core.Path.{_≡_};
+ghost use Rattle.words.specs.Edition.{one};
+ghost use Rattle.words.specs.Logic.{between};
+ghost use Rattle.words.specs.Word.{bit};
+ghost use Rattle.points.specs.Record.{isIdle, isZeroing, badShared, badText, pastEnd, inside, placeFits, zeroingFits, writeFits, headFits, tableFits, span, fits};
+ghost use Rattle.points.specs.Unfit.{unfit};
+use crate::Head;
+use crate::Phase;
+use crate::Write;
+use log::Place;
+use log::Shared;
+
+// Whether a number is from `low` to `high`.
+fn between(low: u32, x: u32, high: u32) -> bool
+    ensures { λ r. ⌜ r ≡ between low x high ⌝ }
+{
+    (low <= x) & (x <= high)
+}
+
+// Whether n blocks from b on lie inside the image, b being a block from 1 on.
+fn inside(blocks: u32, b: u32, n: u32) -> bool
+    ensures { λ r. ⌜ r ≡ inside blocks b n ⌝ }
+{
+    (1 <= b) & (b as u64 + n as u64 <= blocks as u64)
+}
+
+// 10. The shared record's block count is not 4 to 1,024, 64 times it is not the image's length, or the next place is not a block from 1 on.
+pub fn bad_shared(image: &[u64], shared: Shared) -> bool
+    ensures { λ r. ⌜ r ≡ badShared one (now (image .entry)) shared ⌝ }
+{
+    !between(4, shared.blocks, 1024)
+        | (64 * shared.blocks as usize != image.len())
+        | !((1 <= shared.next) & (shared.next < shared.blocks))
+}
+
+// 14. Whether a point is joined: its bit. No point from 32 on is.
+pub fn is_joined(joined: u32, number: u32) -> bool
+    ensures { λ r. ⌜ r ≡ bit joined number ⌝ }
+{
+    if 31 < number {
+        return false;
+    }
+    (joined >> number) & 1 == 1
+}
+
+// Whether no write is under way.
+pub fn is_idle(phase: Phase) -> bool
+    ensures { λ r. ⌜ r ≡ isIdle phase ⌝ }
+{
+    match phase {
+        Phase::Idle => true,
+        Phase::Filling => false,
+        Phase::RefillFirst => false,
+        Phase::RefillLast => false,
+        Phase::RefillBoth => false,
+        Phase::Zeroing => false,
+    }
+}
+
+// Whether a log block is being zeroed.
+pub fn is_zeroing(phase: Phase) -> bool
+    ensures { λ r. ⌜ r ≡ isZeroing phase ⌝ }
+{
+    match phase {
+        Phase::Idle => false,
+        Phase::Filling => false,
+        Phase::RefillFirst => false,
+        Phase::RefillLast => false,
+        Phase::RefillBoth => false,
+        Phase::Zeroing => true,
+    }
+}
+
+// The blocks that a write spans: 1 to 3 where it obeys 16 and 17.
+pub fn span(offset: u32, size: u32) -> u32
+    ensures { λ r. ⌜ r ≡ span one offset size ⌝ }
+{
+    if size == 0 {
+        return 1;
+    }
+    let first = offset as u64;
+    let last = first + size as u64 - 1;
+    (last / 512 - first / 512 + 1) as u32
+}
+
+// Whether a log place keeps its ranges.
+fn place_fits(blocks: u32, place: Place) -> bool
+    ensures { λ r. ⌜ r ≡ placeFits one blocks place ⌝ }
+{
+    inside(blocks, place.block, 1) & between(2, place.slot, 64) & between(1, place.passed, 64)
+}
+
+// Whether the block being zeroed lies inside, the position in it, and the log place is one to link it at.
+fn zeroing_fits(blocks: u32, place: Place, write: Write) -> bool
+    ensures { λ r. ⌜ r ≡ zeroingFits one blocks place write ⌝ }
+{
+    inside(blocks, write.zeroing, 1)
+        & (write.position <= 64)
+        & (place.slot == 64)
+        & (place.passed < 64)
+}
+
+// 16. The text has 0 or more than 1,024 bytes.
+pub fn bad_text(size: usize) -> bool
+    ensures { λ r. ⌜ r ≡ badText size ⌝ }
+{
+    !((1 <= size) & (size <= 1024))
+}
+
+// 17. The write ends past byte 131,072.
+pub fn past_end(offset: usize, size: usize) -> bool
+    ensures { λ r. ⌜ r ≡ pastEnd one offset size ⌝ }
+{
+    if 131072 < size {
+        return true;
+    }
+    131072 - size < offset
+}
+
+// Whether the write under way fits: 16 and 17, the run, and the position.
+fn write_fits(blocks: u32, place: Place, write: Write) -> bool
+    ensures { λ r. ⌜ r ≡ writeFits one blocks place write ⌝ }
+{
+    let phase = write.phase;
+    let n = span(write.offset, write.size);
+    let size = write.size as usize;
+    let run = !bad_text(size)
+        & !past_end(write.offset as usize, size)
+        & inside(blocks, write.run, n);
+    if is_zeroing(phase) {
+        return run & zeroing_fits(blocks, place, write);
+    }
+    run & (write.position <= 64 * n)
+}
+
+// Whether the numbers of a record fit. An idle record's write is not looked at.
+pub fn head_fits(blocks: u32, head: Head) -> bool
+    ensures { λ r. ⌜ r ≡ headFits one blocks head ⌝ }
+{
+    let ok = place_fits(blocks, head.place) & (head.length <= 131072);
+    let write = head.write;
+    let phase = write.phase;
+    if is_idle(phase) {
+        return ok;
+    }
+    ok & write_fits(blocks, head.place, write)
+}
+
+// Whether each number of a table is below n.
+fn all_below(table: &[u16], n: u16) -> bool
+    ensures { λ r. ⌜ r ≡ tableFits n (now (table .entry)) ⌝ }
+{
+    let mut ok = true;
+    for i in 0..table.len() {
+        ok = ok & (table[i] < n);
+    }
+    ok
+}
+
+// The same for a block count, which may pass every number of a table.
+fn entries_fit(blocks: u32, table: &[u16]) -> bool
+    ensures { λ r. ⌜ r ≡ tableFits blocks (now (table .entry)) ⌝ }
+{
+    if 65535 < blocks {
+        return true;
+    }
+    all_below(table, blocks as u16)
+}
+
+// Whether each entry of a record's table lies inside the image.
+pub fn table_fits(blocks: u32, table: &[u16; 256]) -> bool
+    ensures { λ r. ⌜ r ≡ tableFits blocks (now (table .entry)) ⌝ }
+{
+    entries_fit(blocks, table)
+}
+
+// 11. Whether a record fits.
+pub fn fits(blocks: u32, head: Head, table: &[u16; 256]) -> bool
+    ensures { λ r. ⌜ r ≡ fits one blocks head (now (table .entry)) ⌝ }
+{
+    head_fits(blocks, head) & table_fits(blocks, table)
+}
+
+// The first of 10, 11 and 14 that holds, 0 for none.
+pub fn unfit(image: &[u64], shared: Shared, head: Head, table: &[u16; 256]) -> u32
+    ensures { λ r. ⌜ r ≡ unfit one (now (image .entry)) shared head (now (table .entry)) ⌝ }
+{
+    if bad_shared(image, shared) {
+        return crate::SHARED_UNFIT;
+    }
+    if !fits(shared.blocks, head, table) {
+        return crate::RECORD_UNFIT;
+    }
+    if !is_joined(shared.joined, head.number) {
+        return crate::NOT_JOINED;
+    }
+    0
+}
