@@ -21,7 +21,7 @@ use Rattle.points.specs.Search.{taking}
 use Rattle.points.specs.Calls.{joining, joinRefusal, beginning, beginRefusal, leaving, leaveRefusal}
 use Rattle.recovery.specs.World.{World, Call, join, begin, go, leave, handed, renewed, joinedAs, turn}
 use Rattle.recovery.specs.Book.{Book}
-use Rattle.words.proofs.BlockMap.{withBit-other}
+use Rattle.words.proofs.WithBit.{withBit-other}
 use Rattle.words.proofs.Tests.{no-true}
 use Rattle.points.proofs.Passed.{join-apart, begin-idle, leave-joined}
 use Rattle.recovery.proofs.Calls.Mapping.{Tied, handed-newest, is-joined, renewed-other, renewed-handed}
