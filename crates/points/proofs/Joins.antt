@@ -34,15 +34,14 @@ first-tests blocks m = ap (λ (t : Bool). t || leb blocks (firstIndex m)) (zero-
 
 -- ---- the answers
 
-module _ (words : List ℕ) (s : Shared) (number r : ℕ) (e : r ≡ joinRefusal one words s number) where
-  pub join-refused : (p : Point) → (r ≡ 0 → ⊥) → p ≡ noPoint → record { reply = Refused r; shared = s; point = p } ≡ joining one words s number
+module _ (words : List ℕ) (s : Shared) (number : ℕ) where
+  pub join-refused :
+      (r : ℕ) (p : Point) → r ≡ joinRefusal one words s number → (r ≡ 0 → ⊥) → p ≡ noPoint
+      → record { reply = Refused r; shared = s; point = p } ≡ joining one words s number
   unfolding joining
-  join-refused p h ep = rw (ep, e) (sym (refused-so (joinRefusal one words s number) _ (λ n. record { reply = Refused n; shared = s; point = noPoint }) (λ z. h (e ∙ z))))
+  join-refused r p e h ep = rw (ep, e) (sym (refused-so (joinRefusal one words s number) _ (λ n. record { reply = Refused n; shared = s; point = noPoint }) (λ z. h (e ∙ z))))
 
-  module _ (h : r ≡ 0) where
-    none : joinRefusal one words s number ≡ 0
-    none = sym e ∙ h
-
+  module _ (none : joinRefusal one words s number ≡ 0) where
     pub join-done :
         (j f : ℕ) (t : Shared) (p : Point) → j ≡ withBit true (s .joined) number → t ≡ withJoined s j → f ≡ firstIndex (memory one words) → p ≡ newPoint number f
         → record { reply = Done; shared = t; point = p } ≡ joining one words s number
