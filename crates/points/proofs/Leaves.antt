@@ -1,9 +1,9 @@
 -- Leaving: what becomes free goes by the phase, and the reasons are those that calls share. Assumes nothing.
-use Prim.Native.Nat.{ℕ, zero, suc, _+_, _-_, _^_, _≤_, _<_}
+use Prim.Native.Nat.{ℕ, _^_, _<_}
 use native.Mathlib.Omega.{arith}
 use native.Mathlib.Decide.{decLt}
-use mathlib.Core.Path.{_≡_, refl, sym, _∙_}
-use mathlib.Core.Bool.{Bool, true, false}
+use mathlib.Core.Path.{_≡_, sym, _∙_}
+use mathlib.Core.Bool.{true, false}
 use mathlib.Core.List.{List}
 use Rattle.words.specs.Edition.{one}
 use Rattle.words.specs.Word.{bit}
@@ -14,8 +14,7 @@ use Rattle.log.specs.declared.Shared.{Shared}
 use Rattle.log.specs.declared.Reply.the-variants.{Done, Refused}
 use Rattle.points.specs.declared.Write.{Write}
 use Rattle.points.specs.declared.Point.{Point}
-use Rattle.points.specs.declared.Left.{Left}
-use Rattle.points.specs.Record.{isIdle, isZeroing, span, isJoined, fits}
+use Rattle.points.specs.Record.{isIdle, isZeroing, span}
 use Rattle.points.specs.Search.{withJoined, withTaken}
 use Rattle.points.specs.Unfit.{unfit}
 use Rattle.points.specs.Calls.{leaveRefusal, withoutRun, withoutHeld, leaving}
