@@ -12,7 +12,7 @@ use Rattle.log.specs.Look.{seenBy}
 use Rattle.points.specs.Record.{isIdle, badText, pastEnd}
 use Rattle.points.specs.Search.{search as found-by}
 use Rattle.points.specs.Unfit.{unfit}
-use Rattle.points.proofs.Facts.{text-facts}
+use Rattle.points.proofs.Facts.{TextFits, text-facts}
 use Rattle.points.proofs.Begins.{start-refused, begin-unfit, begin-15, begin-16, begin-17, begin-18, begin-19, begin-0}
 use Rattle.points.proofs.begin.settle.Statement.{statement}
 use Rattle.points.proofs.begin.settle.Tie as tie
@@ -35,6 +35,9 @@ not-18 :
 unfolding seenBy
 not-18 c = ap (λ (k : Seen). k .broken) (sym (c .before .look .ensures)) ∙ c .if5 .left
 
+text-at : (c : tie.Else5) → let a = c .before .before .before .before .before .before .before .before .before .before .before .before .args in TextFits (a .offset) (a .size)
+text-at c = let a = c .before .before .before .before .before .before .before .before .before .before .before .before .args in text-facts (a .offset) (a .size) (not-16 (c .before .before .before .before)) (not-17 (c .before .before))
+
 unfit-requires : tie.Need-unfit-requires
 unfit-requires c κs = search needs
 
@@ -56,7 +59,8 @@ refused-requires-2 c κs = search needs
 returns-2 : tie.Need-returns-2
 returns-2 c =
     let a = c .before .before .before .before .before .before .before .args in
-    start-refused (a .image .now) (a .shared) (a .head) (a .table .now) (a .offset) (a .size) _ 15 _ _ (c .refused2 .ensures) (λ z. omega arith) (begin-15 (a .image .now) (a .shared) (a .head) (a .table .now) (a .offset) (a .size) (not-14 (c .before .before .before .before)) (sym (c .before .before .is-idle .ensures) ∙ not-true _ (c .before .if2 .taken)))
+    start-refused (a .image .now) (a .shared) (a .head) (a .table .now) (a .offset) (a .size) _ 15 _ _ (c .refused2 .ensures) (λ z. omega arith)
+    (begin-15 (a .image .now) (a .shared) (a .head) (a .table .now) (a .offset) (a .size) (not-14 (c .before .before .before .before)) (sym (c .before .before .is-idle .ensures) ∙ not-true _ (c .before .if2 .taken)))
 
 bad-text-requires : tie.Need-bad-text-requires
 bad-text-requires c κs = search needs
@@ -67,7 +71,11 @@ refused-requires-3 c κs = search needs
 returns-3 : tie.Need-returns-3
 returns-3 c =
     let a = c .before .before .before .before .before .before .before .before .before .args in
-    start-refused (a .image .now) (a .shared) (a .head) (a .table .now) (a .offset) (a .size) _ 16 _ _ (c .refused3 .ensures) (λ z. omega arith) (begin-16 (a .image .now) (a .shared) (a .head) (a .table .now) (a .offset) (a .size) (not-14 (c .before .before .before .before .before .before)) (not-15 (c .before .before .before)) (sym (c .before .before .bad-text .ensures) ∙ c .before .if3 .taken))
+    let e = c .before .before .before in
+    start-refused (a .image .now) (a .shared) (a .head) (a .table .now) (a .offset) (a .size) _ 16 _ _ (c .refused3 .ensures) (λ z. omega arith)
+    (begin-16 (a .image .now) (a .shared) (a .head) (a .table .now) (a .offset) (a .size)
+    (not-14 (e .before .before .before)) (not-15 e)
+    (sym (c .before .before .bad-text .ensures) ∙ c .before .if3 .taken))
 
 past-end-requires : tie.Need-past-end-requires
 past-end-requires c κs = search needs
@@ -78,7 +86,11 @@ refused-requires-4 c κs = search needs
 returns-4 : tie.Need-returns-4
 returns-4 c =
     let a = c .before .before .before .before .before .before .before .before .before .before .before .args in
-    start-refused (a .image .now) (a .shared) (a .head) (a .table .now) (a .offset) (a .size) _ 17 _ _ (c .refused4 .ensures) (λ z. omega arith) (begin-17 (a .image .now) (a .shared) (a .head) (a .table .now) (a .offset) (a .size) (not-14 (c .before .before .before .before .before .before .before .before)) (not-15 (c .before .before .before .before .before)) (not-16 (c .before .before .before)) (sym (c .before .before .past-end .ensures) ∙ c .before .if4 .taken))
+    let e = c .before .before .before in
+    start-refused (a .image .now) (a .shared) (a .head) (a .table .now) (a .offset) (a .size) _ 17 _ _ (c .refused4 .ensures) (λ z. omega arith)
+    (begin-17 (a .image .now) (a .shared) (a .head) (a .table .now) (a .offset) (a .size)
+    (not-14 (e .before .before .before .before .before)) (not-15 (e .before .before)) (not-16 e)
+    (sym (c .before .before .past-end .ensures) ∙ c .before .if4 .taken))
 
 look-requires : tie.Need-look-requires
 look-requires c κs = search needs
@@ -90,13 +102,17 @@ returns-5 : tie.Need-returns-5
 unfolding seenBy
 returns-5 c =
     let a = c .before .before .before .before .before .before .before .before .before .before .before .before .before .args in
-    start-refused (a .image .now) (a .shared) (a .head) (a .table .now) (a .offset) (a .size) _ 18 _ _ (c .refused5 .ensures) (λ z. omega arith) (begin-18 (a .image .now) (a .shared) (a .head) (a .table .now) (a .offset) (a .size) (not-14 (c .before .before .before .before .before .before .before .before .before .before)) (not-15 (c .before .before .before .before .before .before .before)) (not-16 (c .before .before .before .before .before)) (not-17 (c .before .before .before)) (ap (λ (k : Seen). k .broken) (sym (c .before .before .look .ensures)) ∙ c .before .if5 .taken))
+    let e = c .before .before .before in
+    start-refused (a .image .now) (a .shared) (a .head) (a .table .now) (a .offset) (a .size) _ 18 _ _ (c .refused5 .ensures) (λ z. omega arith)
+    (begin-18 (a .image .now) (a .shared) (a .head) (a .table .now) (a .offset) (a .size)
+    (not-14 (e .before .before .before .before .before .before .before)) (not-15 (e .before .before .before .before)) (not-16 (e .before .before)) (not-17 e)
+    (ap (λ (k : Seen). k .broken) (sym (c .before .before .look .ensures)) ∙ c .before .if5 .taken))
 
 cast-span : tie.Need-cast-span
-cast-span c = let a = c .before .before .before .before .before .before .before .before .before .before .before .before .args in let t = text-facts (a .offset) (a .size) (not-16 (c .before .before .before .before)) (not-17 (c .before .before)) in record { fits = omega arith }
+cast-span c = let t = text-at c in record { fits = omega arith }
 
 cast-span-2 : tie.Need-cast-span-2
-cast-span-2 c = let a = c .before .before .before .before .before .before .before .before .before .before .before .before .args in let t = text-facts (a .offset) (a .size) (not-16 (c .before .before .before .before)) (not-17 (c .before .before)) in record { fits = omega arith }
+cast-span-2 c = let t = text-at c in record { fits = omega arith }
 
 span-requires : tie.Need-span-requires
 span-requires c κs = search needs
@@ -110,15 +126,27 @@ refused-requires-6 c κs = search needs
 returns-6 : tie.Need-returns-6
 returns-6 c =
     let a = c .before .before .before .before .before .before .before .before .before .before .before .before .before .before .before .before .args in
+    let e = c .before .before .before .before in
+    let run = c .before .before .search .ensures ∙ ap (found-by (a .shared)) (c .before .before .before .span .ensures) in
     start-refused (a .image .now) (a .shared) (a .head) (a .table .now) (a .offset) (a .size) _ 19 _ _ (c .refused6 .ensures) (λ z. omega arith)
-    (begin-19 (a .image .now) (a .shared) (a .head) (a .table .now) (a .offset) (a .size) (not-14 (c .before .before .before .before .before .before .before .before .before .before .before .before .before)) (not-15 (c .before .before .before .before .before .before .before .before .before .before)) (not-16 (c .before .before .before .before .before .before .before .before)) (not-17 (c .before .before .before .before .before .before)) (not-18 (c .before .before .before .before)) (sym (c .before .before .search .ensures ∙ ap (found-by (a .shared)) (c .before .before .before .span .ensures)) ∙ c .before .if6 .taken))
+    (begin-19 (a .image .now) (a .shared) (a .head) (a .table .now) (a .offset) (a .size)
+    (not-14 (e .before .before .before .before .before .before .before .before .before)) (not-15 (e .before .before .before .before .before .before)) (not-16 (e .before .before .before .before)) (not-17 (e .before .before)) (not-18 e)
+    (sym run ∙ c .before .if6 .taken))
 
 returns-7 : tie.Need-returns-7
 unfolding seenBy
 returns-7 c =
     let a = c .before .before .before .before .before .before .before .before .before .before .before .before .before .before .before .before .args in
-    let e = (c .before .before .search .ensures ∙ ap (found-by (a .shared)) (c .before .before .before .span .ensures)) in
-    record { refusal = begin-0 (a .image .now) (a .shared) (a .head) (a .table .now) (a .offset) (a .size) (not-14 (c .before .before .before .before .before .before .before .before .before .before .before .before .before)) (not-15 (c .before .before .before .before .before .before .before .before .before .before)) (not-16 (c .before .before .before .before .before .before .before .before)) (not-17 (c .before .before .before .before .before .before)) (not-18 (c .before .before .before .before)) (λ z. c .before .if6 .left (e ∙ z)); tail = λ z. ap (λ (k : Seen). k .place) (c .before .before .before .before .before .look .ensures); found = λ z. e }
+    let e = c .before .before .before .before in
+    let run = c .before .before .search .ensures ∙ ap (found-by (a .shared)) (c .before .before .before .span .ensures) in
+    record {
+      refusal =
+          begin-0 (a .image .now) (a .shared) (a .head) (a .table .now) (a .offset) (a .size)
+          (not-14 (e .before .before .before .before .before .before .before .before .before)) (not-15 (e .before .before .before .before .before .before)) (not-16 (e .before .before .before .before)) (not-17 (e .before .before)) (not-18 e)
+          (λ z. c .before .if6 .left (run ∙ z));
+      tail = λ z. ap (λ (k : Seen). k .place) (e .before .look .ensures);
+      found = λ z. run;
+    }
 
 pub settle-spec : {M : Type 1} → statement M
 settle-spec =

@@ -1,9 +1,14 @@
--- `points::leave::free_held` meets its contract: one law for each phase: nothing, the run, the run and the block being zeroed. Assumes nothing.
-use mathlib.Core.Path.{sym, _∙_}
+-- `points::leave::free_held` meets its contract: by the phase, it frees nothing, the run, or the run and the block being zeroed. Assumes nothing.
+use mathlib.Core.Path.{_≡_, sym, _∙_}
+use mathlib.Core.Bool.{false}
 use borrow.Author.Needs.{needs}
+use Rattle.points.specs.Record.{isIdle}
 use Rattle.points.proofs.Leaves.{held-idle, held-run, held-both}
 use Rattle.points.proofs.leave.free_held.Statement.{statement}
 use Rattle.points.proofs.leave.free_held.Tie as tie
+
+busy : (c : tie.Else1) → isIdle (c .before .before .before .args .write .phase) ≡ false
+busy c = sym (c .before .is-idle .ensures) ∙ c .if1 .left
 
 is-idle-requires : tie.Need-is-idle-requires
 is-idle-requires c κs = search needs
@@ -36,13 +41,21 @@ same-length : tie.Need-same-length
 same-length c = search needs
 
 returns-2 : tie.Need-returns-2
-returns-2 c = let a = c .before .before .before .before .before .before .before .before .before .before .before .before .before .before .before .before .args in held-both (a .map .now) (a .write) (sym (c .before .before .before .before .before .before .before .before .before .before .before .before .before .before .is-idle .ensures) ∙ c .before .before .before .before .before .before .before .before .before .before .before .before .before .if1 .left) _ (c .before .before .before .before .before .before .before .before .before .before .span .ensures) _ (c .before .before .before .before .before .before .before .before .before .free-run .ensures) _ (sym (c .before .before .before .before .before .before .is-zeroing .ensures) ∙ c .before .before .before .before .before .if2 .taken) (c .before .before .free-block .ensures)
+returns-2 c =
+    let f = c .before .before .before .before .before .before .before .before .before in
+    let a = f .before .before .before .before .before .before .before .args in
+    held-both (a .map .now) (a .write) (busy (f .before .before .before .before)) _ (f .before .span .ensures) _ (f .free-run .ensures) _
+    (sym (c .before .before .before .before .before .before .is-zeroing .ensures) ∙ c .before .before .before .before .before .if2 .taken) (c .before .before .free-block .ensures)
 
 same-length-2 : tie.Need-same-length-2
 same-length-2 c = search needs
 
 returns-3 : tie.Need-returns-3
-returns-3 c = let a = c .before .before .before .before .before .before .before .before .before .before .before .args in held-run (a .map .now) (a .write) (sym (c .before .before .before .before .before .before .before .before .before .is-idle .ensures) ∙ c .before .before .before .before .before .before .before .before .if1 .left) _ (c .before .before .before .before .before .span .ensures) _ (c .before .before .before .before .free-run .ensures) (sym (c .before .is-zeroing .ensures) ∙ c .if2 .left)
+returns-3 c =
+    let f = c .before .before .before .before in
+    let a = f .before .before .before .before .before .before .before .args in
+    held-run (a .map .now) (a .write) (busy (f .before .before .before .before)) _ (f .before .span .ensures) _ (f .free-run .ensures)
+    (sym (c .before .is-zeroing .ensures) ∙ c .if2 .left)
 
 pub free-held-spec : {M : Type 1} → statement M
 free-held-spec =
