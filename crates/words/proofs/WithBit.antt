@@ -101,21 +101,21 @@ bit-view x w n k = go (ℕ-discrete k n)
 parts : (w j : ℕ) → w ≡ w / 2 ^ (1 + j) * 2 ^ (1 + j) + (bits w j 1 * 2 ^ j + w % 2 ^ j)
 parts w j = sym (split w (1 + j)) ∙ ap (λ (x : ℕ). w / 2 ^ (1 + j) * 2 ^ (1 + j) + x) (mod-pow-add w 1 j)
 
-pub bit-is-set : (w j : ℕ) → j < 64 → bitOr w (1 * 2 ^ j % 2 ^ 64) ≡ withBit true w j
+pub bit-is-set : (W w j : ℕ) → j < W → bitOr w (1 * 2 ^ j % 2 ^ W) ≡ withBit true w j
 unfolding withBit withField
-bit-is-set w j f = bit-set 64 j w f ∙ go (bits w j 1) (bit-digit w j) refl
+bit-is-set W w j f = bit-set W j w f ∙ go (bits w j 1) (bit-digit w j) refl
   where
     go : (d : ℕ) → Digit d → bits w j 1 ≡ d → withField 1 j w 1 ≡ withBit true w j
     go zero off e = let p = rw e at (parts w j) in rw e (omega arith)
     go (suc zero) on e = let p = rw e at (parts w j) in rw e (omega arith)
 
-pub bit-is-cleared : (w j : ℕ) → j < 64 → w < 2 ^ 64 → bitAnd w (2 ^ 64 - 1 - 1 * 2 ^ j % 2 ^ 64) ≡ withBit false w j
+pub bit-is-cleared : (W w j : ℕ) → j < W → w < 2 ^ W → bitAnd w (2 ^ W - 1 - 1 * 2 ^ j % 2 ^ W) ≡ withBit false w j
 unfolding withBit
-bit-is-cleared w j f l = cleared-in 64 1 j w (omega arith) l ∙ go (bits w j 1) (bit-digit w j) refl
+bit-is-cleared W w j f l = cleared-in W 1 j w (omega arith) l ∙ go (bits w j 1) (bit-digit w j) refl
   where
     go : (d : ℕ) → Digit d → bits w j 1 ≡ d → w / 2 ^ (1 + j) * 2 ^ (1 + j) + w % 2 ^ j ≡ withBit false w j
     go zero off e = let p = rw e at (parts w j) in rw e (omega arith)
     go (suc zero) on e = let p = rw e at (parts w j) in rw e (omega arith)
 
 pub withBit-lt : (w j : ℕ) → w < 2 ^ 64 → j < 64 → withBit true w j < 2 ^ 64
-withBit-lt w j h l = rw (← bit-is-set w j l) (or-lt 64 w (1 * 2 ^ j % 2 ^ 64) h (mod-lt (1 * 2 ^ j) (omega arith)))
+withBit-lt w j h l = rw (← bit-is-set 64 w j l) (or-lt 64 w (1 * 2 ^ j % 2 ^ 64) h (mod-lt (1 * 2 ^ j) (omega arith)))

@@ -15,11 +15,11 @@ shl-result-2 : tie.Need-shl-result-2
 shl-result-2 c = search needs
 
 returns : tie.Need-returns
-returns c = let a = c .before .args in bit-is-set (a .w) (a .j) (c .before .pre) ∙ ap (λ (x : Bool). withBit x (a .w) (a .j)) (sym (c .if1 .taken))
+returns c = let a = c .before .args in bit-is-set 64 (a .w) (a .j) (c .before .pre) ∙ ap (λ (x : Bool). withBit x (a .w) (a .j)) (sym (c .if1 .taken))
 
 returns-2 : tie.Need-returns-2
 returns-2 c = let a = c .before .args in
-    bit-is-cleared (a .w) (a .j) (c .before .pre) (omega arith) ∙ ap (λ (x : Bool). withBit x (a .w) (a .j)) (sym (c .if1 .left))
+    bit-is-cleared 64 (a .w) (a .j) (c .before .pre) (omega arith) ∙ ap (λ (x : Bool). withBit x (a .w) (a .j)) (sym (c .if1 .left))
 
 pub with-bit-spec : {M : Type 1} → statement M
 with-bit-spec = tie.close (tie.spec shl-result shl-result-2 returns returns-2)
