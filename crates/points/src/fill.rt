@@ -1,17 +1,20 @@
 // Filling: what a word of the run gets, and which word is next.
 ghost use mathlib.Core.Path.{_≡_};
 ghost use mathlib.Core.Bool.{true, false};
-ghost use Prim.Native.Nat.{ℕ, _+_, _*_, _-_, _≤_, _<_};
+ghost use Prim.Native.Nat.{ℕ, _+_, _*_, _-_, _≤_, _<_, max};
 ghost use lib.ListN.{getD};
 ghost use Rattle.words.specs.Edition.{one};
 ghost use Rattle.words.specs.Logic.{listFrom};
 ghost use Rattle.words.specs.Word.{byteOf, fromBytes};
 ghost use Rattle.words.specs.Memory.{memory};
 ghost use Rattle.log.specs.Replay.{mappedByte};
+ghost use Rattle.points.specs.declared.Phase.the-variants.{RefillFirst, RefillLast, RefillBoth};
 ghost use Rattle.points.specs.Record.{runWords};
-ghost use Rattle.points.specs.Fill.{newWord};
+ghost use Rattle.points.specs.Fill.{newWord, copies, wanted, seek, nextWord};
 ghost use Rattle.points.specs.Plan.{mixedByte};
 use crate::Head;
+use crate::Phase;
+use crate::Write;
 
 fn wide(x: u8) -> u64
     ensures { λ r. ⌜ (r ≡ x) × (r < 256) ⌝ }
@@ -102,4 +105,74 @@ pub(crate) fn new_word<'a>(image: &[u64], head: Head, table: &'a [u16; 256], tex
         return copied;
     }
     edge_word(copied, text, lead, end, at)
+}
+
+fn greater(a: u32, b: u32) -> u32
+    ensures { λ r. ⌜ r ≡ max a b ⌝ }
+{
+    if a < b { b } else { a }
+}
+
+// The first word from a place on that has a copied byte, be it of the run or past it.
+fn copied_from(write: Write, from: u32) -> u32
+    requires { ⌜ (write .size ≤ 1024) × (from ≤ 192) ⌝ }
+    ensures { λ r. ⌜ (from ≤ r) × (copies one write r ≡ true) × ((y : ℕ) → from ≤ y → y < r → copies one write y ≡ false) ⌝ }
+{
+    let lead = write.offset % 512;
+    if 8 * from < lead {
+        return from;
+    }
+    greater(from, (lead + write.size) / 8)
+}
+
+// The next word to fill again in the run's first block, or the run's words.
+fn next_in_first(write: Write, words: u32) -> u32
+    requires { ⌜ (write .size ≤ 1024) × (write .position ≤ words) × (words ≤ 192) × (words ≡ runWords one write) ⌝ }
+    ensures { λ r. ⌜ r ≡ seek (write .position) (runWords one write - write .position) (wanted RefillFirst one write) ⌝ }
+{
+    let k = copied_from(write, write.position);
+    if k < 64 {
+        return k;
+    }
+    words
+}
+
+// The next word to fill again in the run's last block, where that is not the first, or the run's words.
+fn next_in_last(write: Write, words: u32) -> u32
+    requires { ⌜ (1 ≤ write .size) × (write .size ≤ 1024) × (write .position ≤ words) × (words ≤ 192) × (words ≡ runWords one write) ⌝ }
+    ensures { λ r. ⌜ r ≡ seek (write .position) (runWords one write - write .position) (wanted RefillLast one write) ⌝ }
+{
+    let k = copied_from(write, greater(write.position, 64));
+    if k < words {
+        return k;
+    }
+    words
+}
+
+// The next word to fill again in either, or the run's words.
+fn next_in_both(write: Write, words: u32) -> u32
+    requires { ⌜ (1 ≤ write .size) × (write .size ≤ 1024) × (write .position ≤ words) × (words ≤ 192) × (words ≡ runWords one write) ⌝ }
+    ensures { λ r. ⌜ r ≡ seek (write .position) (runWords one write - write .position) (wanted RefillBoth one write) ⌝ }
+{
+    let k = copied_from(write, write.position);
+    if k < 64 {
+        return k;
+    }
+    next_in_last(write, words)
+}
+
+// The next word of the run to fill, or the run's words where none is left.
+pub(crate) fn next_word(write: Write, words: u32) -> u32
+    requires { ⌜ (1 ≤ write .size) × (write .size ≤ 1024) × (write .position ≤ words) × (words ≤ 192) × (words ≡ runWords one write) ⌝ }
+    ensures { λ r. ⌜ r ≡ nextWord one write ⌝ }
+{
+    let phase = write.phase;
+    match phase {
+        Phase::Idle => words,
+        Phase::Filling => write.position,
+        Phase::RefillFirst => next_in_first(write, words),
+        Phase::RefillLast => next_in_last(write, words),
+        Phase::RefillBoth => next_in_both(write, words),
+        Phase::Zeroing => words,
+    }
 }

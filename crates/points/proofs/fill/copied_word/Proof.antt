@@ -8,39 +8,27 @@ use Rattle.points.proofs.NewWord.{mapped-none, mapped-word}
 use borrow.Author.Needs.{needs}
 use Rattle.points.proofs.fill.copied_word.Statement.{statement}
 use Rattle.points.proofs.fill.copied_word.Tie as tie
-use Rattle.points.proofs.fill.copied_word.Reads as reads
-use Rattle.points.proofs.fill.copied_word.Lts as lts
-use Rattle.points.proofs.fill.index.Reads as index-reads
-use Rattle.words.proofs.image.block.Reads as block-reads
-use Rattle.words.proofs.image.word.Reads as word-reads
 
--- src/fill.rt:48:19
 mul-index : tie.Need-mul-index
 mul-index c = search needs
 
--- src/fill.rt:48:19
 element-copy-out-index : tie.Need-element-copy-out-index
 element-copy-out-index c = search needs
 
--- src/fill.rt:48:9
 index-requires : tie.Need-index-requires
 index-requires c κs = search needs
 
--- src/fill.rt:50:9
 returns : tie.Need-returns
 returns c j l = let a = c .before .before .before .before .args in
     let z : getD (a .table .now) (a .v) 0 ≡ 0 = sym (c .before .index .ensures) ∙ c .if1 .taken in
     rw z (mapped-none (memory one (a .image .now)) (8 * a .i + j) j)
 
--- src/fill.rt:52:24
 block-requires : tie.Need-block-requires
 block-requires c κs = search needs
 
--- src/fill.rt:52:5
 word-requires : tie.Need-word-requires
 word-requires c κs = search needs
 
--- src/fill.rt:44:1
 returns-2 : tie.Need-returns-2
 returns-2 c j l = let a = c .before .before .before .before .before .before .args in
     let b = c .before .before .before .index .result in

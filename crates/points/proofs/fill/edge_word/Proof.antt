@@ -7,9 +7,6 @@ use Rattle.points.specs.Plan.{mixedByte}
 use Rattle.points.proofs.NewWord.{Done, next-byte}
 use Rattle.points.proofs.fill.edge_word.Statement.{statement}
 use Rattle.points.proofs.fill.edge_word.Tie as tie
-use Rattle.points.proofs.fill.edge_word.Reads as reads
-use Rattle.points.proofs.fill.edge_word.Lts as lts
-use Rattle.points.proofs.fill.mixed_byte.Reads as mixed-byte-reads
 
 abbrev Inv-loop : tie.InvT-loop
 Inv-loop copied text lead end at word₀ p₀ word p = Done (mixedByte copied text lead end at) at p word
@@ -17,33 +14,26 @@ Inv-loop copied text lead end at word₀ p₀ word p = Done (mixedByte copied te
 abbrev μ-loop : tie.MeasureT-loop
 μ-loop copied text lead end at word₀ p₀ word p = p
 
--- src/fill.rt:75:17
 add-p : tie.Need-add-p Inv-loop μ-loop
 add-p c = omega arith
 
--- src/fill.rt:76:5
 loop-holds : tie.Need-loop-holds Inv-loop μ-loop
 loop-holds c = let z : c .args .at + 8 - (c .args .at + 8) ≡ 0 = omega arith in (omega arith, omega arith, rw z, rw z (omega arith))
 
--- src/fill.rt:77:9
 sub-p : tie.Need-sub-p Inv-loop μ-loop
 sub-p c = omega arith
 
--- src/fill.rt:78:28
 mixed-byte-requires : tie.Need-mixed-byte-requires Inv-loop μ-loop
 mixed-byte-requires c κs = omega arith
 
--- src/fill.rt:76:5
 loop-less : tie.Need-loop-less Inv-loop μ-loop
 loop-less c = omega arith
 
--- src/fill.rt:76:5
 loop-again : tie.Need-loop-again Inv-loop μ-loop
 loop-again c = let a = c .before .before .before .args in
     let l = c .before .before .loop in
     next-byte (mixedByte (a .copied) (a .text .now) (a .lead) (a .end) (a .at)) (a .at) (l .p) (l .word) (c .mixed-byte .result) (l .inv) (omega arith) (c .mixed-byte .ensures .0) (c .mixed-byte .ensures .1)
 
--- src/fill.rt:70:1
 returns : tie.Need-returns Inv-loop μ-loop
 returns c = let l = c .before .loop in
     let a = c .before .before .args in

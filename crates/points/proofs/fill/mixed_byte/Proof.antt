@@ -5,48 +5,35 @@ use Rattle.points.proofs.NewWord.{mixed-text, mixed-before, mixed-after
 use borrow.Author.Needs.{needs}
 use Rattle.points.proofs.fill.mixed_byte.Statement.{statement}
 use Rattle.points.proofs.fill.mixed_byte.Tie as tie
-use Rattle.points.proofs.fill.mixed_byte.Reads as reads
-use Rattle.points.proofs.fill.mixed_byte.Lts as lts
-use Rattle.points.proofs.fill.wide.Reads as wide-reads
-use Rattle.words.proofs.bytes.byte.Reads as byte-reads
 
--- src/fill.rt:61:44
 sub-byte : tie.Need-sub-byte
 sub-byte c = search needs
 
--- src/fill.rt:61:9
 byte-requires : tie.Need-byte-requires
 byte-requires c κs = search needs
 
--- src/fill.rt:61:9
 returns : tie.Need-returns
 returns c = let a = c .before .before .args in
     let e = c .byte .ensures in
     (e ∙ sym (mixed-before (a .copied) (a .text .now) (a .lead) (a .end) (a .at) (a .p) (c .before .if1 .taken)), omega (arith, e, byte-lt (a .copied) (a .p - a .at)))
 
--- src/fill.rt:64:44
 sub-byte-2 : tie.Need-sub-byte-2
 sub-byte-2 c = search needs
 
--- src/fill.rt:64:9
 byte-requires-2 : tie.Need-byte-requires-2
 byte-requires-2 c κs = search needs
 
--- src/fill.rt:64:9
 returns-2 : tie.Need-returns-2
 returns-2 c = let a = c .before .before .before .args in
     let e = c .byte2 .ensures in
     (e ∙ sym (mixed-after (a .copied) (a .text .now) (a .lead) (a .end) (a .at) (a .p) (c .before .if2 .taken)), omega (arith, e, byte-lt (a .copied) (a .p - a .at)))
 
--- src/fill.rt:66:10
 element-copy-out-wide : tie.Need-element-copy-out-wide
 element-copy-out-wide c = search needs
 
--- src/fill.rt:66:5
 wide-requires : tie.Need-wide-requires
 wide-requires c κs = search needs
 
--- src/fill.rt:56:1
 returns-3 : tie.Need-returns-3
 returns-3 c = let a = c .before .before .before .before .args in
     (c .wide .ensures .0 ∙ sym (mixed-text (a .copied) (a .text .now) (a .lead) (a .end) (a .at) (a .p) (omega arith) (omega arith)), c .wide .ensures .1)

@@ -7,70 +7,51 @@ use Rattle.points.proofs.NewWord.{new-word, new-word-copied, new-word-t
 use borrow.Author.Needs.{needs}
 use Rattle.points.proofs.fill.new_word.Statement.{statement}
 use Rattle.points.proofs.fill.new_word.Tie as tie
-use Rattle.points.proofs.fill.new_word.Reads as reads
-use Rattle.points.proofs.fill.new_word.Lts as lts
-use Rattle.points.proofs.fill.copied_word.Reads as copied-word-reads
-use Rattle.points.proofs.fill.edge_word.Reads as edge-word-reads
-use Rattle.points.proofs.fill.text_word.Reads as text-word-reads
 
--- src/fill.rt:88:18
 cast-offset : tie.Need-cast-offset
 cast-offset c = search needs
 
--- src/fill.rt:90:22
 cast-end : tie.Need-cast-end
 cast-end c = search needs
 
--- src/fill.rt:90:15
 add-end : tie.Need-add-end
 add-end c = search needs
 
--- src/fill.rt:91:14
 mul-at : tie.Need-mul-at
 mul-at c = search needs
 
--- src/fill.rt:93:12
 add-if2 : tie.Need-add-if2
 add-if2 c = search needs
 
--- src/fill.rt:94:13
 text-word-requires : tie.Need-text-word-requires
 text-word-requires c κs = search needs
 
--- src/fill.rt:94:13
 returns : tie.Need-returns
 returns c = let a = c .before .before .before .before .before .before .args in
     c .text-word .ensures ∙ sym (new-word-text (memory one (a .image .now)) (a .head) (a .table .now) (a .text .now) (a .k) (omega arith) (omega arith))
 
--- src/fill.rt:97:44
 add-copied-word : tie.Need-add-copied-word
 add-copied-word c = search needs
 
--- src/fill.rt:97:9
 copied-word-requires : tie.Need-copied-word-requires
 copied-word-requires c κs = search needs
 
--- src/fill.rt:98:8
 add-if3 : tie.Need-add-if3
 add-if3 c = search needs
 
--- src/fill.rt:99:9
 returns-2 : tie.Need-returns-2
 returns-2 c = let a = c .before .before .before .before .before .before .args in
     let w = c .before .copied-word in
     sym (new-word-copied (memory one (a .image .now)) (a .head) (a .table .now) (a .text .now) (a .k) (w .result) (w .ensures) (omega arith) (inl (c .if3 .taken)))
 
--- src/fill.rt:102:9
 returns-3 : tie.Need-returns-3
 returns-3 c = let a = c .before .before .before .before .before .before .before .args in
     let w = c .before .before .copied-word in
     sym (new-word-copied (memory one (a .image .now)) (a .head) (a .table .now) (a .text .now) (a .k) (w .result) (w .ensures) (omega arith) (inr (c .if4 .taken)))
 
--- src/fill.rt:104:5
 edge-word-requires : tie.Need-edge-word-requires
 edge-word-requires c κs = search needs
 
--- src/fill.rt:84:1
 returns-4 : tie.Need-returns-4
 returns-4 c = let a = c .before .before .before .before .before .before .before .before .args in
     let w = c .before .before .before .copied-word in

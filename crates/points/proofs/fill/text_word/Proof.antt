@@ -3,103 +3,76 @@ use Rattle.points.proofs.NewWord.{eight-bytes, eight-of}
 use borrow.Author.Needs.{needs}
 use Rattle.points.proofs.fill.text_word.Statement.{statement}
 use Rattle.points.proofs.fill.text_word.Tie as tie
-use Rattle.points.proofs.fill.text_word.Reads as reads
-use Rattle.points.proofs.fill.text_word.Lts as lts
-use Rattle.points.proofs.fill.wide.Reads as wide-reads
 
--- src/fill.rt:33:10
 element-copy-out-wide : tie.Need-element-copy-out-wide
 element-copy-out-wide c = search needs
 
--- src/fill.rt:33:5
 wide-requires : tie.Need-wide-requires
 wide-requires c κs = search needs
 
--- src/fill.rt:34:21
 add-wide : tie.Need-add-wide
 add-wide c = search needs
 
--- src/fill.rt:34:16
 element-copy-out-wide-2 : tie.Need-element-copy-out-wide-2
 element-copy-out-wide-2 c = search needs
 
--- src/fill.rt:34:11
 wide-requires-2 : tie.Need-wide-requires-2
 wide-requires-2 c κs = search needs
 
--- src/fill.rt:35:21
 add-wide-2 : tie.Need-add-wide-2
 add-wide-2 c = search needs
 
--- src/fill.rt:35:16
 element-copy-out-wide-3 : tie.Need-element-copy-out-wide-3
 element-copy-out-wide-3 c = search needs
 
--- src/fill.rt:35:11
 wide-requires-3 : tie.Need-wide-requires-3
 wide-requires-3 c κs = search needs
 
--- src/fill.rt:36:21
 add-wide-3 : tie.Need-add-wide-3
 add-wide-3 c = search needs
 
--- src/fill.rt:36:16
 element-copy-out-wide-4 : tie.Need-element-copy-out-wide-4
 element-copy-out-wide-4 c = search needs
 
--- src/fill.rt:36:11
 wide-requires-4 : tie.Need-wide-requires-4
 wide-requires-4 c κs = search needs
 
--- src/fill.rt:37:21
 add-wide-4 : tie.Need-add-wide-4
 add-wide-4 c = search needs
 
--- src/fill.rt:37:16
 element-copy-out-wide-5 : tie.Need-element-copy-out-wide-5
 element-copy-out-wide-5 c = search needs
 
--- src/fill.rt:37:11
 wide-requires-5 : tie.Need-wide-requires-5
 wide-requires-5 c κs = search needs
 
--- src/fill.rt:38:21
 add-wide-5 : tie.Need-add-wide-5
 add-wide-5 c = search needs
 
--- src/fill.rt:38:16
 element-copy-out-wide-6 : tie.Need-element-copy-out-wide-6
 element-copy-out-wide-6 c = search needs
 
--- src/fill.rt:38:11
 wide-requires-6 : tie.Need-wide-requires-6
 wide-requires-6 c κs = search needs
 
--- src/fill.rt:39:21
 add-wide-6 : tie.Need-add-wide-6
 add-wide-6 c = search needs
 
--- src/fill.rt:39:16
 element-copy-out-wide-7 : tie.Need-element-copy-out-wide-7
 element-copy-out-wide-7 c = search needs
 
--- src/fill.rt:39:11
 wide-requires-7 : tie.Need-wide-requires-7
 wide-requires-7 c κs = search needs
 
--- src/fill.rt:40:21
 add-wide-7 : tie.Need-add-wide-7
 add-wide-7 c = search needs
 
--- src/fill.rt:40:16
 element-copy-out-wide-8 : tie.Need-element-copy-out-wide-8
 element-copy-out-wide-8 c = search needs
 
--- src/fill.rt:40:11
 wide-requires-8 : tie.Need-wide-requires-8
 wide-requires-8 c κs = search needs
 
--- src/fill.rt:29:1
 returns : tie.Need-returns
 returns c =
     let c7 = c .before .before in
