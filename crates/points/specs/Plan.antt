@@ -3,11 +3,12 @@
 use Prim.Native.Nat.{ℕ, _+_, _-_, _/_, _%_}
 use mathlib.Core.Path.{_≡_}
 use mathlib.Core.Bool.{Bool, true, false, _&&_, not}
-use mathlib.Core.List.{List}
+use mathlib.Core.List.{List, [], _∷_}
 use mathlib.Core.Option.{Option, none, some}
 use lib.ListN.{getD}
 use lib.Dec.{leb, ltb}
-use Rattle.words.specs.Edition.{Edition}
+use Rattle.words.specs.Edition.{Edition, blocksMax}
+use Rattle.words.specs.Logic.{every}
 use Rattle.words.specs.Word.{byteOf}
 use Rattle.words.specs.Memory.{Memory, Store}
 use Rattle.log.specs.declared.Place.{Place}
@@ -45,12 +46,12 @@ textAfter Clear text = noText
 textAfter TakeIn text = noText
 textAfter CatchUp text = text
 
--- what a change leans on: the entry keeps its rules, the walk is not broken
+-- what a change leans on: the image is no larger than one may be, and the entry keeps its rules, or the walk is not broken
 unfoldable pub allowed : Change → Edition → Memory → ℕ → Place → ℕ → Bool
 allowed Keep E m blocks at entry = true
 allowed Clear E m blocks at entry = true
-allowed TakeIn E m blocks at entry = legal E blocks entry
-allowed CatchUp E m blocks at entry = not (broken E blocks (ahead E m blocks at))
+allowed TakeIn E m blocks at entry = every (leb blocks blocksMax ∷ legal E blocks entry ∷ [])
+allowed CatchUp E m blocks at entry = every (leb blocks blocksMax ∷ not (broken E blocks (ahead E m blocks at)) ∷ [])
 
 -- ---- the plan's outcome
 

@@ -1,10 +1,13 @@
 // What a step settles before it stores: the answer, the records, what becomes of the record's table and text, and at most one store.
 ghost use mathlib.Core.Path.{_≡_};
 ghost use mathlib.Core.Bool.{true, false};
-ghost use Prim.Native.Nat.{_<_};
+ghost use mathlib.Core.List.{List};
+ghost use Prim.Native.Nat.{ℕ, _<_};
 ghost use Rattle.words.specs.Edition.{one};
+ghost use Rattle.words.specs.Memory.{Memory};
 ghost use Rattle.points.specs.Record.{runWords, noWrite, writing};
-ghost use Rattle.points.specs.Stepping.{turned, toCommit, retried, linkedHead};
+ghost use Rattle.points.specs.Plan.{pointOf, Settles};
+ghost use Rattle.points.specs.Stepping.{refused, turned, toCommit, retried, committedHead, linkedHead};
 use crate::Head;
 use crate::Phase;
 use crate::StepAnswer;
@@ -33,7 +36,15 @@ pub struct Plan {
 }
 
 // A plan that stores a word.
-pub(crate) fn storing(step: StepAnswer, shared: Shared, head: Head, change: Change, block: u32, word: u32, value: u64) -> Plan
+pub(crate) fn storing(
+    step: StepAnswer,
+    shared: Shared,
+    head: Head,
+    change: Change,
+    block: u32,
+    word: u32,
+    value: u64,
+) -> Plan
     ensures { λ r. ⌜ r ≡ record { step = step; shared = shared; head = head; change = change; stores = true; block = block; word = word; value = value } ⌝ }
 {
     Plan {
@@ -62,6 +73,13 @@ pub(crate) fn resting(step: StepAnswer, shared: Shared, head: Head, change: Chan
         word: 0,
         value: 0,
     }
+}
+
+// A step that is refused changes nothing.
+pub(crate) fn refused(number: u32, shared: Shared, head: Head) -> Plan
+    ensures { λ r. ⌜ ((m : Memory) (table text : List ℕ) → Settles one m r (pointOf head table text) (refused number shared (pointOf head table text))) ⌝ }
+{
+    resting(StepAnswer::Refused(number), shared, head, Change::Keep)
 }
 
 // The write at another phase and position.
@@ -111,7 +129,11 @@ pub(crate) fn no_write() -> Write
 pub(crate) fn retried(write: Write) -> u16
     ensures { λ r. ⌜ r ≡ retried write ⌝ }
 {
-    if write.retries < 65535 { write.retries + 1 } else { 65535 }
+    if write.retries < 65535 {
+        write.retries + 1
+    } else {
+        65535
+    }
 }
 
 // The words of the run.
@@ -142,6 +164,24 @@ pub(crate) fn linked_head(head: Head) -> Head
             block: old.zeroing,
             slot: 2,
             passed: head.place.passed + 1,
+        },
+        write,
+    }
+}
+
+// The head one slot on, idle.
+pub(crate) fn committed_head(head: Head) -> Head
+    requires { ⌜ head .place .slot < 64 ⌝ }
+    ensures { λ r. ⌜ r ≡ committedHead head (head .length) ⌝ }
+{
+    let write = no_write();
+    Head {
+        number: head.number,
+        length: head.length,
+        place: Place {
+            block: head.place.block,
+            slot: head.place.slot + 1,
+            passed: head.place.passed,
         },
         write,
     }
