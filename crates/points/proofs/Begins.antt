@@ -12,7 +12,7 @@ use Rattle.words.specs.Edition.{one}
 use Rattle.words.specs.Logic.{Reason, isZero, first, _when_}
 use Rattle.words.specs.Memory.{memory}
 use Rattle.words.proofs.Choice.{chosen-zero}
-use Rattle.words.proofs.Tests.{not-zero, nonzero}
+use Rattle.words.proofs.Tests.{not-zero}
 use Rattle.log.specs.declared.Shared.{Shared}
 use Rattle.log.specs.declared.Place.{Place}
 use Rattle.log.specs.declared.Reply.the-variants.{Done, Refused}
@@ -26,8 +26,7 @@ use Rattle.points.specs.Search.{search, taking}
 use Rattle.points.specs.Unfit.{unfit, Started}
 use Rattle.points.specs.Calls.{beginRefusal, beginning, textOf, newWrite}
 use Rattle.points.proofs.Facts.{TextFits, text-facts, shared-facts}
-use Rattle.points.proofs.Free.{search-spec}
-use Rattle.points.proofs.Passed.{begin-shared, begin-text, begin-end, begin-sound, begin-found}
+use Rattle.points.proofs.Passed.{begin-shared, begin-text, begin-end, begin-sound}
 use Rattle.points.proofs.Unfit.{refused-so, unfit-before, fit-goes-on}
 
 -- ---- the text
@@ -120,7 +119,6 @@ pub record Ready (words : List ℕ) (s : Shared) (p : Point) (offset : ℕ) (tex
   pub sound : broken one (s .blocks) (ahead one (memory one words) (s .blocks) (p .head .place)) ≡ false
   pub few : s .blocks ≤ 1024
   pub fits : TextFits offset (length text)
-  pub inside : search s (span one offset (length text)) + span one offset (length text) ≤ s .blocks
 
 module _ (words : List ℕ) (s : Shared) (p : Point) (offset : ℕ) (text : List ℕ) where
   pub ready : beginRefusal one words s (p .head) (p .table) offset (length text) ≡ 0 → Ready words s p offset text
@@ -131,7 +129,6 @@ module _ (words : List ℕ) (s : Shared) (p : Point) (offset : ℕ) (text : List
         sound = begin-sound words s p offset text e;
         few = f .few-blocks;
         fits = text-facts offset (length text) (begin-text words s p offset text e) (begin-end words s p offset text e);
-        inside = search-spec s (span one offset (length text)) (f .next-some) (nonzero _ (begin-found words s p offset text e)) .inImage;
       }
 
   pub begin-done :

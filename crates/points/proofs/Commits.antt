@@ -11,40 +11,47 @@ use lib.Dec.{ltb}
 use borrow.Author.Tests.{lt-ltb, ltb-true}
 use Rattle.words.specs.Edition.{one}
 use Rattle.words.specs.BlockMap.{mark, markAll}
-use Rattle.words.proofs.Tests.{same-test}
+use Rattle.words.proofs.Logic.{agree}
 use Rattle.log.specs.Entry.{entryOf, legal}
 use Rattle.points.specs.declared.Write.{Write}
 use Rattle.points.specs.declared.Head.{Head}
 use Rattle.points.specs.Record.{span, runBlocks, firstEdge, lastEdge}
 use Rattle.points.specs.Stepping.{entryFor}
-use Rattle.log.proofs.Entry.{Legal, facts-legal, entryV-of, entryB-of, entryN-of, entryU-of, entryRest-of}
+use Rattle.log.proofs.Entry.{Valid, packed, valid-legal}
 
 -- ---- the entry
 
 module _ (blocks v b n u p : ℕ) (few : blocks ≤ 1024) (n-low : 1 ≤ n) (n-high : n ≤ 64) (u-low : 1 ≤ u) (u-high : u ≤ 512) (v-end : v + n ≤ 256) (b-low : 1 ≤ b) (b-end : b + n ≤ blocks) (point : p < 32) where
-  rules : Legal one blocks (entryOf one v b n u p)
+  rules : Valid blocks (entryOf one v b n u p)
   rules =
-      let eV = entryV-of v b n u p (omega arith) (omega arith) (omega arith) (omega arith) point in
-      let eB = entryB-of v b n u p (omega arith) (omega arith) (omega arith) (omega arith) point in
-      let eN = entryN-of v b n u p (omega arith) (omega arith) (omega arith) (omega arith) point in
-      let eU = entryU-of v b n u p (omega arith) (omega arith) (omega arith) (omega arith) point in
+      let k = packed v b n u p (omega arith) (omega arith) (omega arith) (omega arith) point in
       record {
-        n-low = rw eN n-low;
-        n-high = rw eN n-high;
-        u-low = rw eU u-low;
-        u-high = rw eU u-high;
-        rest = entryRest-of v b n u p (omega arith) (omega arith) (omega arith) (omega arith) point;
-        v-end = rw (eV, eN) v-end;
-        b-low = rw eB b-low;
-        b-end = rw (eB, eN) b-end;
+        count = rw (k .isCount) n-low;
+        few = rw (k .isCount) n-high;
+        used = rw (k .isUsed) u-low;
+        block = rw (k .isUsed) u-high;
+        top = k .noTop;
+        virtual = rw (k .isFirst, k .isCount) v-end;
+        from = rw (k .isBlock) b-low;
+        inside = rw (k .isBlock, k .isCount) b-end;
       }
 
-  pub entry-legal : legal one blocks (entryOf one v b n u p) ≡ true
-  entry-legal = facts-legal one blocks (entryOf one v b n u p) rules
+  entry-legal : legal one blocks (entryOf one v b n u p) ≡ true
+  entry-legal = valid-legal blocks (entryOf one v b n u p) rules
 
 -- a run lies in the file
 pub run-in-file : (o t : ℕ) → 1 ≤ t → o + t ≤ 131072 → o / 512 + span one o t ≤ 256
 run-in-file o t some ends = omega arith
+
+-- the used bytes of its last block and the point number fit their fields
+pub used-few : (o t : ℕ) → 1 ≤ t → o + t - 512 * (o / 512 + span one o t - 1) ≤ 512
+used-few o t some = omega arith
+
+pub entry-kept : (v b n u p : ℕ) → u ≤ 512 → p < 32 → entryOf one v b n (u % 1024) (p % 32) ≡ entryOf one v b n u p
+entry-kept v b n u p hu hp =
+    let e : u % 1024 ≡ u = omega arith in
+    let f : p % 32 ≡ p = omega arith in
+    rw (e, f)
 
 pub entry-for-legal :
     (blocks : ℕ) (h : Head) → 1 ≤ h .write .size → h .write .size ≤ 1024 → h .write .offset + h .write .size ≤ 131072 → 1 ≤ h .write .run
@@ -56,7 +63,7 @@ entry-for-legal blocks h some few ends low inside max point =
 -- ---- the edges
 
 same-order : (a b c d : ℕ) → (a < b → c < d) → (c < d → a < b) → ltb a b ≡ ltb c d
-same-order a b c d f g = same-test (ltb a b) (ltb c d) (λ e. lt-ltb c d (f (ltb-true a b e))) (λ e. lt-ltb a b (g (ltb-true c d e)))
+same-order a b c d f g = agree (ltb a b) (ltb c d) (λ e. lt-ltb c d (f (ltb-true a b e))) (λ e. lt-ltb a b (g (ltb-true c d e)))
 
 module _ (w : Write) where
   pub first-edge : ltb 0 (w .offset % 512) || ltb (w .offset % 512 + w .size) 512 ≡ firstEdge one w

@@ -1,11 +1,10 @@
--- Joining: its reasons in their order, the bit that is set or cleared, and what it answers. Assumes nothing.
+-- Joining: its reasons in their order, and what it answers. Assumes nothing.
 use Prim.Native.Nat.{ℕ, zero, suc, _+_, _*_, _-_, _%_, _^_, _≤_, _<_}
 use native.Mathlib.Omega.{arith}
 use mathlib.Core.Path.{_≡_, refl, sym, _∙_, ap}
 use mathlib.Core.Bool.{Bool, true, false, _||_}
 use mathlib.Core.List.{List, [], _∷_}
 use lib.Dec.{leb, ltb, eqb}
-use lib.Bits.{bitAnd, bitOr}
 use borrow.Author.Tests.{ne-eqb, leb-false, ltb-false}
 use Rattle.words.specs.Edition.{one}
 use Rattle.words.specs.Logic.{isZero, first, _when_}
@@ -13,8 +12,6 @@ use Rattle.words.specs.Memory.{Memory, memory}
 use Rattle.words.specs.BlockMap.{withBit}
 use Rattle.words.proofs.Logic.{or-right}
 use Rattle.words.proofs.Choice.{chosen-zero}
-use Rattle.words.proofs.CodeBits.{bit-set, cleared-in}
-use Rattle.words.proofs.CodeMap.{one-set, one-cleared}
 use Rattle.log.specs.declared.Shared.{Shared}
 use Rattle.log.specs.declared.Reply.the-variants.{Done, Refused}
 use Rattle.log.specs.Chain.{firstIndex, outside}
@@ -25,14 +22,6 @@ use Rattle.points.specs.Search.{withJoined}
 use Rattle.points.specs.Calls.{badFirst, joinRefusal, joining}
 use Rattle.points.proofs.Passed.{join-number, join-first}
 use Rattle.points.proofs.Unfit.{refused-so}
-
--- ---- a bit of a number of W bits, as the machine sets and clears it
-
-pub bit-on : (W w j : ℕ) → W ≤ 64 → j < W → bitOr w (1 * 2 ^ j % 2 ^ W) ≡ withBit true w j
-bit-on W w j l h = bit-set W j w h ∙ sym (bit-set 64 j w (omega arith)) ∙ one-set w j (omega arith)
-
-pub bit-off : (W w j : ℕ) → W ≤ 64 → j < W → w < 2 ^ W → w < 2 ^ 64 → bitAnd w (2 ^ W - 1 - 1 * 2 ^ j % 2 ^ W) ≡ withBit false w j
-bit-off W w j l h f g = cleared-in W 1 j w (omega arith) f ∙ sym (cleared-in 64 1 j w (omega arith) g) ∙ one-cleared w j (omega arith) g
 
 -- ---- 18
 

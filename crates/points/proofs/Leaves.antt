@@ -13,7 +13,6 @@ use Rattle.words.proofs.Tests.{no-true}
 use Rattle.log.specs.declared.Shared.{Shared}
 use Rattle.log.specs.declared.Reply.the-variants.{Done, Refused}
 use Rattle.points.specs.declared.Write.{Write}
-use Rattle.points.specs.declared.Head.{Head}
 use Rattle.points.specs.declared.Point.{Point}
 use Rattle.points.specs.declared.Left.{Left}
 use Rattle.points.specs.Record.{isIdle, isZeroing, span, isJoined, fits}
@@ -21,8 +20,7 @@ use Rattle.points.specs.Search.{withJoined, withTaken}
 use Rattle.points.specs.Unfit.{unfit}
 use Rattle.points.specs.Calls.{leaveRefusal, withoutRun, withoutHeld, leaving}
 use Rattle.points.proofs.Fits.{no-bit}
-use Rattle.points.proofs.Facts.{shared-facts, fits-write, run-facts, write-zeroing-facts}
-use Rattle.points.proofs.Unfit.{refused-so, fit-shared, fit-record}
+use Rattle.points.proofs.Unfit.{refused-so}
 
 -- ---- what a point holds
 
@@ -47,15 +45,6 @@ joined-small joined number l e = go (decLt number 32)
     go : Dec (number < 32) → number < 32
     go (yes h) = h
     go (no h) = absurd (no-true e (no-bit 32 joined number l (omega arith)))
-
--- a record that fits holds blocks of the map
-pub held-inside :
-    (words : List ℕ) (s : Shared) (h : Head) (table : List ℕ) → unfit one words s h table ≡ 0
-    → (isIdle (h .write .phase) ≡ false → h .write .run + span one (h .write .offset) (h .write .size) ≤ 1024) × (isIdle (h .write .phase) ≡ false → isZeroing (h .write .phase) ≡ true → h .write .zeroing < 1024)
-held-inside words s h table e =
-    let f = shared-facts words s (fit-shared words s h table e) in
-    let g = fits-write (s .blocks) h table (fit-record words s h table e) in
-    (λ i. let k = run-facts (s .blocks) (h .place) (h .write) (g i) in omega arith, λ i z. let k = write-zeroing-facts (s .blocks) (h .place) (h .write) (g i) z in omega arith)
 
 -- ---- the answers
 

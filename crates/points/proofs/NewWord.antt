@@ -16,7 +16,7 @@ use Rattle.words.proofs.Choice.{choose, choose-true, choose-false}
 use Rattle.words.specs.Logic.{listFrom}
 use Rattle.words.specs.Word.{byteOf, fromBytes}
 use Rattle.words.specs.Memory.{Memory, wordAt}
-use Rattle.words.proofs.CodeBits.{cat}
+use Rattle.words.proofs.Word.{cat}
 use Rattle.log.specs.Replay.{Mapped, mappedByte, fileByte}
 use native.Mathlib.Decide.{decLe, decLt}
 use Rattle.words.specs.Edition.{one}
@@ -49,7 +49,7 @@ pub eight-of :
     → a ≡ getD text i 0 → b ≡ getD text (i + 1) 0 → c ≡ getD text (i + 2) 0 → d ≡ getD text (i + 3) 0
     → e ≡ getD text (i + 4) 0 → f ≡ getD text (i + 5) 0 → g ≡ getD text (i + 6) 0 → h ≡ getD text (i + 7) 0
     → fromBytes (a ∷ b ∷ c ∷ d ∷ e ∷ f ∷ g ∷ h ∷ []) ≡ fromBytes (listFrom i 8 (λ k. getD text k 0))
-eight-of text i ea eb ec ed ee ef eg eh = 
+eight-of text i ea eb ec ed ee ef eg eh =
     let u1 : i + 1 ≡ suc i = omega arith in
     let u2 : i + 2 ≡ suc (suc i) = omega arith in
     let u3 : i + 3 ≡ suc (suc (suc i)) = omega arith in

@@ -1,10 +1,10 @@
 -- The plan of each part of a step stands for the part's definition: one law a part, over a plan that is written out.
 -- The definitions are opened here; a function's proof puts its callees' contracts into the plan and cites the law.
-use Prim.Native.Nat.{ℕ, zero, suc, _+_, _*_, _-_, _/_, _%_, _≤_, _<_}
+use Prim.Native.Nat.{ℕ, _+_, _*_, _-_, _/_, _%_, _≤_, _<_}
 use native.Mathlib.Omega.{arith}
 use native.Mathlib.Numerals.{add-one}
 use mathlib.Core.Path.{_≡_, refl, sym, ap, _∙_}
-use mathlib.Core.Bool.{Bool, true, false, _&&_, not}
+use mathlib.Core.Bool.{true, false, _&&_}
 use mathlib.Core.List.{List, [], _∷_}
 use Rattle.words.specs.Edition.{one}
 use Rattle.words.specs.Logic.{isZero, first, _when_}
@@ -52,16 +52,16 @@ module _ (m : Memory) (s : Shared) (h : Head) (table text : List ℕ) where
   pub fill-settles :
       (k : ℕ)
       → Settles one m
-        (storing Stored s (writing h (turned (h .write) (h .write .phase) (k + 1) (h .write .zeroing) (h .write .retries))) Keep (h .write .run) k (newWord one m h table text k))
-        (pointOf h table text) (fill one m s (pointOf h table text) k)
+      (storing Stored s (writing h (turned (h .write) (h .write .phase) (k + 1) (h .write .zeroing) (h .write .retries))) Keep (h .write .run) k (newWord one m h table text k))
+      (pointOf h table text) (fill one m s (pointOf h table text) k)
   unfolding outcomeOf fileAfter textAfter allowed fill
   fill-settles k = record { outcome = rw add-one; change = refl }
 
   pub zero-settles :
       h .write .position < 64
       → Settles one m
-        (storing Stored s (writing h (turned (h .write) Zeroing (h .write .position + 1) (h .write .zeroing) (h .write .retries))) Keep (h .write .zeroing) (h .write .position) 0)
-        (pointOf h table text) (zero-out s (pointOf h table text))
+      (storing Stored s (writing h (turned (h .write) Zeroing (h .write .position + 1) (h .write .zeroing) (h .write .retries))) Keep (h .write .zeroing) (h .write .position) 0)
+      (pointOf h table text) (zero-out s (pointOf h table text))
   unfolding outcomeOf fileAfter textAfter allowed zero-out
   zero-settles l =
       let b : h .write .zeroing + h .write .position / 64 ≡ h .write .zeroing = omega arith in
@@ -96,8 +96,8 @@ module _ (m : Memory) (s : Shared) (h : Head) (table text : List ℕ) where
   pub commit-settles :
       (map : List ℕ) → map ≡ markAll false (s .taken) (replaced one (h .write) table) → h .place .slot < 64 → s .blocks ≤ 1024 → legal one (s .blocks) (entryFor one h) ≡ true
       → Settles one m
-        (storing (Committed (h .write .retries)) (withTaken s map) (committedHead h (h .length)) TakeIn (h .place .block) (h .place .slot) (entryFor one h))
-        (pointOf h table text) (commit one s (pointOf h table text))
+      (storing (Committed (h .write .retries)) (withTaken s map) (committedHead h (h .length)) TakeIn (h .place .block) (h .place .slot) (entryFor one h))
+      (pointOf h table text) (commit one s (pointOf h table text))
   unfolding outcomeOf fileAfter textAfter allowed commit
   commit-settles map e l few g =
       let b : h .place .block + h .place .slot / 64 ≡ h .place .block = omega arith in
@@ -119,10 +119,10 @@ module _ (m : Memory) (s : Shared) (h : Head) (table text : List ℕ) where
   pub move-settles :
       s .blocks ≤ 1024 → seenNow .broken ≡ false
       → Settles one m
-        (resting Moved s
-          (record { number = h .number; length = h .length; place = seenNow .place; write = refill (firstEdge one (h .write) && seenNow .first) (lastEdge one (h .write) && seenNow .last) one (h .write) })
-          CatchUp)
-        (pointOf h table text) (moveOn one (s .blocks) walk s (pointOf h table text))
+      (resting Moved s
+      (record { number = h .number; length = h .length; place = seenNow .place; write = refill (firstEdge one (h .write) && seenNow .first) (lastEdge one (h .write) && seenNow .last) one (h .write) })
+      CatchUp)
+      (pointOf h table text) (moveOn one (s .blocks) walk s (pointOf h table text))
   unfolding outcomeOf fileAfter textAfter allowed seenBy caughtUp refillAfter
   move-settles few e = record { outcome = sym (go-on m s (pointOf h table text) e); change = all-every _ (le-leb _ _ few, (not-no _ e, tt)) }
 

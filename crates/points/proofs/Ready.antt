@@ -1,15 +1,13 @@
 -- A step that is not refused: what it knows of its records, as facts on numbers; and which definition each way through the code stands for.
-use Prim.Native.Nat.{ℕ, zero, suc, _+_, _*_, _-_, _≤_, _<_}
+use Prim.Native.Nat.{ℕ, zero, suc, _-_, _≤_, _<_}
 use native.Mathlib.Omega.{arith}
-use mathlib.Core.Path.{_≡_, refl, sym, ap, _∙_}
-use mathlib.Core.Bool.{Bool, true, false, _&&_}
+use mathlib.Core.Path.{_≡_, refl, sym, _∙_}
+use mathlib.Core.Bool.{true, false}
 use mathlib.Core.List.{List, [], _∷_}
-use lib.ListN.{getD}
-use lib.Dec.{ltb, eqb}
 use borrow.Author.Tests.{lt-ltb, le-ltb, eq-eqb, ne-eqb, not-false}
 use Rattle.words.specs.Edition.{one}
-use Rattle.words.specs.Logic.{isZero, first, _when_}
-use Rattle.words.specs.Memory.{Memory, memory, wordAt, after}
+use Rattle.words.specs.Logic.{first, _when_}
+use Rattle.words.specs.Memory.{Memory, memory, wordAt}
 use Rattle.words.proofs.Logic.{and-both}
 use Rattle.words.proofs.Tests.{is-zero, not-zero}
 use Rattle.words.proofs.Choice.{chosen-zero, chosen-suc}
@@ -21,9 +19,9 @@ use Rattle.points.specs.declared.Point.{Point}
 use Rattle.points.specs.Record.{runWords, isIdle, isZeroing, isJoined, fits}
 use Rattle.points.specs.Fill.{nextWord}
 use Rattle.points.specs.Unfit.{unfit}
-use Rattle.points.specs.Stepping.{Outcome, refused, fill, commit, atEnd, moveOn, committing, filling, writeOn, stepRefusal, stepping}
+use Rattle.points.specs.Stepping.{refused, fill, commit, atEnd, moveOn, committing, filling, writeOn, stepRefusal, stepping}
 use Rattle.points.specs.Plan.{pointOf}
-use Rattle.points.proofs.Facts.{SharedFits, PlaceFits, RunFits, ZeroingFits, shared-facts, fits-place, fits-write, fits-table, table-inside, run-facts, write-zeroing-facts, write-position}
+use Rattle.points.proofs.Facts.{SharedFits, PlaceFits, RunFits, ZeroingFits, shared-facts, fits-place, fits-write, run-facts, write-zeroing-facts, write-position}
 use Rattle.points.proofs.Unfit.{unfit-before, fit-goes-on}
 use Rattle.points.proofs.Passed.{step-shared, step-fits, step-joined, step-busy}
 use Rattle.points.proofs.Ways.{empty, ended, fill-on, commit-on, store-on, end-on, move-on}
@@ -35,7 +33,6 @@ pub record Ready (words : List ℕ) (s : Shared) (h : Head) (table : List ℕ) :
   pub place : PlaceFits (s .blocks) (h .place)
   pub run : RunFits (s .blocks) (h .write)
   pub joined : isJoined s (h .number) ≡ true
-  pub inside : (v : ℕ) → getD table v 0 < 1024
 
 module _ (words : List ℕ) (s : Shared) (h : Head) (table : List ℕ) (e : stepRefusal one words s h table ≡ 0) where
   fit : fits one (s .blocks) h table ≡ true
@@ -50,7 +47,6 @@ module _ (words : List ℕ) (s : Shared) (h : Head) (table : List ℕ) (e : step
         place = fits-place (s .blocks) h table fit;
         run = run-facts (s .blocks) (h .place) (h .write) w;
         joined = not-false _ (step-joined words s (pointOf h table []) e);
-        inside = λ v. let l = table-inside (s .blocks) table (omega arith) (fits-table (s .blocks) h table fit) v in omega arith;
       }
 
   pub ready-zeroing : isZeroing (h .write .phase) ≡ true → ZeroingFits (s .blocks) (h .place) (h .write)

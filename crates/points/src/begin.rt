@@ -26,7 +26,7 @@ fn refused(reason: u32) -> Start
     ensures { λ r. ⌜ r .reason ≡ reason ⌝ }
 {
     Start {
-        reason: reason,
+        reason,
         place: Place {
             block: 0,
             slot: 0,
@@ -73,8 +73,8 @@ fn settle(
     let place = seen.place;
     Start {
         reason: 0,
-        place: place,
-        run: run,
+        place,
+        run,
     }
 }
 
@@ -95,13 +95,13 @@ fn begun(number: u32, length: u32, place: Place, offset: u32, size: u32, run: u3
     ensures { λ r. ⌜ r ≡ record { number = number; length = length; place = place; write = newWrite offset size run } ⌝ }
 {
     Head {
-        number: number,
-        length: length,
-        place: place,
+        number,
+        length,
+        place,
         write: Write {
-            offset: offset,
-            size: size,
-            run: run,
+            offset,
+            size,
+            run,
             phase: Phase::Filling,
             position: 0,
             zeroing: 0,
@@ -119,8 +119,8 @@ pub fn begin(image: &[u64], shared: Shared, point: Point, offset: usize, text: &
     if start.reason != 0 {
         return Begun {
             reply: Reply::Refused(start.reason),
-            shared: shared,
-            point: point,
+            shared,
+            point,
         };
     }
     let mut p = point;

@@ -1,9 +1,9 @@
 // Committing: the entry is stored, or the log place moves on, or the chain is extended.
 ghost use mathlib.Core.Path.{_≡_};
-ghost use mathlib.Core.Bool.{true, false};
+ghost use mathlib.Core.Bool.{false};
 ghost use mathlib.Core.List.{List, [], _∷_};
-ghost use Prim.Native.Nat.{ℕ, _+_, _-_, _≤_, _<_};
-ghost use lib.ListN.{getD, take, drop};
+ghost use Prim.Native.Nat.{ℕ, _+_, _≤_, _<_};
+ghost use lib.ListN.{take, drop};
 ghost use Rattle.words.specs.Edition.{one};
 ghost use Rattle.words.specs.Memory.{Memory, memory};
 ghost use Rattle.words.specs.BlockMap.{markAll};
@@ -18,7 +18,6 @@ use crate::StepAnswer;
 use crate::Write;
 use crate::plan::Change;
 use crate::plan::Plan;
-use log::Place;
 use log::Shared;
 
 // Whether the run's first block holds copied bytes.
@@ -53,7 +52,13 @@ fn refill(first: bool, last: bool, write: Write) -> Write
     if last {
         return crate::plan::turned(write, Phase::RefillLast, 0, zeroing, retries);
     }
-    crate::plan::turned(write, Phase::Filling, crate::plan::run_words(write), zeroing, retries)
+    crate::plan::turned(
+        write,
+        Phase::Filling,
+        crate::plan::run_words(write),
+        zeroing,
+        retries,
+    )
 }
 
 // The record catches up, and what new entries cover is filled again. Refused where the log is broken.
@@ -69,7 +74,11 @@ fn move_on(image: &[u64], shared: Shared, head: Head) -> Plan
     if seen.broken {
         return crate::plan::refused(log::LOG_BROKEN, shared, head);
     }
-    let later = refill(first_edge(write) & seen.first, last_edge(write) & seen.last, write);
+    let later = refill(
+        first_edge(write) & seen.first,
+        last_edge(write) & seen.last,
+        write,
+    );
     let place = seen.place;
     let caught = Head {
         number: head.number,
@@ -89,12 +98,17 @@ fn entry_for(head: Head) -> u64
     let v = write.offset / 512;
     let n = crate::record::span(write.offset, write.size);
     let used = write.offset + write.size - 512 * (v + n - 1);
-    log::pack::entry(v as u16, write.run as u16, n as u8, used as u16, head.number as u8)
+    log::pack::entry(
+        v as u16,
+        write.run as u16,
+        n as u8,
+        used as u16,
+        head.number as u8,
+    )
 }
 
 // A block that was mapped becomes free; 0 stands for none.
-fn free_mapped(map: &mut [u64; 16], b: u16)
-    requires { ⌜ b < 1024 ⌝ }
+fn free_mapped(map: &mut [u64], b: u16)
     ensures { λ _. ⌜ now (map .exit) ≡ markAll false (now (map .entry)) (b ∷ []) ⌝ }
 {
     if b != 0 {
@@ -103,8 +117,8 @@ fn free_mapped(map: &mut [u64; 16], b: u16)
 }
 
 // The blocks mapped at n virtual blocks from v on become free.
-fn free_replaced(map: &mut [u64; 16], table: &[u16; 256], v: usize, n: usize)
-    requires { ⌜ (v + n ≤ 256) × ((i : ℕ) → getD (now table) i 0 < 1024) ⌝ }
+fn free_replaced(map: &mut [u64], table: &[u16; 256], v: usize, n: usize)
+    requires { ⌜ v + n ≤ 256 ⌝ }
     ensures { λ _. ⌜ now (map .exit) ≡ markAll false (now (map .entry)) (take n (drop v (now (table .entry)))) ⌝ }
 {
     let mut at = v;
@@ -119,8 +133,7 @@ fn free_replaced(map: &mut [u64; 16], table: &[u16; 256], v: usize, n: usize)
 // The entry is stored and taken in, the blocks that it replaces become free, and the point is idle.
 fn commit(shared: Shared, head: Head, table: &[u16; 256]) -> Plan
     requires { ⌜ (1 ≤ head .write .size) × (head .write .size ≤ 1024) × (head .write .offset + head .write .size ≤ 131072) × (1 ≤ head .write .run)
-        × (head .write .run + runBlocks one (head .write) ≤ shared .blocks) × (shared .blocks ≤ 1024) × (head .number < 32) × (head .place .slot < 64)
-        × ((i : ℕ) → getD (now table) i 0 < 1024) ⌝ }
+        × (head .write .run + runBlocks one (head .write) ≤ shared .blocks) × (shared .blocks ≤ 1024) × (head .number < 32) × (head .place .slot < 64) ⌝ }
     ensures { λ r. ⌜ ((m : Memory) (text : List ℕ) → Settles one m r (pointOf head (now (table .entry)) text) (commit one shared (pointOf head (now (table .entry)) text))) ⌝ }
 {
     let write = head.write;
@@ -141,7 +154,6 @@ fn commit(shared: Shared, head: Head, table: &[u16; 256]) -> Plan
 
 // The write ends by 20 or 21: its run becomes free, and the point is idle.
 fn give_up(number: u32, shared: Shared, head: Head) -> Plan
-    requires { ⌜ head .write .run + runBlocks one (head .write) ≤ 1024 ⌝ }
     ensures { λ r. ⌜ ((m : Memory) (table text : List ℕ) → Settles one m r (pointOf head table text) (giveUp one number shared (pointOf head table text))) ⌝ }
 {
     let write = head.write;
@@ -158,7 +170,7 @@ fn give_up(number: u32, shared: Shared, head: Head) -> Plan
 
 // A free block is taken, to be zeroed and linked.
 fn extend(shared: Shared, head: Head, b: u32) -> Plan
-    requires { ⌜ (b ≡ search shared 1) × (b + 1 ≤ 1024) ⌝ }
+    requires { ⌜ b ≡ search shared 1 ⌝ }
     ensures { λ r. ⌜ ((m : Memory) (table text : List ℕ) → Settles one m r (pointOf head table text) (extend one shared (pointOf head table text))) ⌝ }
 {
     let write = head.write;
@@ -173,7 +185,6 @@ fn extend(shared: Shared, head: Head, b: u32) -> Plan
 
 // The log place is at slot 64 with no next index: the chain is extended, or the write ends by 20 or 21.
 fn at_end(shared: Shared, head: Head) -> Plan
-    requires { ⌜ (shared .blocks ≤ 1024) × (1 ≤ shared .next) × (head .write .run + runBlocks one (head .write) ≤ 1024) ⌝ }
     ensures { λ r. ⌜ ((m : Memory) (table text : List ℕ) → Settles one m r (pointOf head table text) (atEnd one shared (pointOf head table text))) ⌝ }
 {
     if 64 <= head.place.passed {

@@ -1,7 +1,6 @@
 // Extending the chain: a block is zeroed word by word, then linked, or given back where another point was first.
-ghost use mathlib.Core.Path.{_≡_};
 ghost use mathlib.Core.List.{List};
-ghost use Prim.Native.Nat.{ℕ, _≤_, _<_};
+ghost use Prim.Native.Nat.{ℕ, _<_};
 ghost use Rattle.words.specs.Edition.{one};
 ghost use Rattle.words.specs.Memory.{Memory, memory};
 ghost use Rattle.points.specs.Stepping.{zero-out, link, giveBack, extending};
@@ -20,7 +19,13 @@ fn zero_out(shared: Shared, head: Head) -> Plan
 {
     let write = head.write;
     let position = write.position;
-    let zeroed = crate::plan::turned(write, Phase::Zeroing, position + 1, write.zeroing, write.retries);
+    let zeroed = crate::plan::turned(
+        write,
+        Phase::Zeroing,
+        position + 1,
+        write.zeroing,
+        write.retries,
+    );
     crate::plan::storing(
         StepAnswer::Stored,
         shared,
@@ -51,7 +56,6 @@ fn link(shared: Shared, head: Head) -> Plan
 
 // A next index is there by now: the zeroed block is given back.
 fn give_back(shared: Shared, head: Head) -> Plan
-    requires { ⌜ head .write .zeroing < 1024 ⌝ }
     ensures { λ r. ⌜ ((m : Memory) (table text : List ℕ) → Settles one m r (pointOf head table text) (giveBack one shared (pointOf head table text))) ⌝ }
 {
     let write = head.write;
@@ -68,7 +72,7 @@ fn give_back(shared: Shared, head: Head) -> Plan
 
 // 64 steps zero the block; the one after looks at the next index.
 pub(crate) fn extending(image: &[u64], shared: Shared, head: Head) -> Plan
-    requires { ⌜ (head .place .passed < 64) × (head .write .zeroing < 1024) ⌝ }
+    requires { ⌜ head .place .passed < 64 ⌝ }
     ensures { λ r. ⌜ ((table text : List ℕ) → Settles one (memory one (now (image .entry))) r (pointOf head table text) (extending one (memory one (now (image .entry))) shared (pointOf head table text))) ⌝ }
 {
     if head.write.position < 64 {

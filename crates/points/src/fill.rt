@@ -84,7 +84,13 @@ fn edge_word(copied: u64, text: &[u8; 1024], lead: usize, end: usize, at: usize)
 }
 
 // Word k of the run: bytes of the write from its text, the others copied from the mapped block as it is now, or 0.
-pub(crate) fn new_word<'a>(image: &[u64], head: Head, table: &'a [u16; 256], text: &'a [u8; 1024], k: u32) -> u64
+pub(crate) fn new_word<'a>(
+    image: &[u64],
+    head: Head,
+    table: &'a [u16; 256],
+    text: &'a [u8; 1024],
+    k: u32,
+) -> u64
     requires { ⌜ (1 ≤ head .write .size) × (head .write .size ≤ 1024) × (head .write .offset + head .write .size ≤ 131072) × (k < runWords one (head .write)) ⌝ }
     ensures { λ r. ⌜ r ≡ newWord one (memory one (now (image .entry))) head (now (table .entry)) (now (text .entry)) k ⌝ }
 {
@@ -97,7 +103,12 @@ pub(crate) fn new_word<'a>(image: &[u64], head: Head, table: &'a [u16; 256], tex
             return text_word(text, at - lead);
         }
     }
-    let copied = copied_word(image, table, offset / 512 + k as usize / 64, k as usize % 64);
+    let copied = copied_word(
+        image,
+        table,
+        offset / 512 + k as usize / 64,
+        k as usize % 64,
+    );
     if at + 8 <= lead {
         return copied;
     }

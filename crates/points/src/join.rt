@@ -48,9 +48,9 @@ fn idle_at(number: u32, place: Place) -> Point
     let text = [0u8; 1024];
     Point {
         head: Head {
-            number: number,
+            number,
             length: 0,
-            place: place,
+            place,
             write: Write {
                 offset: 0,
                 size: 0,
@@ -61,8 +61,8 @@ fn idle_at(number: u32, place: Place) -> Point
                 retries: 0,
             },
         },
-        table: table,
-        text: text,
+        table,
+        text,
     }
 }
 
@@ -74,7 +74,7 @@ pub fn join(image: &[u64], shared: Shared, number: u32) -> Joined
     if reason != 0 {
         return Joined {
             reply: Reply::Refused(reason),
-            shared: shared,
+            shared,
             point: idle_at(
                 0,
                 Place {

@@ -1,9 +1,6 @@
 // Leaving.
 ghost use mathlib.Core.Path.{_≡_};
-ghost use mathlib.Core.Bool.{true, false};
-ghost use Prim.Native.Nat.{_+_, _≤_, _<_};
 ghost use Rattle.words.specs.Edition.{one};
-ghost use Rattle.points.specs.Record.{isIdle, isZeroing, span};
 ghost use Rattle.points.specs.Calls.{withoutHeld, leaving};
 use crate::Left;
 use crate::Point;
@@ -12,8 +9,7 @@ use log::Reply;
 use log::Shared;
 
 // What a point holds becomes free: the run of its write, and the log block being zeroed.
-fn free_held(map: &mut [u64; 16], write: Write)
-    requires { ⌜ (isIdle (write .phase) ≡ false → write .run + span one (write .offset) (write .size) ≤ 1024) × (isIdle (write .phase) ≡ false → isZeroing (write .phase) ≡ true → write .zeroing < 1024) ⌝ }
+fn free_held(map: &mut [u64], write: Write)
     ensures { λ _. ⌜ now (map .exit) ≡ withoutHeld one (now (map .entry)) write ⌝ }
 {
     let phase = write.phase;
@@ -39,7 +35,7 @@ pub fn leave(image: &[u64], shared: Shared, point: Point) -> Left
     if reason != 0 {
         return Left {
             reply: Reply::Refused(reason),
-            shared: shared,
+            shared,
         };
     }
     let mut map = shared.taken;

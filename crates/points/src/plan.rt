@@ -36,7 +36,15 @@ pub struct Plan {
 }
 
 // A plan that stores a word.
-pub(crate) fn storing(step: StepAnswer, shared: Shared, head: Head, change: Change, block: u32, word: u32, value: u64) -> Plan
+pub(crate) fn storing(
+    step: StepAnswer,
+    shared: Shared,
+    head: Head,
+    change: Change,
+    block: u32,
+    word: u32,
+    value: u64,
+) -> Plan
     ensures { λ r. ⌜ r ≡ record { step = step; shared = shared; head = head; change = change; stores = true; block = block; word = word; value = value } ⌝ }
 {
     Plan {
@@ -121,7 +129,11 @@ pub(crate) fn no_write() -> Write
 pub(crate) fn retried(write: Write) -> u16
     ensures { λ r. ⌜ r ≡ retried write ⌝ }
 {
-    if write.retries < 65535 { write.retries + 1 } else { 65535 }
+    if write.retries < 65535 {
+        write.retries + 1
+    } else {
+        65535
+    }
 }
 
 // The words of the run.

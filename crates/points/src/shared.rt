@@ -1,7 +1,7 @@
 // Changes of the shared record: points that join or leave, blocks that are taken or become free.
 ghost use mathlib.Core.Path.{_≡_};
 ghost use mathlib.Core.Bool.{true, false};
-ghost use Prim.Native.Nat.{_+_, _≤_, _<_};
+ghost use Prim.Native.Nat.{_<_};
 ghost use Rattle.words.specs.BlockMap.{withBit};
 ghost use Rattle.points.specs.Search.{search, nextAfter, taking, withJoined, withTaken};
 use log::Shared;
@@ -42,7 +42,6 @@ pub(crate) fn without_point(joined: u32, number: u32) -> u32
 
 // A run of n free blocks: its first block, 0 where there is none.
 pub(crate) fn search(shared: Shared, n: u32) -> u32
-    requires { ⌜ shared .blocks ≤ 1024 ⌝ }
     ensures { λ r. ⌜ r ≡ search shared n ⌝ }
 {
     words::map::search(
@@ -65,7 +64,6 @@ fn next_after(blocks: u32, b: u64) -> u32
 
 // The shared record with a run taken, and the next place after it.
 pub(crate) fn take(shared: Shared, run: u32, n: u32) -> Shared
-    requires { ⌜ run + n ≤ 1024 ⌝ }
     ensures { λ r. ⌜ r ≡ taking shared run n ⌝ }
 {
     let mut map = shared.taken;

@@ -9,18 +9,22 @@ ghost use Rattle.points.specs.Record.{runWords, isZeroing, fileAt};
 ghost use Rattle.points.specs.Stepping.{fill, filling, writeOn, stepRefusal, stepping};
 ghost use Rattle.points.specs.Plan.{answered, pointOf, Settles, allowed, fileAfter, textAfter, placed, lengthened};
 use crate::Head;
-use crate::Phase;
 use crate::Point;
 use crate::StepAnswer;
 use crate::Stepped;
-use crate::Write;
 use crate::plan::Change;
 use crate::plan::Plan;
-use log::Place;
 use log::Shared;
 
 // Word k of the run is filled.
-fn fill<'a>(image: &[u64], shared: Shared, head: Head, table: &'a [u16; 256], text: &'a [u8; 1024], k: u32) -> Plan
+fn fill<'a>(
+    image: &[u64],
+    shared: Shared,
+    head: Head,
+    table: &'a [u16; 256],
+    text: &'a [u8; 1024],
+    k: u32,
+) -> Plan
     requires { ⌜ (1 ≤ head .write .size) × (head .write .size ≤ 1024) × (head .write .offset + head .write .size ≤ 131072) × (k < runWords one (head .write)) ⌝ }
     ensures { λ r. ⌜ Settles one (memory one (now (image .entry))) r (pointOf head (now (table .entry)) (now (text .entry)))
         (fill one (memory one (now (image .entry))) shared (pointOf head (now (table .entry)) (now (text .entry))) k) ⌝ }
@@ -41,7 +45,13 @@ fn fill<'a>(image: &[u64], shared: Shared, head: Head, table: &'a [u16; 256], te
 }
 
 // The next word of the run is filled; where none is left, the step commits.
-fn filling<'a>(image: &[u64], shared: Shared, head: Head, table: &'a [u16; 256], text: &'a [u8; 1024]) -> Plan
+fn filling<'a>(
+    image: &[u64],
+    shared: Shared,
+    head: Head,
+    table: &'a [u16; 256],
+    text: &'a [u8; 1024],
+) -> Plan
     requires { ⌜ (stepRefusal one (now image) shared head (now table) ≡ 0) × (isZeroing (head .write .phase) ≡ false) ⌝ }
     ensures { λ r. ⌜ Settles one (memory one (now (image .entry))) r (pointOf head (now (table .entry)) (now (text .entry)))
         (filling one (memory one (now (image .entry))) shared (pointOf head (now (table .entry)) (now (text .entry)))) ⌝ }
@@ -55,7 +65,13 @@ fn filling<'a>(image: &[u64], shared: Shared, head: Head, table: &'a [u16; 256],
 }
 
 // What a step does that is not refused.
-fn write_on<'a>(image: &[u64], shared: Shared, head: Head, table: &'a [u16; 256], text: &'a [u8; 1024]) -> Plan
+fn write_on<'a>(
+    image: &[u64],
+    shared: Shared,
+    head: Head,
+    table: &'a [u16; 256],
+    text: &'a [u8; 1024],
+) -> Plan
     requires { ⌜ stepRefusal one (now image) shared head (now table) ≡ 0 ⌝ }
     ensures { λ r. ⌜ Settles one (memory one (now (image .entry))) r (pointOf head (now (table .entry)) (now (text .entry)))
         (writeOn one (memory one (now (image .entry))) shared (pointOf head (now (table .entry)) (now (text .entry)))) ⌝ }
@@ -69,7 +85,13 @@ fn write_on<'a>(image: &[u64], shared: Shared, head: Head, table: &'a [u16; 256]
 }
 
 // The plan of a step.
-fn settle<'a>(image: &[u64], shared: Shared, head: Head, table: &'a [u16; 256], text: &'a [u8; 1024]) -> Plan
+fn settle<'a>(
+    image: &[u64],
+    shared: Shared,
+    head: Head,
+    table: &'a [u16; 256],
+    text: &'a [u8; 1024],
+) -> Plan
     ensures { λ r. ⌜ Settles one (memory one (now (image .entry))) r (pointOf head (now (table .entry)) (now (text .entry)))
         (stepping one (now (image .entry)) shared (pointOf head (now (table .entry)) (now (text .entry)))) ⌝ }
 {
@@ -86,7 +108,14 @@ fn settle<'a>(image: &[u64], shared: Shared, head: Head, table: &'a [u16; 256], 
 }
 
 // The table takes in what the plan says: nothing, the entry stored, or all entries ahead. Answers the length that the record has then.
-fn take_in(image: &[u64], blocks: u32, head: Head, table: &mut [u16; 256], change: Change, entry: u64) -> u32
+fn take_in(
+    image: &[u64],
+    blocks: u32,
+    head: Head,
+    table: &mut [u16; 256],
+    change: Change,
+    entry: u64,
+) -> u32
     requires { ⌜ allowed change one (memory one (now image)) blocks (head .place) entry ≡ true ⌝ }
     ensures { λ r. ⌜ record { table = now (table .exit); size = r } ≡ fileAfter change one (memory one (now (image .entry))) blocks (head .place) entry (fileAt head (now (table .entry))) ⌝ }
 {

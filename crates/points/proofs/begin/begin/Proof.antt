@@ -20,7 +20,7 @@ returns c =
     begin-refused (a .image .now) (a .shared) (a .t3) (a .offset) (a .text .now) (q .result .reason) (q .ensures .refusal) (c .if1 .taken)
 
 catch-up-requires : tie.Need-catch-up-requires
-catch-up-requires c κs = let r = passed (c .before) in (r .sound, r .few)
+catch-up-requires c κs = search needs
 
 text-of-requires : tie.Need-text-of-requires
 text-of-requires c κs = passed (c .before .before) .fits .few-text
@@ -38,17 +38,15 @@ span-requires : tie.Need-span-requires
 span-requires c κs = search needs
 
 take-requires : tie.Need-take-requires
-take-requires c κs =
-    let r = passed (c .before .before .before .before .before) in
-    let run = c .before .before .before .before .before .before .before .settle .ensures .found (c .before .before .before .before .before .if1 .left) in
-    omega (arith, r .inside, r .few, run, c .span .ensures)
+take-requires c κs = search needs
 
 returns-2 : tie.Need-returns-2
 returns-2 c =
     let a = c .before .before .before .before .before .before .before .before .before .before .before .before .before .before .args in
     let q = c .before .before .before .before .before .before .before .before .settle in
     let z = c .before .before .before .before .before .before .if1 .left in
-    begin-done (a .image .now) (a .shared) (a .t3) (a .offset) (a .text .now) (passed (c .before .before .before .before .before .before)) _ _ _ _ _ _ _ _ (q .ensures .tail z) (q .ensures .found z) (c .before .before .before .before .catch-up .ensures)
+    let r = passed (c .before .before .before .before .before .before) in
+    begin-done (a .image .now) (a .shared) (a .t3) (a .offset) (a .text .now) r _ _ _ _ _ _ _ _ (q .ensures .tail z) (q .ensures .found z) (c .before .before .before .before .catch-up .ensures (r .few) (r .sound))
     (c .before .before .before .text-of .ensures) (c .before .before .begun .ensures) (c .before .span .ensures) (c .take .ensures)
 
 pub begin-spec : {M : Type 1} → statement M

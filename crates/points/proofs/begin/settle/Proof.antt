@@ -103,7 +103,7 @@ span-requires : tie.Need-span-requires
 span-requires c κs = search needs
 
 search-requires : tie.Need-search-requires
-search-requires c κs = let a = c .before .before .before .before .before .before .before .before .before .before .before .before .before .args in shared-facts (a .image .now) (a .shared) (fit-shared (a .image .now) (a .shared) (a .head) (a .table .now) (not-14 (c .before .before .before .before .before .before .before .before .before .before))) .few-blocks
+search-requires c κs = search needs
 
 refused-requires-6 : tie.Need-refused-requires-6
 refused-requires-6 c κs = search needs

@@ -1,4 +1,5 @@
-use mathlib.Core.Path.{_≡_, refl, sym, ap, _∙_}
+-- `points::commit::committing`: one law for each way through the tests of slot and word; what its callees ask is what a record that fits tells.
+use mathlib.Core.Path.{sym, ap, _∙_}
 use native.Mathlib.Omega.{arith}
 use Rattle.words.specs.Edition.{one}
 use Rattle.words.specs.Memory.{memory}
@@ -26,52 +27,73 @@ word-requires : tie.Need-word-requires
 word-requires c κs = search needs
 
 commit-requires : tie.Need-commit-requires
-commit-requires c κs = let a = c .before .before .before .before .before .before .before .args in
-    let f = ready (a .image .now) (a .shared) (a .head) (a .table .now) (c .before .before .before .before .before .before .before .pre) in
+commit-requires c κs =
+    let pre = c .before .before .before .before .before .before .before .pre in
+    let if1 = c .before .before .if1 in
+    let a = c .before .before .before .before .before .before .before .args in
+    let f = ready (a .image .now) (a .shared) (a .head) (a .table .now) pre in
     let r = f .run in
-    (r .text .some-text, r .text .few-text, r .text .ends-inside, r .run-some, r .run-inside, f .shared .few-blocks, joined-small (a .shared .joined) (a .head .number) (omega arith) (f .joined), c .before .before .if1 .taken, f .inside)
+    (r .text .some-text, r .text .few-text, r .text .ends-inside, r .run-some, r .run-inside, f .shared .few-blocks, joined-small (a .shared .joined) (a .head .number) (omega arith) (f .joined), if1 .taken)
 
 returns : tie.Need-returns
-returns c text = let a = c .before .before .before .before .before .before .before .before .args in
+returns c text =
+    let block = c .before .before .before .before .block in
+    let if1 = c .before .before .before .if1 in
+    let word = c .before .before .word in
+    let a = c .before .before .before .before .before .before .before .before .args in
     let m = memory one (a .image .now) in
-    let f = ready (a .image .now) (a .shared) (a .head) (a .table .now) (c .before .before .before .before .before .before .before .before .pre) in
-    settles-as (c .commit .ensures m text) (slot-empty m (a .shared) (pointOf (a .head) (a .table .now) text) (c .before .before .before .if1 .taken) (sym (c .before .before .word .ensures ∙ ap (λ (part : List ℕ). getD part (a .head .place .slot) 0) (c .before .before .before .before .block .ensures)) ∙ c .before .if2 .taken))
+    settles-as (c .commit .ensures m text) (slot-empty m (a .shared) (pointOf (a .head) (a .table .now) text) (if1 .taken) (sym (word .ensures ∙ ap (λ (part : List ℕ). getD part (a .head .place .slot) 0) (block .ensures)) ∙ c .before .if2 .taken))
 
 move-on-requires : tie.Need-move-on-requires
-move-on-requires c κs = let a = c .before .before .before .before .before .before .before .args in
-    let f = ready (a .image .now) (a .shared) (a .head) (a .table .now) (c .before .before .before .before .before .before .before .pre) in
+move-on-requires c κs =
+    let pre = c .before .before .before .before .before .before .before .pre in
+    let a = c .before .before .before .before .before .before .before .args in
+    let f = ready (a .image .now) (a .shared) (a .head) (a .table .now) pre in
     f .shared .few-blocks
 
 returns-2 : tie.Need-returns-2
-returns-2 c text = let a = c .before .before .before .before .before .before .before .before .args in
+returns-2 c text =
+    let block = c .before .before .before .before .block in
+    let if1 = c .before .before .before .if1 in
+    let word = c .before .before .word in
+    let a = c .before .before .before .before .before .before .before .before .args in
     let m = memory one (a .image .now) in
-    let f = ready (a .image .now) (a .shared) (a .head) (a .table .now) (c .before .before .before .before .before .before .before .before .pre) in
-    settles-as (c .move-on .ensures (a .table .now) text) (slot-taken m (a .shared) (pointOf (a .head) (a .table .now) text) (c .before .before .before .if1 .taken) (λ e. c .before .if2 .left (c .before .before .word .ensures ∙ ap (λ (part : List ℕ). getD part (a .head .place .slot) 0) (c .before .before .before .before .block .ensures) ∙ e)))
+    settles-as (c .move-on .ensures (a .table .now) text) (slot-taken m (a .shared) (pointOf (a .head) (a .table .now) text) (if1 .taken) (λ e. c .before .if2 .left (word .ensures ∙ ap (λ (part : List ℕ). getD part (a .head .place .slot) 0) (block .ensures) ∙ e)))
 
 word-requires-2 : tie.Need-word-requires-2
 word-requires-2 c κs = search needs
 
 at-end-requires : tie.Need-at-end-requires
-at-end-requires c κs = let a = c .before .before .before .before .before .before .before .args in
-    let f = ready (a .image .now) (a .shared) (a .head) (a .table .now) (c .before .before .before .before .before .before .before .pre) in
-    (f .shared .few-blocks, f .shared .next-some, omega (arith, f .run .run-inside, f .shared .few-blocks))
+at-end-requires c κs = search needs
 
 returns-3 : tie.Need-returns-3
-returns-3 c text = let a = c .before .before .before .before .before .before .before .before .args in
+returns-3 c text =
+    let pre = c .before .before .before .before .before .before .before .before .pre in
+    let block = c .before .before .before .before .block in
+    let if1 = c .before .before .before .if1 in
+    let word2 = c .before .before .word2 in
+    let a = c .before .before .before .before .before .before .before .before .args in
     let m = memory one (a .image .now) in
-    let f = ready (a .image .now) (a .shared) (a .head) (a .table .now) (c .before .before .before .before .before .before .before .before .pre) in
-    settles-as (c .at-end .ensures m (a .table .now) text) (chain-ends m (a .shared) (pointOf (a .head) (a .table .now) text) (omega (arith, c .before .before .before .if1 .left, f .place .slot-high)) (sym (c .before .before .word2 .ensures ∙ ap (λ (part : List ℕ). getD part 0 0) (c .before .before .before .before .block .ensures)) ∙ c .before .if3 .taken))
+    let f = ready (a .image .now) (a .shared) (a .head) (a .table .now) pre in
+    settles-as (c .at-end .ensures m (a .table .now) text) (chain-ends m (a .shared) (pointOf (a .head) (a .table .now) text) (omega (arith, if1 .left, f .place .slot-high)) (sym (word2 .ensures ∙ ap (λ (part : List ℕ). getD part 0 0) (block .ensures)) ∙ c .before .if3 .taken))
 
 move-on-requires-2 : tie.Need-move-on-requires-2
-move-on-requires-2 c κs = let a = c .before .before .before .before .before .before .before .args in
-    let f = ready (a .image .now) (a .shared) (a .head) (a .table .now) (c .before .before .before .before .before .before .before .pre) in
+move-on-requires-2 c κs =
+    let pre = c .before .before .before .before .before .before .before .pre in
+    let a = c .before .before .before .before .before .before .before .args in
+    let f = ready (a .image .now) (a .shared) (a .head) (a .table .now) pre in
     f .shared .few-blocks
 
 returns-4 : tie.Need-returns-4
-returns-4 c text = let a = c .before .before .before .before .before .before .before .before .args in
+returns-4 c text =
+    let pre = c .before .before .before .before .before .before .before .before .pre in
+    let block = c .before .before .before .before .block in
+    let if1 = c .before .before .before .if1 in
+    let word2 = c .before .before .word2 in
+    let a = c .before .before .before .before .before .before .before .before .args in
     let m = memory one (a .image .now) in
-    let f = ready (a .image .now) (a .shared) (a .head) (a .table .now) (c .before .before .before .before .before .before .before .before .pre) in
-    settles-as (c .move-on2 .ensures (a .table .now) text) (chain-goes-on m (a .shared) (pointOf (a .head) (a .table .now) text) (omega (arith, c .before .before .before .if1 .left, f .place .slot-high)) (λ e. c .before .if3 .left (c .before .before .word2 .ensures ∙ ap (λ (part : List ℕ). getD part 0 0) (c .before .before .before .before .block .ensures) ∙ e)))
+    let f = ready (a .image .now) (a .shared) (a .head) (a .table .now) pre in
+    settles-as (c .move-on2 .ensures (a .table .now) text) (chain-goes-on m (a .shared) (pointOf (a .head) (a .table .now) text) (omega (arith, if1 .left, f .place .slot-high)) (λ e. c .before .if3 .left (word2 .ensures ∙ ap (λ (part : List ℕ). getD part 0 0) (block .ensures) ∙ e)))
 
 pub committing-spec : {M : Type 1} → statement M
 committing-spec =

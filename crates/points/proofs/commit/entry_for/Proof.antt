@@ -1,3 +1,9 @@
+-- `points::commit::entry_for`: used bytes and point number fit their fields, so the entry is the definition's.
+use mathlib.Core.Path.{_∙_}
+use Rattle.points.proofs.Commits.{used-few, entry-kept}
+use Prim.Native.Nat.{_+_, _*_, _-_, _/_}
+use Rattle.words.specs.Edition.{one}
+use Rattle.points.specs.Record.{span}
 use borrow.Author.Needs.{needs}
 use Rattle.points.proofs.commit.entry_for.Statement.{statement}
 use Rattle.points.proofs.commit.entry_for.Tie as tie
@@ -39,7 +45,13 @@ entry-requires : tie.Need-entry-requires
 entry-requires c κs = search needs
 
 returns : tie.Need-returns
-returns c = rw (c .entry .ensures, c .before .before .before .before .span .ensures)
+returns c =
+    let args = c .before .before .before .before .before .before .before .args in
+    let span-call = c .before .before .before .before .span in
+    let w = args .head .write in
+    let p = c .before .before .before .before .before .before .before .pre in
+    let n = span one (w .offset) (w .size) in
+    c .entry .ensures ∙ rw (span-call .ensures) (entry-kept (w .offset / 512) (w .run) n (w .offset + w .size - 512 * (w .offset / 512 + n - 1)) (args .head .number) (used-few (w .offset) (w .size) (p .0)) (p .4))
 
 pub entry-for-spec : {M : Type 1} → statement M
 entry-for-spec =

@@ -1,21 +1,24 @@
-use mathlib.Core.Path.{_≡_, refl, sym, ap, _∙_}
+-- `points::commit::free_replaced`: what is left to free makes of the map so far what the whole list makes of the first.
+use mathlib.Core.Path.{_≡_, refl, _∙_}
 use native.Mathlib.Omega.{arith}
 use Prim.Native.Nat.{_+_}
 use mathlib.Core.Bool.{false}
-use lib.ListN.{take, drop}
+use lib.ListN.{length, take, drop}
 use Rattle.words.specs.BlockMap.{markAll}
 use Rattle.points.proofs.Commits.{freed-one, freed-all}
+use borrow.Author.Needs.{needs}
 use Rattle.points.proofs.commit.free_replaced.Statement.{statement}
 use Rattle.points.proofs.commit.free_replaced.Tie as tie
 
 abbrev Inv-loop : tie.InvT-loop
-Inv-loop map₀ table v n at₀ left₀ map at left = (at + left ≡ v + n) × (markAll false map₀ (take n (drop v table)) ≡ markAll false map (take left (drop at table)))
+Inv-loop map₀ table v n at₀ left₀ map at left =
+    (at + left ≡ v + n) × (markAll false map₀ (take n (drop v table)) ≡ markAll false map (take left (drop at table))) × (length map ≡ length map₀)
 
 abbrev μ-loop : tie.MeasureT-loop
 μ-loop map₀ table v n at₀ left₀ map at left = left
 
 loop-holds : tie.Need-loop-holds Inv-loop μ-loop
-loop-holds c = (omega arith, refl)
+loop-holds c = (refl, refl, refl)
 
 mul-free-mapped : tie.Need-mul-free-mapped Inv-loop μ-loop
 mul-free-mapped c = omega arith
@@ -24,7 +27,7 @@ element-copy-out-free-mapped : tie.Need-element-copy-out-free-mapped Inv-loop μ
 element-copy-out-free-mapped c = omega arith
 
 free-mapped-requires : tie.Need-free-mapped-requires Inv-loop μ-loop
-free-mapped-requires c κs = c .before .before .before .before .pre .1 (c .before .before .before .loop .at)
+free-mapped-requires c κs = search needs
 
 add-at : tie.Need-add-at Inv-loop μ-loop
 add-at c = omega arith
@@ -36,12 +39,16 @@ loop-less : tie.Need-loop-less Inv-loop μ-loop
 loop-less c = omega arith
 
 loop-again : tie.Need-loop-again Inv-loop μ-loop
-loop-again c = let a = c .before .before .before .before .before .args in
-    let l = c .before .before .before .before .loop in
-    (omega arith, freed-one (a .map .now) (l .map) (c .free-mapped .last .0) (a .table .now) (a .n) (a .v) (l .left) (l .at) (omega arith) (l .inv .1) (c .free-mapped .ensures))
+loop-again c = let a = c .before .before .before .before .before .before .before .before .args in
+    let l = c .before .before .before .before .before .before .loop in
+    let f = c .before .before .free-mapped in
+    (omega arith, freed-one (a .map .now) (l .map) (f .last .0) (a .table .now) (a .n) (a .v) (l .left) (l .at) (omega arith) (l .inv .1) (f .ensures), f .kept .0 ∙ l .inv .2)
+
+same-length : tie.Need-same-length Inv-loop μ-loop
+same-length c = c .before .loop .inv .2
 
 returns : tie.Need-returns Inv-loop μ-loop
-returns c = let a = c .before .before .args in
+returns c = let a = c .before .before .before .args in
     let l = c .before .loop in
     freed-all (a .map .now) (l .map) (a .table .now) (a .n) (a .v) (l .left) (l .at) (omega arith) (l .inv .1)
 
@@ -59,4 +66,5 @@ free-replaced-spec =
     sub-left
     loop-less
     loop-again
+    same-length
     returns)

@@ -1,3 +1,4 @@
+-- `points::commit::last_edge`: the definition's order, counted from the run's start.
 use Rattle.points.proofs.Commits.{last-edge}
 use borrow.Author.Needs.{needs}
 use Rattle.points.proofs.commit.last_edge.Statement.{statement}
@@ -22,7 +23,9 @@ mul-result : tie.Need-mul-result
 mul-result c = search needs
 
 returns : tie.Need-returns
-returns c = last-edge (c .before .before .before .args .write) (c .before .span .result) (c .before .span .ensures)
+returns c =
+    let args = c .before .before .before .args in
+    last-edge (args .write) (c .before .span .result) (c .before .span .ensures)
 
 pub last-edge-spec : {M : Type 1} → statement M
 last-edge-spec =

@@ -1,5 +1,5 @@
-use mathlib.Core.Path.{_≡_, refl, sym, ap, _∙_}
-use native.Mathlib.Omega.{arith}
+-- `points::extend::extending`: one law for each way through the tests of position and next index.
+use mathlib.Core.Path.{sym, _∙_}
 use Rattle.words.specs.Edition.{one}
 use Rattle.words.specs.Memory.{memory}
 use borrow.Author.Tests.{lt-ltb, le-ltb}
@@ -29,17 +29,23 @@ link-requires : tie.Need-link-requires
 link-requires c κs = search needs
 
 returns-2 : tie.Need-returns-2
-returns-2 c table text = let a = c .before .before .before .before .before .before .before .args in
+returns-2 c table text =
+    let if1 = c .before .before .before .before .if1 in
+    let next-index = c .before .before .next-index in
+    let a = c .before .before .before .before .before .before .before .args in
     let m = memory one (a .image .now) in
-    settles-as (c .link .ensures m table text) (link-on m (a .shared) (pointOf (a .head) table text) (le-ltb _ _ (c .before .before .before .before .if1 .left)) (is-zero _ (sym (c .before .before .next-index .ensures) ∙ c .before .if2 .taken)))
+    settles-as (c .link .ensures m table text) (link-on m (a .shared) (pointOf (a .head) table text) (le-ltb _ _ (if1 .left)) (is-zero _ (sym (next-index .ensures) ∙ c .before .if2 .taken)))
 
 give-back-requires : tie.Need-give-back-requires
 give-back-requires c κs = search needs
 
 returns-3 : tie.Need-returns-3
-returns-3 c table text = let a = c .before .before .before .before .before .before .before .args in
+returns-3 c table text =
+    let if1 = c .before .before .before .before .if1 in
+    let next-index = c .before .before .next-index in
+    let a = c .before .before .before .before .before .before .before .args in
     let m = memory one (a .image .now) in
-    settles-as (c .give-back .ensures m table text) (lost-on m (a .shared) (pointOf (a .head) table text) (le-ltb _ _ (c .before .before .before .before .if1 .left)) (not-zero _ (λ e. c .before .if2 .left (c .before .before .next-index .ensures ∙ e))))
+    settles-as (c .give-back .ensures m table text) (lost-on m (a .shared) (pointOf (a .head) table text) (le-ltb _ _ (if1 .left)) (not-zero _ (λ e. c .before .if2 .left (next-index .ensures ∙ e))))
 
 pub extending-spec : {M : Type 1} → statement M
 extending-spec =

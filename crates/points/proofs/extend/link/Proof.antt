@@ -1,3 +1,4 @@
+-- `points::extend::link`: the zeroed block's index is stored in word 0 of the log block.
 use Rattle.points.proofs.Planned.{link-settles}
 use borrow.Author.Needs.{needs}
 use Rattle.points.proofs.extend.link.Statement.{statement}

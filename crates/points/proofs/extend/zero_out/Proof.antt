@@ -1,3 +1,4 @@
+-- `points::extend::zero_out`: the word at the position gets 0.
 use native.Mathlib.Omega.{arith}
 use Rattle.points.proofs.Planned.{zero-settles}
 use borrow.Author.Needs.{needs}
@@ -17,8 +18,10 @@ storing-requires : tie.Need-storing-requires
 storing-requires c κs = search needs
 
 returns : tie.Need-returns
-returns c m table text = let a = c .before .before .before .before .args in
-    rw (c .storing .ensures, c .before .writing .ensures, c .before .before .turned .ensures) (zero-settles m (a .shared) (a .head) table text (omega arith))
+returns c m table text =
+    let turned = c .before .before .turned in
+    let a = c .before .before .before .before .args in
+    rw (c .storing .ensures, c .before .writing .ensures, turned .ensures) (zero-settles m (a .shared) (a .head) table text (omega arith))
 
 pub zero-out-spec : {M : Type 1} → statement M
 zero-out-spec =

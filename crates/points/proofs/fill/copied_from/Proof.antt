@@ -1,3 +1,4 @@
+-- `points::fill::copied_from`: the place itself where it lies before the text; otherwise the first place from which a word reaches past the text.
 use native.Mathlib.Omega.{arith}
 use Rattle.points.proofs.NextWord.{first-here, first-behind}
 use borrow.Author.Needs.{needs}

@@ -1,3 +1,4 @@
+-- `points::fill::copied_word`: nothing is mapped, and every byte is 0; or the bytes are those of the mapped block.
 use Prim.Native.Nat.{ℕ, _+_, _*_}
 use mathlib.Core.Path.{_≡_, sym, ap, _∙_}
 use mathlib.Core.List.{List}
@@ -30,10 +31,13 @@ word-requires : tie.Need-word-requires
 word-requires c κs = search needs
 
 returns-2 : tie.Need-returns-2
-returns-2 c j l = let a = c .before .before .before .before .before .before .args in
-    let b = c .before .before .before .index .result in
+returns-2 c j l =
+    let index = c .before .before .before .index in
+    let if1 = c .before .before .if1 in
+    let a = c .before .before .before .before .before .before .args in
+    let b = index .result in
     let e : c .word .result ≡ wordAt (memory one (a .image .now)) b (a .i) = c .word .ensures ∙ ap (λ (part : List ℕ). getD part (a .i) 0) (c .before .block .ensures) in
-    rw (e, ← c .before .before .before .index .ensures) (mapped-word (memory one (a .image .now)) b (a .i) j (c .before .before .if1 .left) l)
+    rw (e, ← index .ensures) (mapped-word (memory one (a .image .now)) b (a .i) j (if1 .left) l)
 
 pub copied-word-spec : {M : Type 1} → statement M
 copied-word-spec =

@@ -1,8 +1,7 @@
-use Prim.Native.Nat.{ℕ, _+_, _*_, _-_, _^_, _≤_, _<_}
-use mathlib.Core.Path.{_≡_, refl}
+-- `points::fill::edge_word`: from the last byte down, the word so far is the definition's list of bytes from that place on.
+use Prim.Native.Nat.{_+_, _-_}
+use mathlib.Core.Path.{_≡_}
 use native.Mathlib.Omega.{arith}
-use Rattle.words.specs.Logic.{listFrom}
-use Rattle.words.specs.Word.{fromBytes}
 use Rattle.points.specs.Plan.{mixedByte}
 use Rattle.points.proofs.NewWord.{Done, next-byte}
 use Rattle.points.proofs.fill.edge_word.Statement.{statement}

@@ -1,3 +1,4 @@
+-- `points::fill::mixed_byte`: one law for each exit: before the text, behind it, of it.
 use Prim.Native.Nat.{_-_}
 use mathlib.Core.Path.{sym, _∙_}
 use native.Mathlib.Omega.{arith}

@@ -1,3 +1,4 @@
+-- `points::fill::new_word`: one law for each exit: every byte is of the text, none is, some are.
 use mathlib.Core.Path.{sym, _∙_}
 use mathlib.Core.Logic.{inl, inr}
 use native.Mathlib.Omega.{arith}

@@ -1,3 +1,4 @@
+-- `points::fill::next_in_both`: the first word with a copied byte lies in the first block, or what is left is the last block's.
 use native.Mathlib.Omega.{arith}
 use mathlib.Core.Path.{sym, _∙_}
 use Rattle.points.proofs.NextWord.{both-found, both-last}

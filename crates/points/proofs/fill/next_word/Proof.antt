@@ -1,3 +1,4 @@
+-- `points::fill::next_word`: by the phase, the definition seeks what that phase wants.
 use mathlib.Core.Path.{refl, sym, _∙_}
 use native.Mathlib.Omega.{arith}
 use Rattle.points.specs.declared.Phase.the-variants.{Idle, RefillFirst, RefillLast, RefillBoth, Zeroing}
@@ -34,22 +35,36 @@ enum-told-6 : tie.Need-enum-told-6
 enum-told-6 c = search needs
 
 returns : tie.Need-returns
-returns c = c .before .before .pre .4 ∙ sym (next-none (c .before .before .args .write) Idle (c .enum-told .given .1) (λ k. refl) (omega arith))
+returns c =
+    let pre = c .before .before .pre in
+    let args = c .before .before .args in
+    pre .4 ∙ sym (next-none (args .write) Idle (c .enum-told .given .1) (λ k. refl) (omega arith))
 
 returns-2 : tie.Need-returns-2
-returns-2 c = sym (next-filling (c .before .before .args .write) (c .enum-told2 .given .1))
+returns-2 c =
+    let args = c .before .before .args in
+    sym (next-filling (args .write) (c .enum-told2 .given .1))
 
 returns-3 : tie.Need-returns-3
-returns-3 c = c .next-in-first .ensures ∙ sym (next-in (c .before .before .before .args .write) RefillFirst (c .before .enum-told3 .given .1))
+returns-3 c =
+    let args = c .before .before .before .args in
+    c .next-in-first .ensures ∙ sym (next-in (args .write) RefillFirst (c .before .enum-told3 .given .1))
 
 returns-4 : tie.Need-returns-4
-returns-4 c = c .next-in-last .ensures ∙ sym (next-in (c .before .before .before .args .write) RefillLast (c .before .enum-told4 .given .1))
+returns-4 c =
+    let args = c .before .before .before .args in
+    c .next-in-last .ensures ∙ sym (next-in (args .write) RefillLast (c .before .enum-told4 .given .1))
 
 returns-5 : tie.Need-returns-5
-returns-5 c = c .next-in-both .ensures ∙ sym (next-in (c .before .before .before .args .write) RefillBoth (c .before .enum-told5 .given .1))
+returns-5 c =
+    let args = c .before .before .before .args in
+    c .next-in-both .ensures ∙ sym (next-in (args .write) RefillBoth (c .before .enum-told5 .given .1))
 
 returns-6 : tie.Need-returns-6
-returns-6 c = c .before .before .pre .4 ∙ sym (next-none (c .before .before .args .write) Zeroing (c .enum-told6 .given .1) (λ k. refl) (omega arith))
+returns-6 c =
+    let pre = c .before .before .pre in
+    let args = c .before .before .args in
+    pre .4 ∙ sym (next-none (args .write) Zeroing (c .enum-told6 .given .1) (λ k. refl) (omega arith))
 
 pub next-word-spec : {M : Type 1} → statement M
 next-word-spec =

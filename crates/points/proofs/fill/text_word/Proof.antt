@@ -1,3 +1,4 @@
+-- `points::fill::text_word`: eight bytes, each shifted to its place.
 use mathlib.Core.Path.{_∙_}
 use Rattle.points.proofs.NewWord.{eight-bytes, eight-of}
 use borrow.Author.Needs.{needs}

@@ -1,5 +1,4 @@
 -- `points::leave::free_held` meets its contract: one law for each phase: nothing, the run, the run and the block being zeroed. Assumes nothing.
-use native.Mathlib.Omega.{arith}
 use mathlib.Core.Path.{sym, _∙_, ap}
 use borrow.Author.Needs.{needs}
 use Rattle.points.proofs.Leaves.{held-idle, held-run, held-both}
@@ -10,7 +9,7 @@ is-idle-requires : tie.Need-is-idle-requires
 is-idle-requires c κs = search needs
 
 returns : tie.Need-returns
-returns c = let a = c .before .before .args in held-idle (a .map .now) (a .write) (sym (c .before .is-idle .ensures) ∙ c .if1 .taken)
+returns c = let a = c .before .before .before .args in held-idle (a .map .now) (a .write) (sym (c .before .is-idle .ensures) ∙ c .if1 .taken)
 
 cast-free-run : tie.Need-cast-free-run
 cast-free-run c = search needs
@@ -22,7 +21,7 @@ cast-free-run-2 : tie.Need-cast-free-run-2
 cast-free-run-2 c = search needs
 
 free-run-requires : tie.Need-free-run-requires
-free-run-requires c κs = let k = c .before .before .before .before .before .pre .0 (sym (c .before .before .before .before .is-idle .ensures) ∙ c .before .before .before .if1 .left) in omega (arith, k, c .span .ensures)
+free-run-requires c κs = search needs
 
 is-zeroing-requires : tie.Need-is-zeroing-requires
 is-zeroing-requires c κs = search needs
@@ -31,13 +30,19 @@ cast-free-block : tie.Need-cast-free-block
 cast-free-block c = search needs
 
 free-block-requires : tie.Need-free-block-requires
-free-block-requires c κs = c .before .before .before .before .before .before .before .before .before .before .pre .1 (sym (c .before .before .before .before .before .before .before .before .before .is-idle .ensures) ∙ c .before .before .before .before .before .before .before .before .if1 .left) (sym (c .before .before .before .is-zeroing .ensures) ∙ c .before .before .if2 .taken)
+free-block-requires c κs = search needs
+
+same-length : tie.Need-same-length
+same-length c = search needs
 
 returns-2 : tie.Need-returns-2
-returns-2 c = let a = c .before .before .before .before .before .before .before .before .before .before .before .args in held-both (a .map .now) (a .write) (sym (c .before .before .before .before .before .before .before .before .before .before .is-idle .ensures) ∙ c .before .before .before .before .before .before .before .before .before .if1 .left) _ (c .before .before .before .before .before .before .span .ensures) _ (c .before .before .before .before .before .free-run .ensures) _ (sym (c .before .before .before .before .is-zeroing .ensures) ∙ c .before .before .before .if2 .taken) (c .free-block .ensures)
+returns-2 c = let a = c .before .before .before .before .before .before .before .before .before .before .before .before .before .before .before .before .args in held-both (a .map .now) (a .write) (sym (c .before .before .before .before .before .before .before .before .before .before .before .before .before .before .is-idle .ensures) ∙ c .before .before .before .before .before .before .before .before .before .before .before .before .before .if1 .left) _ (c .before .before .before .before .before .before .before .before .before .before .span .ensures) _ (c .before .before .before .before .before .before .before .before .before .free-run .ensures) _ (sym (c .before .before .before .before .before .before .is-zeroing .ensures) ∙ c .before .before .before .before .before .if2 .taken) (c .before .before .free-block .ensures)
+
+same-length-2 : tie.Need-same-length-2
+same-length-2 c = search needs
 
 returns-3 : tie.Need-returns-3
-returns-3 c = let a = c .before .before .before .before .before .before .before .before .args in held-run (a .map .now) (a .write) (sym (c .before .before .before .before .before .before .before .is-idle .ensures) ∙ c .before .before .before .before .before .before .if1 .left) _ (c .before .before .before .span .ensures) _ (c .before .before .free-run .ensures) (sym (c .before .is-zeroing .ensures) ∙ c .if2 .left)
+returns-3 c = let a = c .before .before .before .before .before .before .before .before .before .before .before .args in held-run (a .map .now) (a .write) (sym (c .before .before .before .before .before .before .before .before .before .is-idle .ensures) ∙ c .before .before .before .before .before .before .before .before .if1 .left) _ (c .before .before .before .before .before .span .ensures) _ (c .before .before .before .before .free-run .ensures) (sym (c .before .is-zeroing .ensures) ∙ c .if2 .left)
 
 pub free-held-spec : {M : Type 1} → statement M
 free-held-spec =
@@ -52,5 +57,7 @@ free-held-spec =
     is-zeroing-requires
     cast-free-block
     free-block-requires
+    same-length
     returns-2
+    same-length-2
     returns-3)

@@ -1,3 +1,4 @@
+-- `points::plan::committed_head`: the slot one on, and no write.
 use native.Mathlib.Numerals.{add-one}
 use borrow.Author.Needs.{needs}
 use Rattle.points.proofs.plan.committed_head.Statement.{statement}

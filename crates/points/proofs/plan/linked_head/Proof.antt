@@ -1,3 +1,4 @@
+-- `points::plan::linked_head`: the place at the new log block, and nothing left to fill.
 use native.Mathlib.Numerals.{add-one}
 use borrow.Author.Needs.{needs}
 use Rattle.points.proofs.plan.linked_head.Statement.{statement}

@@ -1,3 +1,4 @@
+-- `points::plan::refused`: a plan that keeps everything.
 use Rattle.points.proofs.Planned.{refused-settles}
 use borrow.Author.Needs.{needs}
 use Rattle.points.proofs.plan.refused.Statement.{statement}

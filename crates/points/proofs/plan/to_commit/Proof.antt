@@ -1,3 +1,4 @@
+-- `points::plan::to_commit`: the position is the run's words.
 use borrow.Author.Needs.{needs}
 use Rattle.points.proofs.plan.to_commit.Statement.{statement}
 use Rattle.points.proofs.plan.to_commit.Tie as tie

@@ -16,10 +16,10 @@ search-requires : tie.Need-search-requires
 search-requires c κs = search needs
 
 cast-result : tie.Need-cast-result
-cast-result c = let a = c .before .before .before .args in record { fits = omega (arith, c .search .ensures, search-is (a .t1) (a .n), search-le (a .t1) (a .n)) }
+cast-result c = let a = c .before .before .before .before .args in record { fits = omega (arith, c .search .ensures, search-is (a .t1) (a .n), search-le (a .t1) (a .n)) }
 
 returns : tie.Need-returns
-returns c = let a = c .before .before .before .args in c .search .ensures ∙ search-is (a .t1) (a .n)
+returns c = let a = c .before .before .before .before .args in c .search .ensures ∙ search-is (a .t1) (a .n)
 
 pub search-spec : {M : Type 1} → statement M
 search-spec = tie.close (tie.spec cast-search cast-search-2 search-requires cast-result returns)

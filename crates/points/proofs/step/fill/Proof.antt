@@ -1,3 +1,4 @@
+-- `points::step::fill`: the word that the definition says is stored at its place of the run.
 use Rattle.words.specs.Edition.{one}
 use Rattle.words.specs.Memory.{memory}
 use Rattle.points.proofs.Planned.{fill-settles}
@@ -21,8 +22,11 @@ storing-requires : tie.Need-storing-requires
 storing-requires c κs = search needs
 
 returns : tie.Need-returns
-returns c = let a = c .before .before .before .before .before .before .args in
-    rw (c .storing .ensures, c .before .writing .ensures, c .before .before .turned .ensures, c .before .before .before .new-word .ensures)
+returns c =
+    let new-word = c .before .before .before .new-word in
+    let turned = c .before .before .turned in
+    let a = c .before .before .before .before .before .before .args in
+    rw (c .storing .ensures, c .before .writing .ensures, turned .ensures, new-word .ensures)
     (fill-settles (memory one (a .image .now)) (a .shared) (a .head) (a .table .now) (a .text .now) (a .k))
 
 pub fill-spec : {M : Type 1} → statement M

@@ -1,4 +1,4 @@
-use mathlib.Core.Path.{_≡_, refl, sym, ap, _∙_}
+-- `points::step::filling`: a next word there is, or none; what the callees ask is what a record that fits tells.
 use native.Mathlib.Omega.{arith}
 use Rattle.words.specs.Edition.{one}
 use Rattle.words.specs.Memory.{memory}
@@ -14,33 +14,44 @@ run-words-requires : tie.Need-run-words-requires
 run-words-requires c κs = search needs
 
 next-word-requires : tie.Need-next-word-requires
-next-word-requires c κs = let a = c .before .before .args in
-    let f = ready (a .image .now) (a .shared) (a .head) (a .table .now) (c .before .before .pre .0) in
+next-word-requires c κs =
+    let pre = c .before .before .pre in
+    let a = c .before .before .args in
+    let f = ready (a .image .now) (a .shared) (a .head) (a .table .now) (pre .0) in
     let t = f .run .text in
     let n = span-few (a .head .write .offset) (a .head .write .size) t in
     let w = c .run-words .ensures in
-    (t .some-text, t .few-text, rw w (ready-position (a .image .now) (a .shared) (a .head) (a .table .now) (c .before .before .pre .0) (c .before .before .pre .1)), rw w (omega (arith, n .1)), w)
+    (t .some-text, t .few-text, rw w (ready-position (a .image .now) (a .shared) (a .head) (a .table .now) (pre .0) (pre .1)), rw w (omega (arith, n .1)), w)
 
 fill-requires : tie.Need-fill-requires
-fill-requires c κs = let a = c .before .before .before .before .args in
-    let f = ready (a .image .now) (a .shared) (a .head) (a .table .now) (c .before .before .before .before .pre .0) in
+fill-requires c κs =
+    let pre = c .before .before .before .before .pre in
+    let run-words = c .before .before .run-words in
+    let a = c .before .before .before .before .args in
+    let f = ready (a .image .now) (a .shared) (a .head) (a .table .now) (pre .0) in
     let t = f .run .text in
-    (t .some-text, t .few-text, t .ends-inside, rw (c .before .before .run-words .ensures) at (c .if1 .taken))
+    (t .some-text, t .few-text, t .ends-inside, rw (run-words .ensures) at (c .if1 .taken))
 
 returns : tie.Need-returns
-returns c = let a = c .before .before .before .before .before .args in
+returns c =
+    let run-words = c .before .before .before .run-words in
+    let next-word = c .before .before .next-word in
+    let a = c .before .before .before .before .before .args in
     let m = memory one (a .image .now) in
-    let f = ready (a .image .now) (a .shared) (a .head) (a .table .now) (c .before .before .before .before .before .pre .0) in
-    settles-as (c .fill .ensures) (fills m (a .shared) (pointOf (a .head) (a .table .now) (a .text .now)) (c .before .before .next-word .result) (c .before .before .before .run-words .result) (c .before .before .next-word .ensures) (c .before .before .before .run-words .ensures) (c .before .if1 .taken))
+    settles-as (c .fill .ensures) (fills m (a .shared) (pointOf (a .head) (a .table .now) (a .text .now)) (next-word .result) (run-words .result) (next-word .ensures) (run-words .ensures) (c .before .if1 .taken))
 
 committing-requires : tie.Need-committing-requires
-committing-requires c κs = c .before .before .before .before .pre .0
+committing-requires c κs =
+    let pre = c .before .before .before .before .pre in
+    pre .0
 
 returns-2 : tie.Need-returns-2
-returns-2 c = let a = c .before .before .before .before .before .args in
+returns-2 c =
+    let run-words = c .before .before .before .run-words in
+    let next-word = c .before .before .next-word in
+    let a = c .before .before .before .before .before .args in
     let m = memory one (a .image .now) in
-    let f = ready (a .image .now) (a .shared) (a .head) (a .table .now) (c .before .before .before .before .before .pre .0) in
-    settles-as (c .committing .ensures (a .text .now)) (commits m (a .shared) (pointOf (a .head) (a .table .now) (a .text .now)) (c .before .before .next-word .result) (c .before .before .before .run-words .result) (c .before .before .next-word .ensures) (c .before .before .before .run-words .ensures) (c .before .if1 .left))
+    settles-as (c .committing .ensures (a .text .now)) (commits m (a .shared) (pointOf (a .head) (a .table .now) (a .text .now)) (next-word .result) (run-words .result) (next-word .ensures) (run-words .ensures) (c .before .if1 .left))
 
 pub filling-spec : {M : Type 1} → statement M
 filling-spec =

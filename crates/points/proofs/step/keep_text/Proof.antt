@@ -1,4 +1,5 @@
-use mathlib.Core.Path.{_≡_, refl, sym, ap, _∙_}
+-- `points::step::keep_text`: by the change.
+use mathlib.Core.Path.{sym, ap, _∙_}
 use Rattle.points.specs.declared.plan.Change.{Change}
 use Rattle.points.specs.Plan.{textAfter}
 use borrow.Author.Needs.{needs}
@@ -25,19 +26,27 @@ enum-told-4 c = search needs
 
 returns : tie.Need-returns
 unfolding textAfter
-returns c = ap (λ (x : Change). textAfter x (c .before .before .args .text .now)) (sym (c .enum-told .given .1))
+returns c =
+    let args = c .before .before .args in
+    ap (λ (x : Change). textAfter x (args .text .now)) (sym (c .enum-told .given .1))
 
 returns-2 : tie.Need-returns-2
 unfolding textAfter
-returns-2 c = c .no-text .ensures ∙ ap (λ (x : Change). textAfter x (c .before .before .before .args .text .now)) (sym (c .before .enum-told2 .given .1))
+returns-2 c =
+    let args = c .before .before .before .args in
+    c .no-text .ensures ∙ ap (λ (x : Change). textAfter x (args .text .now)) (sym (c .before .enum-told2 .given .1))
 
 returns-3 : tie.Need-returns-3
 unfolding textAfter
-returns-3 c = c .no-text2 .ensures ∙ ap (λ (x : Change). textAfter x (c .before .before .before .args .text .now)) (sym (c .before .enum-told3 .given .1))
+returns-3 c =
+    let args = c .before .before .before .args in
+    c .no-text2 .ensures ∙ ap (λ (x : Change). textAfter x (args .text .now)) (sym (c .before .enum-told3 .given .1))
 
 returns-4 : tie.Need-returns-4
 unfolding textAfter
-returns-4 c = ap (λ (x : Change). textAfter x (c .before .before .args .text .now)) (sym (c .enum-told4 .given .1))
+returns-4 c =
+    let args = c .before .before .args in
+    ap (λ (x : Change). textAfter x (args .text .now)) (sym (c .enum-told4 .given .1))
 
 pub keep-text-spec : {M : Type 1} → statement M
 keep-text-spec =

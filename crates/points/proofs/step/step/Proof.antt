@@ -1,4 +1,5 @@
-use mathlib.Core.Path.{_≡_, refl, sym, ap, _∙_}
+-- `points::step::step`: the plan stands for the outcome of the definition; the table, the text and the image are left as the plan says.
+use mathlib.Core.Path.{sym, ap, _∙_}
 use mathlib.Core.Option.{Option}
 use Rattle.words.specs.Edition.{one}
 use Rattle.words.specs.Memory.{memory, after, Store}
@@ -13,7 +14,9 @@ settle-requires : tie.Need-settle-requires
 settle-requires c κs = search needs
 
 take-in-requires : tie.Need-take-in-requires
-take-in-requires c κs = c .before .before .settle .ensures .change
+take-in-requires c κs =
+    let settle = c .before .before .settle in
+    settle .ensures .change
 
 keep-text-requires : tie.Need-keep-text-requires
 keep-text-requires c κs = search needs
@@ -28,13 +31,17 @@ same-length : tie.Need-same-length
 same-length c = search needs
 
 returns : tie.Need-returns
-returns c = let a = c .before .before .before .before .before .before .before .before .before .before .before .before .before .before .before .before .before .before .before .before .args in
-    let plan = c .before .before .before .before .before .before .before .before .before .before .before .before .before .settle .result in
+returns c =
+    let settle = c .before .before .before .before .before .before .before .before .before .before .before .before .before .settle in
+    let take-in = c .before .before .before .before .before .before .before .before .before .before .take-in in
+    let keep-text = c .before .before .before .before .before .before .before .before .keep-text in
+    let store = c .before .before .before .before .before .before .store in
+    let a = c .before .before .before .before .before .before .before .before .before .before .before .before .before .before .before .before .before .before .before .before .args in
+    let plan = settle .result in
     let m = memory one (a .image .now) in
-    let o = c .before .before .before .before .before .before .before .before .before .before .before .before .before .settle .ensures .outcome in
-    (
-      answers m plan (a .point) (c .before .lengthened .result) (c .before .before .before .before .before .before .before .before .before .before .take-in .last .1 .1 .1 .0) (c .before .before .before .before .before .before .before .before .keep-text .last .0) (c .before .before .before .before .before .before .before .before .before .before .take-in .result) (c .before .before .before .before .before .before .before .before .before .before .take-in .ensures) (c .before .before .before .before .before .before .before .before .keep-text .ensures) (c .before .lengthened .ensures) ∙ ap answered o,
-      c .before .before .before .before .before .before .store .ensures ∙ ap (λ (x : Option Store). after one (a .image .now) x) (sym (stored-by m plan (a .point)) ∙ ap (λ (x : Outcome). x .store) o),
+    let o = settle .ensures .outcome in (
+      answers m plan (a .point) (c .before .lengthened .result) (take-in .last .1 .1 .1 .0) (keep-text .last .0) (take-in .result) (take-in .ensures) (keep-text .ensures) (c .before .lengthened .ensures) ∙ ap answered o,
+      store .ensures ∙ ap (λ (x : Option Store). after one (a .image .now) x) (sym (stored-by m plan (a .point)) ∙ ap (λ (x : Outcome). x .store) o),
     )
 
 pub step-spec : {M : Type 1} → statement M

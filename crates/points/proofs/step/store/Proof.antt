@@ -1,4 +1,5 @@
-use mathlib.Core.Path.{_≡_, refl, sym, ap, _∙_}
+-- `points::step::store`: a word counted from the block's first on is the definition's word of a later block.
+use mathlib.Core.Path.{_∙_}
 use Rattle.words.specs.Memory.{after}
 use Rattle.points.proofs.Planned.{placed-put}
 use borrow.Author.Needs.{needs}
@@ -13,8 +14,11 @@ same-length c = search needs
 
 returns : tie.Need-returns
 unfolding after
-returns c = let a = c .before .before .before .before .before .before .args in
-    c .before .before .store .ensures ∙ rw (c .before .before .before .before .if1 .taken) (placed-put (a .image .now) (a .block) (a .word) (a .value))
+returns c =
+    let if1 = c .before .before .before .before .if1 in
+    let store = c .before .before .store in
+    let a = c .before .before .before .before .before .before .args in
+    store .ensures ∙ rw (if1 .taken) (placed-put (a .image .now) (a .block) (a .word) (a .value))
 
 returns-2 : tie.Need-returns-2
 unfolding after

@@ -1,4 +1,5 @@
-use mathlib.Core.Path.{_≡_, refl, sym, ap, _∙_}
+-- `points::step::take_in`: by the change; what a change leans on was settled with the plan.
+use mathlib.Core.Path.{sym, ap, _∙_}
 use Rattle.words.specs.Edition.{one}
 use Rattle.words.specs.Memory.{memory}
 use Rattle.points.specs.declared.plan.Change.{Change}
@@ -25,9 +26,7 @@ enum-told-4 : tie.Need-enum-told-4
 enum-told-4 c = search needs
 
 catch-up-requires : tie.Need-catch-up-requires
-catch-up-requires c κs = let a = c .before .before .before .before .args in
-    let f = allowed-walk (memory one (a .image .now)) (a .blocks) (a .head .place) (a .entry) (rw (c .before .enum-told4 .given .1) at (c .before .before .before .before .pre)) in
-    (f .1, f .0)
+catch-up-requires c κs = search needs
 
 returns : tie.Need-returns
 unfolding fileAfter
@@ -41,16 +40,23 @@ returns-2 c = let a = c .before .before .before .args in
 
 returns-3 : tie.Need-returns-3
 unfolding fileAfter
-returns-3 c = let a = c .before .before .before .before .before .args in
-    let f = allowed-entry (memory one (a .image .now)) (a .blocks) (a .head .place) (a .entry) (rw (c .before .before .enum-told3 .given .1) at (c .before .before .before .before .before .pre)) in
+returns-3 c =
+    let pre = c .before .before .before .before .before .pre in
+    let enum-told3 = c .before .before .enum-told3 in
+    let a = c .before .before .before .before .before .args in
+    let f = allowed-entry (memory one (a .image .now)) (a .blocks) (a .head .place) (a .entry) (rw (enum-told3 .given .1) at pre) in
     c .take-entry .ensures (f .0) (f .1) ∙
-    ap (λ (x : Change). fileAfter x one (memory one (a .image .now)) (a .blocks) (a .head .place) (a .entry) (fileAt (a .head) (a .table .now))) (sym (c .before .before .enum-told3 .given .1))
+    ap (λ (x : Change). fileAfter x one (memory one (a .image .now)) (a .blocks) (a .head .place) (a .entry) (fileAt (a .head) (a .table .now))) (sym (enum-told3 .given .1))
 
 returns-4 : tie.Need-returns-4
 unfolding fileAfter
-returns-4 c = let a = c .before .before .before .before .before .args in
-    c .catch-up .ensures ∙
-    ap (λ (x : Change). fileAfter x one (memory one (a .image .now)) (a .blocks) (a .head .place) (a .entry) (fileAt (a .head) (a .table .now))) (sym (c .before .before .enum-told4 .given .1))
+returns-4 c =
+    let pre = c .before .before .before .before .before .pre in
+    let enum-told4 = c .before .before .enum-told4 in
+    let a = c .before .before .before .before .before .args in
+    let f = allowed-walk (memory one (a .image .now)) (a .blocks) (a .head .place) (a .entry) (rw (enum-told4 .given .1) at pre) in
+    c .catch-up .ensures (f .0) (f .1)
+    ∙ ap (λ (x : Change). fileAfter x one (memory one (a .image .now)) (a .blocks) (a .head .place) (a .entry) (fileAt (a .head) (a .table .now))) (sym (enum-told4 .given .1))
 
 pub take-in-spec : {M : Type 1} → statement M
 take-in-spec =
