@@ -4,9 +4,9 @@ use native.Mathlib.Omega.{arith}
 use native.Mathlib.Numerals.{add-one}
 use native.Mathlib.Nat.{zero-add}
 use mathlib.Core.Path.{_≡_, refl, sym, _∙_, ap, subst}
-use mathlib.Core.Bool.{Bool, true, false, not}
-use mathlib.Core.List.{List, [], _∷_, _++_}
-use lib.ListN.{length, replicate, drop, take, set, getD}
+use mathlib.Core.Bool.{true, false, not}
+use mathlib.Core.List.{List, [], _∷_}
+use lib.ListN.{length, replicate, drop, set, getD}
 use lib.Seq.{paste, paste-suc, take-length}
 use Rattle.words.specs.Edition.{one}
 use Rattle.words.specs.Logic.{Reason, isZero, first, _when_}
@@ -23,7 +23,8 @@ use Rattle.points.specs.declared.Point.{Point}
 use Rattle.points.specs.declared.Begun.{Begun}
 use Rattle.points.specs.Record.{noText, isIdle, badText, pastEnd, span, fileAt, caughtUp}
 use Rattle.points.specs.Search.{search, taking}
-use Rattle.points.specs.Unfit.{unfit, Started}
+use Rattle.points.specs.Unfit.{unfit}
+use Rattle.points.specs.Start.{Started}
 use Rattle.points.specs.Calls.{beginRefusal, beginning, textOf, newWrite}
 use Rattle.points.proofs.Facts.{TextFits, text-facts, shared-facts}
 use Rattle.points.proofs.Passed.{begin-shared, begin-text, begin-end, begin-sound}

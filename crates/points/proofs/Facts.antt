@@ -1,14 +1,14 @@
 -- What a call that passes 10 and 11 knows, as named facts on numbers, which `omega` reads. Assumes nothing.
-use Prim.Native.Nat.{ℕ, zero, suc, _+_, _*_, _-_, _≤_, _<_}
+use Prim.Native.Nat.{ℕ, zero, suc, _+_, _*_, _≤_, _<_}
 use native.Mathlib.Omega.{arith}
-use mathlib.Core.Path.{_≡_, refl, sym, _∙_}
-use mathlib.Core.Bool.{Bool, true, false, _&&_, not}
+use mathlib.Core.Path.{_≡_, sym, _∙_}
+use mathlib.Core.Bool.{true, false, _&&_}
 use mathlib.Core.List.{List, [], _∷_}
 use lib.ListN.{length, getD}
-use lib.Dec.{leb, ltb, eqb}
+use lib.Dec.{leb, ltb}
 use borrow.Author.Tests.{leb-true, ltb-true, ltb-false, eqb-true, not-true, not-false}
 use Rattle.words.specs.Edition.{one}
-use Rattle.words.specs.Logic.{between, every, any, all-of}
+use Rattle.words.specs.Logic.{between, all-of}
 use Rattle.words.proofs.Logic.{and-left, and-right, every-all, any-none}
 use Rattle.words.proofs.Choice.{choose-true, choose-false}
 use Rattle.log.specs.declared.Place.{Place}

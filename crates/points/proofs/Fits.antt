@@ -1,5 +1,5 @@
 -- The shared tests as the code makes them, from the first on, are the definitions' lists of tests. Assumes nothing.
-use Prim.Native.Nat.{ℕ, zero, suc, _+_, _*_, _-_, _/_, _%_, _^_, _≤_, _<_}
+use Prim.Native.Nat.{ℕ, suc, _+_, _*_, _-_, _/_, _^_, _≤_, _<_}
 use native.Mathlib.Omega.{arith}
 use native.Mathlib.Numerals.{add-one}
 use mathlib.Core.Path.{_≡_, refl, sym, _∙_, ap}
@@ -20,7 +20,7 @@ use Rattle.log.specs.declared.Place.{Place}
 use Rattle.log.specs.declared.Shared.{Shared}
 use Rattle.points.specs.declared.Write.{Write}
 use Rattle.points.specs.declared.Head.{Head}
-use Rattle.points.specs.Record.{isIdle, isZeroing, span, badShared, badText, pastEnd, inside, placeFits, zeroingFits, writeFits, headFits, tableFits, fits}
+use Rattle.points.specs.Record.{isIdle, isZeroing, span, badShared, badText, pastEnd, inside, placeFits, zeroingFits, writeFits, headFits, tableFits}
 
 -- ---- several tests, made from the first on
 
@@ -113,9 +113,6 @@ module _ (blocks : ℕ) (table : List ℕ) where
   pub table-end : (ok : Bool) → ok && tableFits blocks (drop (length table) table) ≡ ok
   unfolding tableFits
   table-end ok = rw drop-length (and-true ok)
-
-  pub table-fits : (head : Bool) → head && tableFits blocks table ≡ every (head ∷ tableFits blocks table ∷ [])
-  table-fits head = ands-every head (tableFits blocks table ∷ [])
 
 pub table-all : (blocks : ℕ) (table : List ℕ) → ((i : ℕ) → i < length table → getD table i 0 < blocks) → tableFits blocks table ≡ true
 unfolding tableFits

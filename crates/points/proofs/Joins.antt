@@ -1,22 +1,21 @@
 -- Joining: its reasons in their order, and what it answers. Assumes nothing.
-use Prim.Native.Nat.{ℕ, zero, suc, _+_, _*_, _-_, _%_, _^_, _≤_, _<_}
+use Prim.Native.Nat.{ℕ, zero, suc, _<_}
 use native.Mathlib.Omega.{arith}
 use mathlib.Core.Path.{_≡_, refl, sym, _∙_, ap}
-use mathlib.Core.Bool.{Bool, true, false, _||_}
-use mathlib.Core.List.{List, [], _∷_}
-use lib.Dec.{leb, ltb, eqb}
+use mathlib.Core.Bool.{Bool, true, _||_}
+use mathlib.Core.List.{List}
+use lib.Dec.{leb, eqb}
 use borrow.Author.Tests.{ne-eqb, leb-false, ltb-false}
 use Rattle.words.specs.Edition.{one}
-use Rattle.words.specs.Logic.{isZero, first, _when_}
+use Rattle.words.specs.Logic.{isZero}
 use Rattle.words.specs.Memory.{Memory, memory}
 use Rattle.words.specs.BlockMap.{withBit}
 use Rattle.words.proofs.Logic.{or-right}
 use Rattle.words.proofs.Choice.{chosen-zero}
 use Rattle.log.specs.declared.Shared.{Shared}
 use Rattle.log.specs.declared.Reply.the-variants.{Done, Refused}
-use Rattle.log.specs.Chain.{firstIndex, outside}
+use Rattle.log.specs.Chain.{firstIndex}
 use Rattle.points.specs.declared.Point.{Point}
-use Rattle.points.specs.declared.Joined.{Joined}
 use Rattle.points.specs.Record.{newPoint, noPoint}
 use Rattle.points.specs.Search.{withJoined}
 use Rattle.points.specs.Calls.{badFirst, joinRefusal, joining}
@@ -34,15 +33,14 @@ first-tests blocks m = ap (λ (t : Bool). t || leb blocks (firstIndex m)) (zero-
 
 -- ---- the answers
 
-module _ (words : List ℕ) (s : Shared) (number r : ℕ) (e : r ≡ joinRefusal one words s number) where
-  pub join-refused : (p : Point) → (r ≡ 0 → ⊥) → p ≡ noPoint → record { reply = Refused r; shared = s; point = p } ≡ joining one words s number
+module _ (words : List ℕ) (s : Shared) (number : ℕ) where
+  pub join-refused :
+      (r : ℕ) (p : Point) → r ≡ joinRefusal one words s number → (r ≡ 0 → ⊥) → p ≡ noPoint
+      → record { reply = Refused r; shared = s; point = p } ≡ joining one words s number
   unfolding joining
-  join-refused p h ep = rw (ep, e) (sym (refused-so (joinRefusal one words s number) _ (λ n. record { reply = Refused n; shared = s; point = noPoint }) (λ z. h (e ∙ z))))
+  join-refused r p e h ep = rw (ep, e) (sym (refused-so (joinRefusal one words s number) _ (λ n. record { reply = Refused n; shared = s; point = noPoint }) (λ z. h (e ∙ z))))
 
-  module _ (h : r ≡ 0) where
-    none : joinRefusal one words s number ≡ 0
-    none = sym e ∙ h
-
+  module _ (none : joinRefusal one words s number ≡ 0) where
     pub join-done :
         (j f : ℕ) (t : Shared) (p : Point) → j ≡ withBit true (s .joined) number → t ≡ withJoined s j → f ≡ firstIndex (memory one words) → p ≡ newPoint number f
         → record { reply = Done; shared = t; point = p } ≡ joining one words s number

@@ -1,9 +1,9 @@
 -- Leaving: what becomes free goes by the phase, and the reasons are those that calls share. Assumes nothing.
-use Prim.Native.Nat.{ℕ, zero, suc, _+_, _-_, _^_, _≤_, _<_}
+use Prim.Native.Nat.{ℕ, _^_, _<_}
 use native.Mathlib.Omega.{arith}
 use native.Mathlib.Decide.{decLt}
-use mathlib.Core.Path.{_≡_, refl, sym, _∙_}
-use mathlib.Core.Bool.{Bool, true, false}
+use mathlib.Core.Path.{_≡_, sym, _∙_}
+use mathlib.Core.Bool.{true, false}
 use mathlib.Core.List.{List}
 use Rattle.words.specs.Edition.{one}
 use Rattle.words.specs.Word.{bit}
@@ -14,8 +14,7 @@ use Rattle.log.specs.declared.Shared.{Shared}
 use Rattle.log.specs.declared.Reply.the-variants.{Done, Refused}
 use Rattle.points.specs.declared.Write.{Write}
 use Rattle.points.specs.declared.Point.{Point}
-use Rattle.points.specs.declared.Left.{Left}
-use Rattle.points.specs.Record.{isIdle, isZeroing, span, isJoined, fits}
+use Rattle.points.specs.Record.{isIdle, isZeroing, span}
 use Rattle.points.specs.Search.{withJoined, withTaken}
 use Rattle.points.specs.Unfit.{unfit}
 use Rattle.points.specs.Calls.{leaveRefusal, withoutRun, withoutHeld, leaving}
@@ -48,13 +47,13 @@ joined-small joined number l e = go (decLt number 32)
 
 -- ---- the answers
 
-module _ (words : List ℕ) (s : Shared) (p : Point) (r : ℕ) (e : r ≡ unfit one words s (p .head) (p .table)) where
-  pub leave-refused : (r ≡ 0 → ⊥) → record { reply = Refused r; shared = s } ≡ leaving one words s p
+module _ (words : List ℕ) (s : Shared) (p : Point) where
+  pub leave-refused : (r : ℕ) → r ≡ unfit one words s (p .head) (p .table) → (r ≡ 0 → ⊥) → record { reply = Refused r; shared = s } ≡ leaving one words s p
   unfolding leaving leaveRefusal unfit
-  leave-refused h = rw e (sym (refused-so (unfit one words s (p .head) (p .table)) _ (λ n. record { reply = Refused n; shared = s }) (λ z. h (e ∙ z))))
+  leave-refused r e h = rw e (sym (refused-so (unfit one words s (p .head) (p .table)) _ (λ n. record { reply = Refused n; shared = s }) (λ z. h (e ∙ z))))
 
   pub leave-done :
-      r ≡ 0 → (map : List ℕ) (j : ℕ) (t u : Shared) → map ≡ withoutHeld one (s .taken) (p .head .write) → t ≡ withTaken s map → j ≡ withBit false (s .joined) (p .head .number) → u ≡ withJoined t j
-      → record { reply = Done; shared = u } ≡ leaving one words s p
+      unfit one words s (p .head) (p .table) ≡ 0 → (map : List ℕ) (j : ℕ) (t u : Shared) → map ≡ withoutHeld one (s .taken) (p .head .write) → t ≡ withTaken s map
+      → j ≡ withBit false (s .joined) (p .head .number) → u ≡ withJoined t j → record { reply = Done; shared = u } ≡ leaving one words s p
   unfolding leaving leaveRefusal unfit
-  leave-done h map j t u em et ej eu = rw (eu, et, em, ej) (sym (chosen-zero (unfit one words s (p .head) (p .table)) _ _ (sym e ∙ h)))
+  leave-done e map j t u em et ej eu = rw (eu, et, em, ej) (sym (chosen-zero (unfit one words s (p .head) (p .table)) _ _ e))

@@ -1,6 +1,6 @@
 -- The reasons that calls with a record share: a call's list of reasons goes on where 10, 11 and 14 fail, and is settled where one holds.
 -- Assumes nothing.
-use Prim.Native.Nat.{ℕ, zero, suc, _-_}
+use Prim.Native.Nat.{ℕ, zero, suc}
 use native.Mathlib.Omega.{arith}
 use mathlib.Core.Path.{_≡_, refl, sym, _∙_}
 use mathlib.Core.Bool.{Bool, true, false, not}

@@ -1,6 +1,6 @@
 -- `points::begin::settle` meets its contract: each reason is asked where the ones before it failed. Assumes nothing.
 use native.Mathlib.Omega.{arith}
-use mathlib.Core.Path.{_≡_, refl, sym, _∙_, ap}
+use mathlib.Core.Path.{_≡_, sym, _∙_, ap}
 use mathlib.Core.Bool.{true, false}
 use borrow.Author.Needs.{needs}
 use borrow.Author.Tests.{not-true, not-false}
@@ -12,8 +12,7 @@ use Rattle.log.specs.Look.{seenBy}
 use Rattle.points.specs.Record.{isIdle, badText, pastEnd}
 use Rattle.points.specs.Search.{search as found-by}
 use Rattle.points.specs.Unfit.{unfit}
-use Rattle.points.proofs.Facts.{text-facts, shared-facts}
-use Rattle.points.proofs.Unfit.{fit-shared}
+use Rattle.points.proofs.Facts.{text-facts}
 use Rattle.points.proofs.Begins.{start-refused, begin-unfit, begin-15, begin-16, begin-17, begin-18, begin-19, begin-0}
 use Rattle.points.proofs.begin.settle.Statement.{statement}
 use Rattle.points.proofs.begin.settle.Tie as tie

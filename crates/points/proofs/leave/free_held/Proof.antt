@@ -1,5 +1,5 @@
 -- `points::leave::free_held` meets its contract: one law for each phase: nothing, the run, the run and the block being zeroed. Assumes nothing.
-use mathlib.Core.Path.{sym, _∙_, ap}
+use mathlib.Core.Path.{sym, _∙_}
 use borrow.Author.Needs.{needs}
 use Rattle.points.proofs.Leaves.{held-idle, held-run, held-both}
 use Rattle.points.proofs.leave.free_held.Statement.{statement}

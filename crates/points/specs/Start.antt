@@ -1,0 +1,19 @@
+-- What a beginning settles before it changes anything, for the contract of the function that settles it.
+use Prim.Native.Nat.{ℕ}
+use mathlib.Core.Path.{_≡_}
+use mathlib.Core.List.{List}
+use Rattle.words.specs.Edition.{one}
+use Rattle.words.specs.Memory.{memory}
+use Rattle.log.specs.declared.Shared.{Shared}
+use Rattle.log.specs.declared.Place.{Place}
+use Rattle.log.specs.CatchUp.{ahead, placeAfter}
+use Rattle.points.specs.declared.Head.{Head}
+use Rattle.points.specs.Record.{span}
+use Rattle.points.specs.Search.{search}
+use Rattle.points.specs.Calls.{beginRefusal}
+
+-- the first reason that holds and, where none does, the log place at the tail and the run's first block
+pub record Started (words : List ℕ) (s : Shared) (h : Head) (table : List ℕ) (offset size reason : ℕ) (place : Place) (run : ℕ) : Type 0 where
+  pub refusal : reason ≡ beginRefusal one words s h table offset size
+  pub tail : reason ≡ 0 → place ≡ placeAfter (ahead one (memory one words) (s .blocks) (h .place))
+  pub found : reason ≡ 0 → run ≡ search s (span one offset size)
