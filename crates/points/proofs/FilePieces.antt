@@ -10,7 +10,7 @@ use lib.ListN.{length, getD}
 use Rattle.words.specs.Edition.{one}
 use Rattle.words.specs.Logic.{listFrom}
 use Rattle.words.specs.Memory.{Memory, memory, blockAt, byteIn}
-use Rattle.words.proofs.CodeMemory.{block-length, block-outside}
+use Rattle.words.proofs.Memory.{block-length, block-outside}
 use Rattle.log.specs.Replay.{Mapped, mappedByte, fileByte}
 use Rattle.points.specs.Sight.{partOf}
 use Rattle.points.proofs.Copied.{listFrom-same}

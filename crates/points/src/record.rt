@@ -3,13 +3,20 @@ ghost use mathlib.Core.Path.{_≡_};
 ghost use Rattle.words.specs.Edition.{one};
 ghost use Rattle.words.specs.Logic.{between};
 ghost use Rattle.words.specs.Word.{bit};
-ghost use Rattle.points.specs.Record.{isIdle, isZeroing, badShared, badText, pastEnd, inside, placeFits, zeroingFits, writeFits, headFits, tableFits, span, fits};
+ghost use Rattle.points.specs.Record.{noText, isIdle, isZeroing, badShared, badText, pastEnd, inside, placeFits, zeroingFits, writeFits, headFits, tableFits, span, fits};
 ghost use Rattle.points.specs.Unfit.{unfit};
 use crate::Head;
 use crate::Phase;
 use crate::Write;
 use log::Place;
 use log::Shared;
+
+// The text of a record without a write: a filled array of zeros.
+pub fn no_text() -> [u8; 1024]
+    ensures { λ r. ⌜ r ≡ noText ⌝ }
+{
+    [0u8; 1024]
+}
 
 // Whether a number is from `low` to `high`.
 fn between(low: u32, x: u32, high: u32) -> bool

@@ -48,13 +48,7 @@ returns-3 c =
     unseen-so _ 18 _ (c .unseen3 .ensures) (omega arith) (sight-broken (a .image .now) (a .shared) (a .head) (a .table .now) (a .past) fit (c .before .before .before .before .if2 .left) (sym seen ∙ c .before .if3 .taken))
 
 catch-up-requires : tie.Need-catch-up-requires
-catch-up-requires c κs =
-    let a = c .before .before .before .before .before .before .before .before .before .args in
-    let fit = sym (c .before .before .before .before .before .before .unfit .ensures) ∙ c .before .before .before .before .before .if1 .left in
-    let walk = ahead one (memory one (a .image .now)) (a .shared .blocks) (a .head .place) in
-    let seen = look-broken _ (a .shared .blocks) 0 0 walk (c .before .before .look .ensures) in
-    let facts = shared-facts (a .image .now) (a .shared) (fit-shared (a .image .now) (a .shared) (a .head) (a .table .now) fit) in
-    (sym seen ∙ c .before .if3 .left, facts .few-blocks)
+catch-up-requires c κs = search needs
 
 returns-4 : tie.Need-returns-4
 unfolding seen
@@ -63,7 +57,9 @@ returns-4 c =
     let fit = sym (c .before .before .before .before .before .before .before .unfit .ensures) ∙ c .before .before .before .before .before .before .if1 .left in
     let walk = ahead one (memory one (a .image .now)) (a .shared .blocks) (a .head .place) in
     let seen = look-broken _ (a .shared .blocks) 0 0 walk (c .before .before .before .look .ensures) in
-    (sight-clear (a .image .now) (a .shared) (a .head) (a .table .now) (a .past) fit (c .before .before .before .before .before .if2 .left) (sym seen ∙ c .before .before .if3 .left), λ _. c .catch-up .ensures)
+    let sound = sym seen ∙ c .before .before .if3 .left in
+    let facts = shared-facts (a .image .now) (a .shared) (fit-shared (a .image .now) (a .shared) (a .head) (a .table .now) fit) in
+    (sight-clear (a .image .now) (a .shared) (a .head) (a .table .now) (a .past) fit (c .before .before .before .before .before .if2 .left) sound, λ _. c .catch-up .ensures (facts .few-blocks) sound)
 
 pub see-spec : {M : Type 1} → statement M
 see-spec =

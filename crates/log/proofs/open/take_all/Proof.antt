@@ -1,0 +1,43 @@
+-- Block 0, the chain and the table are taken one after the other.
+use borrow.Author.Needs.{needs}
+use Rattle.log.proofs.Taken.{met-shared, map-taken}
+use Rattle.log.proofs.open.take_all.Statement.{statement}
+use Rattle.log.proofs.open.take_all.Tie as tie
+
+slice-aggregate-take-block : tie.Need-slice-aggregate-take-block
+slice-aggregate-take-block c = search needs
+
+take-block-requires : tie.Need-take-block-requires
+take-block-requires c κs = search needs
+
+slice-aggregate-take-chain : tie.Need-slice-aggregate-take-chain
+slice-aggregate-take-chain c = search needs
+
+take-chain-requires : tie.Need-take-chain-requires
+take-chain-requires c κs = search needs
+
+slice-aggregate-take-live : tie.Need-slice-aggregate-take-live
+slice-aggregate-take-live c = search needs
+
+take-live-requires : tie.Need-take-live-requires
+take-live-requires c κs = search needs
+
+returns : tie.Need-returns
+returns c = let a = c .before .before .before .before .before .before .before .before .before .before .args in
+    let m2 = c .before .before .before .before .take-chain .last .1 .0 in
+    let m3 = c .before .take-live .last .1 .0 in (
+      met-shared (a .image .now) (a .table .now) (c .before .before .before .before .before .before .before .before .before .before .pre) (c .before .before .before .before .before .before .before .take-block .last .0) m2 m3 (c .before .take-live .result) (c .before .before .before .before .before .before .before .take-block .ensures) (c .before .before .before .before .take-chain .ensures) (c .before .take-live .ensures .1),
+      map-taken (a .image .now) (a .table .now) (c .before .before .before .before .before .before .before .before .before .before .pre) (c .before .before .before .before .before .before .before .take-block .last .0) m2 m3 (c .before .take-live .result) (c .before .before .before .before .before .before .before .take-block .ensures) (c .before .before .before .before .take-chain .ensures) (c .before .take-live .ensures .0),
+    )
+
+pub take-all-spec : {M : Type 1} → statement M
+take-all-spec =
+    tie.close
+    (tie.spec
+    slice-aggregate-take-block
+    take-block-requires
+    slice-aggregate-take-chain
+    take-chain-requires
+    slice-aggregate-take-live
+    take-live-requires
+    returns)

@@ -1,0 +1,149 @@
+-- `points::begin::settle` meets its contract: each reason is asked where the ones before it failed. Assumes nothing.
+use native.Mathlib.Omega.{arith}
+use mathlib.Core.Path.{_≡_, refl, sym, _∙_, ap}
+use mathlib.Core.Bool.{true, false}
+use borrow.Author.Needs.{needs}
+use borrow.Author.Tests.{not-true, not-false}
+use Rattle.words.specs.Edition.{one}
+use Rattle.words.specs.Memory.{memory}
+use Rattle.log.specs.declared.Seen.{Seen}
+use Rattle.log.specs.CatchUp.{ahead, broken}
+use Rattle.log.specs.Look.{seenBy}
+use Rattle.points.specs.Record.{isIdle, badText, pastEnd}
+use Rattle.points.specs.Search.{search as found-by}
+use Rattle.points.specs.Unfit.{unfit}
+use Rattle.points.proofs.Facts.{text-facts, shared-facts}
+use Rattle.points.proofs.Unfit.{fit-shared}
+use Rattle.points.proofs.Begins.{start-refused, begin-unfit, begin-15, begin-16, begin-17, begin-18, begin-19, begin-0}
+use Rattle.points.proofs.begin.settle.Statement.{statement}
+use Rattle.points.proofs.begin.settle.Tie as tie
+
+not-14 : (c : tie.Else1) → let a = c .before .before .before .args in unfit one (a .image .now) (a .shared) (a .head) (a .table .now) ≡ 0
+not-14 c = sym (c .before .unfit .ensures) ∙ c .if1 .left
+
+not-15 : (c : tie.Else2) → isIdle (c .before .before .before .before .before .before .args .head .write .phase) ≡ true
+not-15 c = sym (c .before .is-idle .ensures) ∙ not-false _ (c .if2 .left)
+
+not-16 : (c : tie.Else3) → badText (c .before .before .before .before .before .before .before .before .args .size) ≡ false
+not-16 c = sym (c .before .bad-text .ensures) ∙ c .if3 .left
+
+not-17 : (c : tie.Else4) → let a = c .before .before .before .before .before .before .before .before .before .before .args in pastEnd one (a .offset) (a .size) ≡ false
+not-17 c = sym (c .before .past-end .ensures) ∙ c .if4 .left
+
+not-18 :
+    (c : tie.Else5) → let a = c .before .before .before .before .before .before .before .before .before .before .before .before .args in
+    broken one (a .shared .blocks) (ahead one (memory one (a .image .now)) (a .shared .blocks) (a .head .place)) ≡ false
+unfolding seenBy
+not-18 c = ap (λ (k : Seen). k .broken) (sym (c .before .look .ensures)) ∙ c .if5 .left
+
+unfit-requires : tie.Need-unfit-requires
+unfit-requires c κs = search needs
+
+refused-requires : tie.Need-refused-requires
+refused-requires c κs = search needs
+
+returns : tie.Need-returns
+returns c =
+    let a = c .before .before .before .before .args in
+    let u = c .before .before .unfit in
+    start-refused (a .image .now) (a .shared) (a .head) (a .table .now) (a .offset) (a .size) _ (u .result) _ _ (c .refused .ensures) (c .before .if1 .taken) (begin-unfit (a .image .now) (a .shared) (a .head) (a .table .now) (a .offset) (a .size) (u .result) (u .ensures) (c .before .if1 .taken))
+
+is-idle-requires : tie.Need-is-idle-requires
+is-idle-requires c κs = search needs
+
+refused-requires-2 : tie.Need-refused-requires-2
+refused-requires-2 c κs = search needs
+
+returns-2 : tie.Need-returns-2
+returns-2 c =
+    let a = c .before .before .before .before .before .before .before .args in
+    start-refused (a .image .now) (a .shared) (a .head) (a .table .now) (a .offset) (a .size) _ 15 _ _ (c .refused2 .ensures) (λ z. omega arith) (begin-15 (a .image .now) (a .shared) (a .head) (a .table .now) (a .offset) (a .size) (not-14 (c .before .before .before .before)) (sym (c .before .before .is-idle .ensures) ∙ not-true _ (c .before .if2 .taken)))
+
+bad-text-requires : tie.Need-bad-text-requires
+bad-text-requires c κs = search needs
+
+refused-requires-3 : tie.Need-refused-requires-3
+refused-requires-3 c κs = search needs
+
+returns-3 : tie.Need-returns-3
+returns-3 c =
+    let a = c .before .before .before .before .before .before .before .before .before .args in
+    start-refused (a .image .now) (a .shared) (a .head) (a .table .now) (a .offset) (a .size) _ 16 _ _ (c .refused3 .ensures) (λ z. omega arith) (begin-16 (a .image .now) (a .shared) (a .head) (a .table .now) (a .offset) (a .size) (not-14 (c .before .before .before .before .before .before)) (not-15 (c .before .before .before)) (sym (c .before .before .bad-text .ensures) ∙ c .before .if3 .taken))
+
+past-end-requires : tie.Need-past-end-requires
+past-end-requires c κs = search needs
+
+refused-requires-4 : tie.Need-refused-requires-4
+refused-requires-4 c κs = search needs
+
+returns-4 : tie.Need-returns-4
+returns-4 c =
+    let a = c .before .before .before .before .before .before .before .before .before .before .before .args in
+    start-refused (a .image .now) (a .shared) (a .head) (a .table .now) (a .offset) (a .size) _ 17 _ _ (c .refused4 .ensures) (λ z. omega arith) (begin-17 (a .image .now) (a .shared) (a .head) (a .table .now) (a .offset) (a .size) (not-14 (c .before .before .before .before .before .before .before .before)) (not-15 (c .before .before .before .before .before)) (not-16 (c .before .before .before)) (sym (c .before .before .past-end .ensures) ∙ c .before .if4 .taken))
+
+look-requires : tie.Need-look-requires
+look-requires c κs = search needs
+
+refused-requires-5 : tie.Need-refused-requires-5
+refused-requires-5 c κs = search needs
+
+returns-5 : tie.Need-returns-5
+unfolding seenBy
+returns-5 c =
+    let a = c .before .before .before .before .before .before .before .before .before .before .before .before .before .args in
+    start-refused (a .image .now) (a .shared) (a .head) (a .table .now) (a .offset) (a .size) _ 18 _ _ (c .refused5 .ensures) (λ z. omega arith) (begin-18 (a .image .now) (a .shared) (a .head) (a .table .now) (a .offset) (a .size) (not-14 (c .before .before .before .before .before .before .before .before .before .before)) (not-15 (c .before .before .before .before .before .before .before)) (not-16 (c .before .before .before .before .before)) (not-17 (c .before .before .before)) (ap (λ (k : Seen). k .broken) (sym (c .before .before .look .ensures)) ∙ c .before .if5 .taken))
+
+cast-span : tie.Need-cast-span
+cast-span c = let a = c .before .before .before .before .before .before .before .before .before .before .before .before .args in let t = text-facts (a .offset) (a .size) (not-16 (c .before .before .before .before)) (not-17 (c .before .before)) in record { fits = omega arith }
+
+cast-span-2 : tie.Need-cast-span-2
+cast-span-2 c = let a = c .before .before .before .before .before .before .before .before .before .before .before .before .args in let t = text-facts (a .offset) (a .size) (not-16 (c .before .before .before .before)) (not-17 (c .before .before)) in record { fits = omega arith }
+
+span-requires : tie.Need-span-requires
+span-requires c κs = search needs
+
+search-requires : tie.Need-search-requires
+search-requires c κs = let a = c .before .before .before .before .before .before .before .before .before .before .before .before .before .args in shared-facts (a .image .now) (a .shared) (fit-shared (a .image .now) (a .shared) (a .head) (a .table .now) (not-14 (c .before .before .before .before .before .before .before .before .before .before))) .few-blocks
+
+refused-requires-6 : tie.Need-refused-requires-6
+refused-requires-6 c κs = search needs
+
+returns-6 : tie.Need-returns-6
+returns-6 c =
+    let a = c .before .before .before .before .before .before .before .before .before .before .before .before .before .before .before .before .args in
+    start-refused (a .image .now) (a .shared) (a .head) (a .table .now) (a .offset) (a .size) _ 19 _ _ (c .refused6 .ensures) (λ z. omega arith)
+    (begin-19 (a .image .now) (a .shared) (a .head) (a .table .now) (a .offset) (a .size) (not-14 (c .before .before .before .before .before .before .before .before .before .before .before .before .before)) (not-15 (c .before .before .before .before .before .before .before .before .before .before)) (not-16 (c .before .before .before .before .before .before .before .before)) (not-17 (c .before .before .before .before .before .before)) (not-18 (c .before .before .before .before)) (sym (c .before .before .search .ensures ∙ ap (found-by (a .shared)) (c .before .before .before .span .ensures)) ∙ c .before .if6 .taken))
+
+returns-7 : tie.Need-returns-7
+unfolding seenBy
+returns-7 c =
+    let a = c .before .before .before .before .before .before .before .before .before .before .before .before .before .before .before .before .args in
+    let e = (c .before .before .search .ensures ∙ ap (found-by (a .shared)) (c .before .before .before .span .ensures)) in
+    record { refusal = begin-0 (a .image .now) (a .shared) (a .head) (a .table .now) (a .offset) (a .size) (not-14 (c .before .before .before .before .before .before .before .before .before .before .before .before .before)) (not-15 (c .before .before .before .before .before .before .before .before .before .before)) (not-16 (c .before .before .before .before .before .before .before .before)) (not-17 (c .before .before .before .before .before .before)) (not-18 (c .before .before .before .before)) (λ z. c .before .if6 .left (e ∙ z)); tail = λ z. ap (λ (k : Seen). k .place) (c .before .before .before .before .before .look .ensures); found = λ z. e }
+
+pub settle-spec : {M : Type 1} → statement M
+settle-spec =
+    tie.close
+    (tie.spec
+    unfit-requires
+    refused-requires
+    returns
+    is-idle-requires
+    refused-requires-2
+    returns-2
+    bad-text-requires
+    refused-requires-3
+    returns-3
+    past-end-requires
+    refused-requires-4
+    returns-4
+    look-requires
+    refused-requires-5
+    returns-5
+    cast-span
+    cast-span-2
+    span-requires
+    search-requires
+    refused-requires-6
+    returns-6
+    returns-7)

@@ -1,0 +1,56 @@
+-- `points::begin::text_of` meets its contract: the invariant is that the first bytes are copied into an array of zeros. Assumes nothing.
+use Prim.Native.Nat.{_≤_, _-_}
+use native.Mathlib.Omega.{arith}
+use mathlib.Core.Path.{_≡_, refl, _∙_, ap}
+use lib.ListN.{length}
+use lib.Seq.{paste}
+use borrow.Author.Needs.{needs}
+use Rattle.points.specs.Record.{noText}
+use Rattle.points.proofs.Begins.{text-next, text-end}
+use Rattle.points.proofs.begin.text_of.Statement.{statement}
+use Rattle.points.proofs.begin.text_of.Tie as tie
+
+abbrev Inv-loop : tie.InvT-loop
+Inv-loop text bytes₀ i₀ i-end bytes i = (i ≤ length text) × (i-end ≡ length text) × (bytes ≡ paste noText 0 text i)
+
+abbrev μ-loop : tie.MeasureT-loop
+μ-loop text bytes₀ i₀ i-end bytes i = length text - i
+
+no-text-requires : tie.Need-no-text-requires Inv-loop μ-loop
+no-text-requires c κs = search needs
+
+loop-holds : tie.Need-loop-holds Inv-loop μ-loop
+loop-holds c = search needs
+
+shared-slice-read-bytes : tie.Need-shared-slice-read-bytes Inv-loop μ-loop
+shared-slice-read-bytes c = search needs
+
+array-write-bytes : tie.Need-array-write-bytes Inv-loop μ-loop
+array-write-bytes c = search needs
+
+add-i : tie.Need-add-i Inv-loop μ-loop
+add-i c = search needs
+
+loop-less : tie.Need-loop-less Inv-loop μ-loop
+loop-less c = search needs
+
+loop-again : tie.Need-loop-again Inv-loop μ-loop
+loop-again c = let a = c .before .before .before .before .before .args in let l = c .before .before .loop in (omega arith, refl, text-next (a .text .now) (l .i) (l .bytes) (omega arith) (c .before .before .before .before .before .pre) (l .inv .2))
+
+returns : tie.Need-returns Inv-loop μ-loop
+returns c = let a = c .before .before .before .before .args in let l = c .before .loop in let e : l .i ≡ length (a .text .now) = omega arith in l .inv .2 ∙ ap (paste noText 0 (a .text .now)) e ∙ text-end (a .text .now)
+
+pub text-of-spec : {M : Type 1} → statement M
+text-of-spec =
+    tie.close
+    (tie.spec
+    Inv-loop
+    μ-loop
+    no-text-requires
+    loop-holds
+    shared-slice-read-bytes
+    array-write-bytes
+    add-i
+    loop-less
+    loop-again
+    returns)

@@ -1,0 +1,54 @@
+use mathlib.Core.Path.{_≡_, refl, sym, ap, _∙_}
+use native.Mathlib.Omega.{arith}
+use Rattle.words.specs.Edition.{one}
+use Rattle.words.specs.Memory.{memory}
+use Rattle.points.specs.Plan.{pointOf}
+use Rattle.points.proofs.Planned.{settles-as}
+use Rattle.points.proofs.Ready.{ready, ready-position, fills, commits}
+use Rattle.points.proofs.Facts.{span-few}
+use borrow.Author.Needs.{needs}
+use Rattle.points.proofs.step.filling.Statement.{statement}
+use Rattle.points.proofs.step.filling.Tie as tie
+
+run-words-requires : tie.Need-run-words-requires
+run-words-requires c κs = search needs
+
+next-word-requires : tie.Need-next-word-requires
+next-word-requires c κs = let a = c .before .before .args in
+    let f = ready (a .image .now) (a .shared) (a .head) (a .table .now) (c .before .before .pre .0) in
+    let t = f .run .text in
+    let n = span-few (a .head .write .offset) (a .head .write .size) t in
+    let w = c .run-words .ensures in
+    (t .some-text, t .few-text, rw w (ready-position (a .image .now) (a .shared) (a .head) (a .table .now) (c .before .before .pre .0) (c .before .before .pre .1)), rw w (omega (arith, n .1)), w)
+
+fill-requires : tie.Need-fill-requires
+fill-requires c κs = let a = c .before .before .before .before .args in
+    let f = ready (a .image .now) (a .shared) (a .head) (a .table .now) (c .before .before .before .before .pre .0) in
+    let t = f .run .text in
+    (t .some-text, t .few-text, t .ends-inside, rw (c .before .before .run-words .ensures) at (c .if1 .taken))
+
+returns : tie.Need-returns
+returns c = let a = c .before .before .before .before .before .args in
+    let m = memory one (a .image .now) in
+    let f = ready (a .image .now) (a .shared) (a .head) (a .table .now) (c .before .before .before .before .before .pre .0) in
+    settles-as (c .fill .ensures) (fills m (a .shared) (pointOf (a .head) (a .table .now) (a .text .now)) (c .before .before .next-word .result) (c .before .before .before .run-words .result) (c .before .before .next-word .ensures) (c .before .before .before .run-words .ensures) (c .before .if1 .taken))
+
+committing-requires : tie.Need-committing-requires
+committing-requires c κs = c .before .before .before .before .pre .0
+
+returns-2 : tie.Need-returns-2
+returns-2 c = let a = c .before .before .before .before .before .args in
+    let m = memory one (a .image .now) in
+    let f = ready (a .image .now) (a .shared) (a .head) (a .table .now) (c .before .before .before .before .before .pre .0) in
+    settles-as (c .committing .ensures (a .text .now)) (commits m (a .shared) (pointOf (a .head) (a .table .now) (a .text .now)) (c .before .before .next-word .result) (c .before .before .before .run-words .result) (c .before .before .next-word .ensures) (c .before .before .before .run-words .ensures) (c .before .if1 .left))
+
+pub filling-spec : {M : Type 1} → statement M
+filling-spec =
+    tie.close
+    (tie.spec
+    run-words-requires
+    next-word-requires
+    fill-requires
+    returns
+    committing-requires
+    returns-2)

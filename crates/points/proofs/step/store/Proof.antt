@@ -1,0 +1,24 @@
+use mathlib.Core.Path.{_≡_, refl, sym, ap, _∙_}
+use Rattle.words.specs.Memory.{after}
+use Rattle.points.proofs.Planned.{placed-put}
+use borrow.Author.Needs.{needs}
+use Rattle.points.proofs.step.store.Statement.{statement}
+use Rattle.points.proofs.step.store.Tie as tie
+
+store-requires : tie.Need-store-requires
+store-requires c κs = search needs
+
+same-length : tie.Need-same-length
+same-length c = search needs
+
+returns : tie.Need-returns
+unfolding after
+returns c = let a = c .before .before .before .before .before .before .args in
+    c .before .before .store .ensures ∙ rw (c .before .before .before .before .if1 .taken) (placed-put (a .image .now) (a .block) (a .word) (a .value))
+
+returns-2 : tie.Need-returns-2
+unfolding after
+returns-2 c = rw (c .if1 .left)
+
+pub store-spec : {M : Type 1} → statement M
+store-spec = tie.close (tie.spec store-requires same-length returns returns-2)

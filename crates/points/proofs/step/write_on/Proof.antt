@@ -1,0 +1,37 @@
+use mathlib.Core.Path.{_≡_, refl, sym, ap, _∙_}
+use native.Mathlib.Omega.{arith}
+use Rattle.words.specs.Edition.{one}
+use Rattle.words.specs.Memory.{memory}
+use Rattle.points.specs.Plan.{pointOf}
+use Rattle.points.proofs.Planned.{settles-as}
+use Rattle.points.proofs.Ready.{ready, ready-zeroing}
+use Rattle.points.proofs.Ways.{on-zeroing, on-filling}
+use borrow.Author.Needs.{needs}
+use Rattle.points.proofs.step.write_on.Statement.{statement}
+use Rattle.points.proofs.step.write_on.Tie as tie
+
+is-zeroing-requires : tie.Need-is-zeroing-requires
+is-zeroing-requires c κs = search needs
+
+extending-requires : tie.Need-extending-requires
+extending-requires c κs = let a = c .before .before .before .before .args in
+    let f = ready (a .image .now) (a .shared) (a .head) (a .table .now) (c .before .before .before .before .pre) in
+    let z = ready-zeroing (a .image .now) (a .shared) (a .head) (a .table .now) (c .before .before .before .before .pre) (sym (c .before .is-zeroing .ensures) ∙ c .if1 .taken) in
+    (z .passed-few, omega (arith, z .zeroing-inside, f .shared .few-blocks))
+
+returns : tie.Need-returns
+returns c = let a = c .before .before .before .before .before .args in
+    let m = memory one (a .image .now) in
+    settles-as (c .extending .ensures (a .table .now) (a .text .now)) (on-zeroing m (a .shared) (pointOf (a .head) (a .table .now) (a .text .now)) (sym (c .before .before .is-zeroing .ensures) ∙ c .before .if1 .taken))
+
+filling-requires : tie.Need-filling-requires
+filling-requires c κs = (c .before .before .before .before .pre, sym (c .before .is-zeroing .ensures) ∙ c .if1 .left)
+
+returns-2 : tie.Need-returns-2
+returns-2 c = let a = c .before .before .before .before .before .args in
+    let m = memory one (a .image .now) in
+    settles-as (c .filling .ensures) (on-filling m (a .shared) (pointOf (a .head) (a .table .now) (a .text .now)) (sym (c .before .before .is-zeroing .ensures) ∙ c .before .if1 .left))
+
+pub write-on-spec : {M : Type 1} → statement M
+write-on-spec =
+    tie.close (tie.spec is-zeroing-requires extending-requires returns filling-requires returns-2)

@@ -1,0 +1,137 @@
+// Beginning a write.
+ghost use mathlib.Core.Path.{_≡_};
+ghost use Prim.Native.Nat.{_≤_};
+ghost use lib.ListN.{length};
+ghost use Rattle.words.specs.Edition.{one};
+ghost use Rattle.points.specs.Record.{writing};
+ghost use Rattle.points.specs.Calls.{newWrite, textOf, beginning};
+ghost use Rattle.points.specs.Unfit.{Started};
+use crate::Begun;
+use crate::Head;
+use crate::Phase;
+use crate::Point;
+use crate::Write;
+use log::Place;
+use log::Reply;
+use log::Shared;
+
+// What is settled before a beginning changes anything: the reason to refuse, 0 for none; the log place at the tail; the run's first block.
+struct Start {
+    reason: u32,
+    place: Place,
+    run: u32,
+}
+
+fn refused(reason: u32) -> Start
+    ensures { λ r. ⌜ r .reason ≡ reason ⌝ }
+{
+    Start {
+        reason: reason,
+        place: Place {
+            block: 0,
+            slot: 0,
+            passed: 0,
+        },
+        run: 0,
+    }
+}
+
+// The first reason that holds. The walk to the tail settles 18, the search 19; nothing is changed.
+fn settle(
+    image: &[u64],
+    shared: Shared,
+    head: Head,
+    table: &[u16; 256],
+    offset: usize,
+    size: usize,
+) -> Start
+    ensures { λ r. ⌜ Started (now (image .entry)) shared head (now (table .entry)) offset size (r .reason) (r .place) (r .run) ⌝ }
+{
+    let reason = crate::record::unfit(image, shared, head, table);
+    if reason != 0 {
+        return refused(reason);
+    }
+    let write = head.write;
+    let phase = write.phase;
+    if !crate::record::is_idle(phase) {
+        return refused(crate::WRONG_PHASE);
+    }
+    if crate::record::bad_text(size) {
+        return refused(crate::TEXT_SIZE);
+    }
+    if crate::record::past_end(offset, size) {
+        return refused(crate::PAST_END);
+    }
+    let seen = log::ahead::look(image, shared.blocks, head.place, 0, 0);
+    if seen.broken {
+        return refused(log::LOG_BROKEN);
+    }
+    let run = crate::shared::search(shared, crate::record::span(offset as u32, size as u32));
+    if run == 0 {
+        return refused(crate::NO_RUN);
+    }
+    let place = seen.place;
+    Start {
+        reason: 0,
+        place: place,
+        run: run,
+    }
+}
+
+// The text in the record's array, 0 after its end.
+fn text_of(text: &[u8]) -> [u8; 1024]
+    requires { ⌜ length (now text) ≤ 1024 ⌝ }
+    ensures { λ r. ⌜ r ≡ textOf (now (text .entry)) ⌝ }
+{
+    let mut bytes = crate::record::no_text();
+    for i in 0..text.len() {
+        bytes[i] = text[i];
+    }
+    bytes
+}
+
+// The head of a write as it begins, at the tail.
+fn begun(number: u32, length: u32, place: Place, offset: u32, size: u32, run: u32) -> Head
+    ensures { λ r. ⌜ r ≡ record { number = number; length = length; place = place; write = newWrite offset size run } ⌝ }
+{
+    Head {
+        number: number,
+        length: length,
+        place: place,
+        write: Write {
+            offset: offset,
+            size: size,
+            run: run,
+            phase: Phase::Filling,
+            position: 0,
+            zeroing: 0,
+            retries: 0,
+        },
+    }
+}
+
+// Beginning: the point catches up and takes a run of the blocks that the write spans.
+pub fn begin(image: &[u64], shared: Shared, point: Point, offset: usize, text: &[u8]) -> Begun
+    ensures { λ r. ⌜ r ≡ beginning one (now (image .entry)) shared point offset (now (text .entry)) ⌝ }
+{
+    let head = point.head;
+    let start = settle(image, shared, head, &point.table, offset, text.len());
+    if start.reason != 0 {
+        return Begun {
+            reply: Reply::Refused(start.reason),
+            shared: shared,
+            point: point,
+        };
+    }
+    let mut p = point;
+    let length = log::ahead::catch_up(image, shared.blocks, head.place, &mut p.table, head.length);
+    p.text = text_of(text);
+    let at = offset as u32;
+    let size = text.len() as u32;
+    p.head = begun(head.number, length, start.place, at, size, start.run);
+    Begun {
+        reply: Reply::Done,
+        shared: crate::shared::take(shared, start.run, crate::record::span(at, size)),
+        point: p,
+    }
+}

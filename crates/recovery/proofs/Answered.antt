@@ -1,0 +1,60 @@
+-- What is shown is what is answered: opening's length, and what a joined point sees caught up. FORWARD says that the entries ahead of a
+-- point take its view to the current one, which is the file that opening shows.
+use mathlib.Core.Path.{_≡_, refl, sym, ap, _∙_, subst}
+use mathlib.Core.List.{List}
+use mathlib.Core.Bool.{true}
+use Prim.Native.Nat.{ℕ, suc, _-_}
+use lib.ListN.{length}
+use Rattle.words.specs.Edition.{Edition, one}
+use Rattle.words.specs.Memory.{memory, blockCount}
+use Rattle.log.specs.declared.Opened.{Opened}
+use Rattle.log.specs.declared.Reply.the-variants.{Refused}
+use Rattle.log.specs.Replay.{Mapped, fileByte, fileBytes, replayOn}
+use Rattle.log.specs.CatchUp as K
+use Rattle.log.specs.CatchUp.{ahead}
+use Rattle.log.specs.Opening.{openRefusal, opened, openedWith, noShared, fileOf, openedFile}
+use Rattle.points.specs.Record.{isJoined, fileAt}
+use Rattle.points.specs.Reading.{seen}
+use Rattle.recovery.specs.World as W
+use Rattle.recovery.specs.World.{world}
+use Rattle.recovery.specs.Book.{Book}
+use Rattle.recovery.specs.History.{History, enough, openWorld, callsBefore, atCut, shownFile, bookFile}
+use Rattle.recovery.specs.Claim.{Recovery, Answered}
+use Rattle.words.proofs.Logic.{length-listFrom}
+use Rattle.words.proofs.Choice.{chosen-zero}
+use Rattle.log.proofs.Sound.{replay-on}
+use Rattle.recovery.proofs.Opening.Opens.{file-is}
+use Rattle.recovery.proofs.Calls.Mapping.{Tied}
+use Rattle.recovery.proofs.Calls.Begin.{ahead-is}
+use Rattle.recovery.proofs.Claim.{enough-long, opens-enough, same-start, bytesBefore}
+use Rattle.recovery.proofs.Demand3.{after-tied, recovery}
+
+-- an image that opens is answered with the length of the file that it shows
+opened-length : (E : Edition) (words scratch : List ℕ) → openRefusal E words scratch ≡ 0 → opened E words scratch .length ≡ length (openedFile E words)
+unfolding opened openedWith openedFile fileBytes
+opened-length E words scratch e =
+    ap (λ (o : Opened). o .length)
+    (chosen-zero (openRefusal E words scratch) (openedWith E (blockCount E words) (memory E words)) (λ n. record { reply = Refused (suc n); length = 0; entries = 0; free = 0; shared = noShared }) e)
+    ∙ sym (length-listFrom 0 (fileOf E (memory E words) .size) (fileByte E (memory E words) (fileOf E (memory E words))))
+
+-- what a joined point sees is what the log gives
+module _ {L : List ℕ} (w : W.World) (bk : Book) (h : Tied L w bk) (n : ℕ) (j : isJoined (w .shared) n ≡ true) where
+  sees : seen one (w .words) (w .shared) (w .newest n .head) (w .newest n .table) ≡ fileOf one (memory one (w .words))
+  unfolding seen
+  sees =
+      let pi = h .inv .points n j in
+      let f = fileAt (w .newest n .head) (w .newest n .table) in
+      ap (λ (r : K.Walk). replayOn one f (r .entries)) (ahead-is w bk h n j) ∙ replay-on (pi .ahead) f ∙ pi .catches ∙ sym (file-is (h .inv .core))
+
+pub answered : Answered one
+unfolding Answered Recovery openedFile
+answered h = (λ scratch long. let r = recovery h scratch long in opened-length one (atCut h .words) scratch (r .0) ∙ ap length (r .1), λ p j. at (atCut h) (ap (λ (w : W.World). world one w (callsBefore h)) (same-start h)) p j ∙ recovery h enough enough-long .1)
+  where
+    there : W.World
+    there = world one (openWorld one (h .words) enough) (callsBefore h)
+
+    at : (w : W.World) → w ≡ there → (p : ℕ) → isJoined (w .shared) p ≡ true
+        → fileBytes one (memory one (w .words)) (seen one (w .words) (w .shared) (w .newest p .head) (w .newest p .table)) ≡ openedFile one (w .words)
+    at w e p j =
+        let t = after-tied (h .words) (opens-enough h) (callsBefore h) (bytesBefore h) in
+        rw e (ap (fileBytes one (memory one (there .words))) (sees there _ t p (rw e at j)))

@@ -1,0 +1,495 @@
+//! The session program: an interpreter of bench scripts.
+
+use crate::calls;
+use crate::digest::*;
+use crate::image::lay_out;
+use crate::image::MOST_BLOCKS;
+use crate::log::{catch_up, Broken};
+use crate::open::open;
+use crate::record::*;
+use crate::refusal::Refusal;
+use crate::step::{step, Answer};
+use crate::tally::Tally;
+use crate::words::*;
+
+/// "At most 262,144 bytes"
+pub const MOST_INPUT: usize = 262_144;
+/// "An image of 0 to 65,600 words"
+pub const MOST_WORDS: u64 = 65_600;
+/// The largest number below 2^32.
+const MOST_32: u64 = 0xFFFF_FFFF;
+
+/// Every command.
+pub const COMMANDS: [&str; 26] = [
+    "image", "noise", "set", "word", "layout", "open", "cut", "join", "joinas", "begin", "step",
+    "leave", "read", "show", "locate", "view", "record", "shared", "alter", "table", "text",
+    "altershared", "map", "copy", "digest", "free",
+];
+
+/// "What the bench holds", and a tally of what was answered.
+#[derive(Clone)]
+pub struct Bench {
+    pub image: Vec<u64>,
+    pub shared: Shared,
+    pub records: Vec<Record>,
+    pub tally: Tally,
+}
+
+impl Default for Bench {
+    fn default() -> Bench {
+        Bench::new()
+    }
+}
+
+/// A whole script's output.
+pub fn run(script: &[u8]) -> Vec<u8> {
+    let mut bench = Bench::new();
+    bench.script(script)
+}
+
+impl Bench {
+    pub fn new() -> Bench {
+        Bench {
+            image: Vec::new(),
+            shared: Shared::zero(),
+            records: vec![Record::zero(); 32],
+            tally: Tally::default(),
+        }
+    }
+
+    /// A whole script's output.
+    pub fn script(&mut self, script: &[u8]) -> Vec<u8> {
+        if script.len() > MOST_INPUT {
+            return b"error long\n".to_vec();
+        }
+        let mut output = String::new();
+        for line in lines(script) {
+            output.push_str(&self.line(line));
+        }
+        output.into_bytes()
+    }
+
+    /// One line's output: nothing, `error`, or a command's lines.
+    pub fn line(&mut self, line: &[u8]) -> String {
+        let words = words(line);
+        if words.is_empty() || words[0][0] == b'#' {
+            return String::new();
+        }
+        match self.command(&words) {
+            Some(output) => {
+                self.tally.count("command", &String::from_utf8_lossy(words[0]));
+                output + "\n"
+            }
+            None => "error\n".to_string(),
+        }
+    }
+
+    /// The command's output without its last line feed; None for a malformed
+    /// line.
+    fn command(&mut self, words: &[&[u8]]) -> Option<String> {
+        match words {
+            [b"image", w] => self.make_image(at_most(w, MOST_WORDS)?),
+            [b"noise", a, n, s] => self.make_noise(number(a)?, number(n)?, number(s)?),
+            [b"set", a, v] => self.set(number(a)?, number(v)?),
+            [b"word", a] => self.word(number(a)?),
+            [b"layout"] => self.layout(),
+            [b"open", s] => self.open(at_most(s, 2_048)?),
+            [b"cut"] => self.cut(),
+            [b"join", p] => self.join("join", point(p)?),
+            [b"joinas", n] => self.join("join", at_most(n, MOST_32)?),
+            [b"begin", p, o, l, s] => {
+                self.begin(point(p)?, at_most(o, MOST_32)?, at_most(l, 1_100)?, at_most(s, 255)?)
+            }
+            [b"step", p, k] => self.steps(point(p)?, at_most(k, 100_000)?),
+            [b"leave", p] => self.leave(point(p)?),
+            [b"read", p, o, l] => self.read(point(p)?, at_most(o, MOST_32)?, at_most(l, 4_096)?),
+            [b"show", p, o, l] => self.show(point(p)?, at_most(o, MOST_32)?, at_most(l, 64)?),
+            [b"locate", p, v] => self.locate(point(p)?, at_most(v, MOST_32)?),
+            [b"view", p, v] => self.view(point(p)?, at_most(v, MOST_32)?),
+            [b"record", p] => self.record(point(p)?),
+            [b"shared"] => self.show_shared(),
+            [b"digest"] => Some(format!("digest {}", digest_words(&self.image))),
+            [b"free"] => self.free(),
+            _ => self.alter_command(words),
+        }
+    }
+
+    /// The commands that alter records.
+    fn alter_command(&mut self, words: &[&[u8]]) -> Option<String> {
+        match words {
+            [b"alter", p, f, v] => self.alter(point(p)?, f, v)?,
+            [b"table", p, i, v] => {
+                let (p, i, v) = (point(p)?, at_most(i, 255)?, at_most(v, 65_535)?);
+                self.records[p].view.table[i] = v as u16;
+            }
+            [b"text", p, i, v] => {
+                let (p, i, v) = (point(p)?, at_most(i, 1_023)?, at_most(v, 255)?);
+                self.records[p].write.text[i] = v as u8;
+            }
+            [b"altershared", f, v] => self.alter_shared(f, at_most(v, MOST_32)?)?,
+            [b"map", i, v] => self.shared.map[at_most(i, 15)?] = number(v)?,
+            [b"copy", p, q] => {
+                let (p, q) = (point(p)?, point(q)?);
+                self.records[q] = self.records[p].clone();
+                return Some("copied".to_string());
+            }
+            _ => return None,
+        }
+        Some("altered".to_string())
+    }
+
+    fn forget(&mut self) {
+        self.shared = Shared::zero();
+        self.records = vec![Record::zero(); 32];
+    }
+
+    fn make_image(&mut self, words: usize) -> Option<String> {
+        self.image = vec![0; words];
+        self.forget();
+        Some(format!("image {words}"))
+    }
+
+    fn make_noise(&mut self, first: u64, count: u64, seed: u64) -> Option<String> {
+        let end = first.checked_add(count)?;
+        if end > self.image.len() as u64 {
+            return None;
+        }
+        noise(&mut self.image[first as usize..end as usize], seed);
+        Some("noise".to_string())
+    }
+
+    fn set(&mut self, place: u64, value: u64) -> Option<String> {
+        *self.image.get_mut(usize::try_from(place).ok()?)? = value;
+        Some("set".to_string())
+    }
+
+    fn word(&self, place: u64) -> Option<String> {
+        let word = self.image.get(usize::try_from(place).ok()?)?;
+        Some(format!("word {word}"))
+    }
+
+    fn refused(&mut self, call: &str, why: Refusal) -> String {
+        self.tally.refused(call, why.number());
+        format!("refused {}", why.number())
+    }
+
+    fn layout(&mut self) -> Option<String> {
+        Some(match lay_out(&mut self.image) {
+            Ok(()) => {
+                self.tally.count("layout", "laid out");
+                "laid out".to_string()
+            }
+            Err(why) => self.refused("layout", why),
+        })
+    }
+
+    fn open(&mut self, scratch: usize) -> Option<String> {
+        let mut scratch = vec![7; scratch];
+        self.forget();
+        let answer = match open(&self.image, &mut scratch) {
+            Ok(opened) => {
+                self.tally.count("open", "opened");
+                self.shared = opened.shared;
+                format!(
+                    "opened length {} entries {} free {}",
+                    opened.length, opened.entries, opened.free
+                )
+            }
+            Err(why) => self.refused("open", why),
+        };
+        Some(format!("{answer} scratch {}", digest_numbers(&scratch)))
+    }
+
+    fn cut(&mut self) -> Option<String> {
+        self.forget();
+        Some("cut".to_string())
+    }
+
+    fn join(&mut self, call: &str, number: usize) -> Option<String> {
+        Some(match calls::join(&self.image, &self.shared, number) {
+            Ok((shared, record)) => {
+                self.tally.count(call, "joined");
+                self.shared = shared;
+                self.records[number] = record;
+                "joined".to_string()
+            }
+            Err(why) => self.refused(call, why),
+        })
+    }
+
+    fn begin(&mut self, p: usize, offset: usize, length: usize, seed: usize) -> Option<String> {
+        let text: Vec<u8> = (0..length).map(|i| ((seed + 7 * i) % 256) as u8).collect();
+        let before = self.records[p].clone();
+        Some(match calls::begin(&self.image, &self.shared, &before, offset, &text) {
+            Ok((shared, record)) => {
+                self.tally.count("begin", "begun");
+                self.begin_events(&record);
+                let run = record.write.run;
+                self.shared = shared;
+                self.records[p] = record;
+                format!("begun run {run}")
+            }
+            Err(why) => {
+                if why == Refusal::LogBroken {
+                    self.broken_event(&before);
+                }
+                self.refused("begin", why)
+            }
+        })
+    }
+
+    fn begin_events(&mut self, record: &Record) {
+        if record.view.passed == 64 {
+            self.tally.event("begun in a caught-up chain of 64");
+        }
+        if record.write.run < self.shared.next {
+            self.tally.event("search wrapped");
+        }
+    }
+
+    /// Up to `count` steps: "one line for each longest stretch of equal
+    /// answers".
+    fn steps(&mut self, p: usize, count: usize) -> Option<String> {
+        if count == 0 {
+            return None;
+        }
+        let mut stretches: Vec<(Answer, usize)> = Vec::new();
+        for _ in 0..count {
+            let answer = self.one_step(p);
+            match stretches.last_mut() {
+                Some((last, times)) if *last == answer => *times += 1,
+                _ => stretches.push((answer, 1)),
+            }
+            if matches!(answer, Answer::Committed(_) | Answer::Refused(_)) {
+                break;
+            }
+        }
+        let lines: Vec<String> = stretches.into_iter().map(stretch_line).collect();
+        Some(lines.join("\n"))
+    }
+
+    /// One step of place P's record.
+    pub fn one_step(&mut self, p: usize) -> Answer {
+        let before = self.records[p].clone();
+        let (answer, shared, record) = step(&mut self.image, &self.shared, &before);
+        self.shared = shared;
+        self.step_events(answer, &before, &record);
+        self.records[p] = record;
+        answer
+    }
+
+    fn step_events(&mut self, answer: Answer, before: &Record, after: &Record) {
+        match answer {
+            Answer::Stored => {
+                self.tally.count("step", "stored");
+                if before.write.phase == Phase::Zeroing && after.write.phase == Phase::Filling {
+                    self.tally.event("linked");
+                }
+            }
+            Answer::Extending => self.tally.count("step", "extending"),
+            Answer::Moved => {
+                self.tally.count("step", "moved");
+                self.moved_events(before, after);
+            }
+            Answer::Committed(retries) => {
+                self.tally.count("step", "committed");
+                if retries > 0 {
+                    self.tally.event("committed after moved");
+                }
+                if after.view.passed == 64 {
+                    self.tally.event("committed in the 64th log block");
+                }
+            }
+            Answer::Refused(why) => {
+                self.tally.refused("step", why.number());
+                match why {
+                    Refusal::LogFull => self.tally.event("20 after work"),
+                    Refusal::NoLogBlock => self.tally.event("21 after work"),
+                    Refusal::LogBroken => self.broken_event(before),
+                    _ => {}
+                }
+            }
+        }
+    }
+
+    fn moved_events(&mut self, before: &Record, after: &Record) {
+        if before.write.phase == Phase::Zeroing {
+            self.tally.event("moved by a lost link");
+            return;
+        }
+        self.tally.event(match after.write.phase {
+            Phase::RefillingFirst => "moved, refills first",
+            Phase::RefillingLast => "moved, refills last",
+            Phase::RefillingBoth => "moved, refills both",
+            _ => "moved, refills nothing",
+        });
+        if after.view.block != before.view.block {
+            self.tally.event("moved into a next block");
+        }
+    }
+
+    /// Counts by what catching up meets 18.
+    fn broken_event(&mut self, record: &Record) {
+        match catch_up(&self.image, &record.view) {
+            Err(Broken::Entry) => self.tally.event("18 by an entry"),
+            Err(Broken::Next) => self.tally.event("18 by a next index"),
+            Err(Broken::TooLong) => self.tally.event("18 by a 65th log block"),
+            Ok(_) => {}
+        }
+    }
+
+    fn leave(&mut self, p: usize) -> Option<String> {
+        Some(match calls::leave(&self.image, &self.shared, &self.records[p]) {
+            Ok(shared) => {
+                self.tally.count("leave", "left");
+                match self.records[p].write.phase {
+                    Phase::Idle => {}
+                    Phase::Zeroing => self.tally.event("left while zeroing"),
+                    _ => self.tally.event("left while filling"),
+                }
+                self.shared = shared;
+                self.records[p] = Record::zero();
+                "left".to_string()
+            }
+            Err(why) => self.refused("leave", why),
+        })
+    }
+
+    fn read(&mut self, p: usize, offset: usize, length: usize) -> Option<String> {
+        let mut buffer = vec![170; length];
+        let record = &self.records[p];
+        let answer = match calls::read(&self.image, &self.shared, record, offset, &mut buffer) {
+            Ok(count) => {
+                self.tally.count("read", "read");
+                format!("read {count}")
+            }
+            Err(why) => self.refused("read", why),
+        };
+        Some(format!("{answer} digest {}", digest_bytes(&buffer)))
+    }
+
+    fn show(&mut self, p: usize, offset: usize, length: usize) -> Option<String> {
+        let mut buffer = vec![170; length];
+        let record = &self.records[p];
+        Some(match calls::read(&self.image, &self.shared, record, offset, &mut buffer) {
+            Ok(count) => {
+                self.tally.count("show", "show");
+                let bytes: Vec<String> =
+                    buffer[..count].iter().map(|byte| format!("{byte:02x}")).collect();
+                format!("show {}", bytes.concat()).trim_end().to_string()
+            }
+            Err(why) => self.refused("show", why),
+        })
+    }
+
+    fn locate(&mut self, p: usize, v: usize) -> Option<String> {
+        Some(match calls::locate(&self.image, &self.shared, &self.records[p], v) {
+            Ok(block) => {
+                self.tally.count("locate", "located");
+                format!("located {block}")
+            }
+            Err(why) => self.refused("locate", why),
+        })
+    }
+
+    fn view(&mut self, p: usize, v: usize) -> Option<String> {
+        let located = calls::locate(&self.image, &self.shared, &self.records[p], v);
+        let part = calls::view(&self.image, &self.shared, &self.records[p], v);
+        let place = (part.as_ptr() as usize - self.image.as_ptr() as usize) / 8;
+        if let Err(why) = located {
+            self.tally.refused("view", why.number());
+        }
+        if part.is_empty() {
+            self.tally.count("view", "empty");
+            return Some("view empty".to_string());
+        }
+        self.tally.count("view", "view");
+        Some(format!("view {place} digest {}", digest_words(part)))
+    }
+
+    fn record(&self, p: usize) -> Option<String> {
+        let Record { number, view, write } = &self.records[p];
+        let numbers = [
+            *number as u64,
+            view.length as u64,
+            view.block as u64,
+            view.slot as u64,
+            view.passed as u64,
+            write.phase.number(),
+            write.offset as u64,
+            write.text_length as u64,
+            write.run as u64,
+            write.position as u64,
+            write.zeroing as u64,
+            u64::from(write.retries),
+            digest_numbers(&view.table),
+            digest_bytes(&write.text),
+        ];
+        Some(format!("record {}", numbers.map(|n| n.to_string()).join(" ")))
+    }
+
+    fn show_shared(&self) -> Option<String> {
+        let Shared { blocks, joined, next, map } = &self.shared;
+        Some(format!("shared {blocks} {joined} {next} {}", digest_words(map)))
+    }
+
+    /// "the count of blocks below the shared record's block count (at most
+    /// 1,024 of them) whose map bit is 0"
+    fn free(&self) -> Option<String> {
+        let blocks = self.shared.blocks.min(MOST_BLOCKS);
+        let free = (0..blocks).filter(|&block| !self.shared.is_taken(block)).count();
+        Some(format!("free {free}"))
+    }
+
+    fn alter(&mut self, p: usize, field: &[u8], word: &[u8]) -> Option<()> {
+        let value = at_most(word, MOST_32)?;
+        let record = &mut self.records[p];
+        match field {
+            b"number" => record.number = value,
+            b"length" => record.view.length = value,
+            b"block" => record.view.block = value,
+            b"slot" => record.view.slot = value,
+            b"passed" => record.view.passed = value,
+            b"offset" => record.write.offset = value,
+            b"textlength" => record.write.text_length = value,
+            b"run" => record.write.run = value,
+            b"position" => record.write.position = value,
+            b"zeroing" => record.write.zeroing = value,
+            b"retries" => record.write.retries = u16::try_from(value).ok()?,
+            b"phase" => record.write.phase = Phase::from_number(value as u64)?,
+            _ => return None,
+        }
+        Some(())
+    }
+
+    fn alter_shared(&mut self, field: &[u8], value: usize) -> Option<()> {
+        match field {
+            b"blocks" => self.shared.blocks = value,
+            b"joined" => self.shared.joined = value as u32,
+            b"next" => self.shared.next = value,
+            _ => return None,
+        }
+        Some(())
+    }
+}
+
+/// "P is a number from 0 to 31"
+fn point(word: &[u8]) -> Option<usize> {
+    at_most(word, 31)
+}
+
+/// "the answer, then ` x C` where the stretch has C > 1"
+fn stretch_line((answer, times): (Answer, usize)) -> String {
+    let answer = match answer {
+        Answer::Stored => "stored".to_string(),
+        Answer::Extending => "extending".to_string(),
+        Answer::Moved => "moved".to_string(),
+        Answer::Committed(retries) => format!("committed {retries}"),
+        Answer::Refused(why) => format!("refused {}", why.number()),
+    };
+    if times > 1 {
+        format!("{answer} x {times}")
+    } else {
+        answer
+    }
+}

@@ -1,0 +1,27 @@
+//! A second implementation of the store, written from document 01 and its
+//! readings alone. Plainness goes before speed: each sentence is written down
+//! as directly as it can be.
+
+pub mod acts;
+pub mod bench;
+pub mod book;
+pub mod calls;
+pub mod digest;
+pub mod forge;
+pub mod image;
+pub mod images;
+pub mod listing;
+pub mod log;
+pub mod map;
+pub mod maker;
+pub mod malform;
+pub mod open;
+pub mod outside;
+pub mod random;
+pub mod record;
+pub mod refusal;
+pub mod scripts;
+pub mod step;
+pub mod tally;
+pub mod words;
+pub mod world;

@@ -1,0 +1,134 @@
+//! How often each answer and refusal of each call came up.
+
+use std::collections::BTreeMap;
+
+/// A call and what it answered, or what happened inside it.
+#[derive(Clone, Debug, Default)]
+pub struct Tally {
+    counts: BTreeMap<(String, String), u64>,
+}
+
+/// "Which call gives which refusal", with the answers.
+pub const TABLE: [(&str, &[&str], &[u64]); 10] = [
+    ("layout", &["laid out"], &[1]),
+    ("open", &["opened"], &[1, 2, 3, 4, 5, 6, 7, 8, 9]),
+    ("join", &["joined"], &[10, 12, 13, 18]),
+    ("begin", &["begun"], &[10, 11, 14, 15, 16, 17, 18, 19]),
+    (
+        "step",
+        &["stored", "extending", "moved", "committed"],
+        &[10, 11, 14, 15, 18, 20, 21],
+    ),
+    ("leave", &["left"], &[10, 11, 14]),
+    ("read", &["read"], &[10, 11, 14, 18]),
+    ("show", &["show"], &[10, 11, 14, 18]),
+    ("locate", &["located"], &[10, 11, 14, 17, 18, 22]),
+    ("view", &["view", "empty"], &[10, 11, 14, 17, 18, 22]),
+];
+
+/// What happens inside the calls and is to be met too.
+pub const EVENTS: [&str; 18] = [
+    "linked",
+    "moved by a lost link",
+    "moved, refills nothing",
+    "moved, refills first",
+    "moved, refills last",
+    "moved, refills both",
+    "moved into a next block",
+    "committed after moved",
+    "committed in the 64th log block",
+    "18 by an entry",
+    "18 by a next index",
+    "18 by a 65th log block",
+    "20 after work",
+    "21 after work",
+    "begun in a caught-up chain of 64",
+    "search wrapped",
+    "left while zeroing",
+    "left while filling",
+];
+
+impl Tally {
+    pub fn count(&mut self, call: &str, answer: &str) {
+        self.count_times(call, answer, 1);
+    }
+
+    pub fn count_times(&mut self, call: &str, answer: &str, times: u64) {
+        *self.counts.entry((call.to_string(), answer.to_string())).or_insert(0) += times;
+    }
+
+    pub fn refused(&mut self, call: &str, number: u64) {
+        self.count(call, &format!("refused {number}"));
+    }
+
+    pub fn event(&mut self, event: &str) {
+        self.count("event", event);
+    }
+
+    pub fn of(&self, call: &str, answer: &str) -> u64 {
+        self.counts.get(&(call.to_string(), answer.to_string())).copied().unwrap_or(0)
+    }
+
+    /// All counts of a call.
+    pub fn total(&self, call: &str) -> u64 {
+        self.counts.iter().filter(|((c, _), _)| c == call).map(|(_, &times)| times).sum()
+    }
+
+    pub fn add(&mut self, other: &Tally) {
+        for ((call, answer), &times) in &other.counts {
+            self.count_times(call, answer, times);
+        }
+    }
+
+    /// The table's pairs of call and answer.
+    pub fn table() -> Vec<(String, String)> {
+        let mut pairs = Vec::new();
+        for (call, answers, refusals) in TABLE {
+            pairs.extend(answers.iter().map(|a| (call.to_string(), a.to_string())));
+            pairs.extend(refusals.iter().map(|r| (call.to_string(), format!("refused {r}"))));
+        }
+        pairs
+    }
+
+    /// One line a call: each answer and refusal with its count.
+    pub fn lines(&self) -> Vec<String> {
+        let mut lines = Vec::new();
+        for (call, answers, refusals) in TABLE {
+            let mut line = format!("{call}:");
+            for answer in answers {
+                line.push_str(&format!(" {answer} {},", self.of(call, answer)));
+            }
+            let numbers: Vec<String> = refusals
+                .iter()
+                .map(|r| format!("{r} {}", self.of(call, &format!("refused {r}"))))
+                .collect();
+            lines.push(format!("{line} refused: {}", numbers.join(", ")));
+        }
+        for event in EVENTS {
+            lines.push(format!("event: {event} {}", self.of("event", event)));
+        }
+        lines
+    }
+
+    /// Pairs of the table, commands and events that never came up.
+    pub fn missing(&self) -> Vec<String> {
+        let mut missing: Vec<String> = Tally::table()
+            .into_iter()
+            .filter(|(call, answer)| self.of(call, answer) == 0)
+            .map(|(call, answer)| format!("{call}: {answer}"))
+            .collect();
+        missing.extend(
+            EVENTS
+                .iter()
+                .filter(|event| self.of("event", event) == 0)
+                .map(|event| format!("event: {event}")),
+        );
+        missing.extend(
+            crate::bench::COMMANDS
+                .iter()
+                .filter(|command| self.of("command", command) == 0)
+                .map(|command| format!("command: {command}")),
+        );
+        missing
+    }
+}

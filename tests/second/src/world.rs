@@ -1,0 +1,280 @@
+//! Demand 3, looked at by running: a list of calls, and after each call what
+//! the image shows beside what the book says.
+
+use crate::book::Book;
+use crate::calls;
+use crate::image::*;
+use crate::open::{open, show};
+use crate::record::*;
+use crate::refusal::Refusal;
+use crate::step::{step, Answer};
+use crate::tally::Tally;
+
+/// "a point that from any moment of its write on alone takes steps finishes
+/// its write in at most 388 further steps"
+pub const MOST_STEPS: usize = 388;
+
+/// A call of the list. A joined point hands in its newest record, another one
+/// the record given here, with its number.
+pub enum Call {
+    Join(usize),
+    Begin(usize, Option<Record>, usize, Vec<u8>),
+    Step(usize, Option<Record>),
+    Leave(usize, Option<Record>),
+}
+
+/// An opened image, the points' newest records and the book.
+pub struct World {
+    pub image: Vec<u64>,
+    pub shared: Shared,
+    pub records: Vec<Option<Record>>,
+    book: Book,
+    log: Vec<u64>,
+    moved: [u64; 32],
+    pub tally: Tally,
+}
+
+fn must(holds: bool, sentence: &str) -> Result<(), String> {
+    if holds {
+        Ok(())
+    } else {
+        Err(sentence.to_string())
+    }
+}
+
+impl World {
+    /// Opens an image that opening accepts.
+    pub fn new(image: Vec<u64>) -> Result<World, String> {
+        let opened = open(&image, &mut [0; 1_024])
+            .map_err(|why| format!("the first opening is refused by {}", why.number()))?;
+        let shown = show(&image).map_err(|_| "the first image shows nothing".to_string())?;
+        let world = World {
+            book: Book::new(shown.file(&image)),
+            log: shown.log,
+            image,
+            shared: opened.shared,
+            records: vec![None; 32],
+            moved: [0; 32],
+            tally: Tally::default(),
+        };
+        world.check_image()?;
+        Ok(world)
+    }
+
+    /// Makes the call and looks at everything.
+    pub fn call(&mut self, call: Call) -> Result<(), String> {
+        let before = self.image.clone();
+        let shared = self.shared.clone();
+        let refused = match call {
+            Call::Join(number) => self.join(number)?,
+            Call::Begin(p, record, offset, text) => self.begin(p, record, offset, &text)?,
+            Call::Step(p, record) => self.step(p, record)?,
+            Call::Leave(p, record) => self.leave(p, record)?,
+        };
+        let changed = before.iter().zip(&self.image).filter(|(a, b)| a != b).count();
+        must(changed <= 1, "a call changes at most one word")?;
+        if let Some(why) = refused {
+            must(changed == 0, "a refused call changes no word")?;
+            let ends = matches!(why, Refusal::LogFull | Refusal::NoLogBlock);
+            must(ends || shared == self.shared, "a refused call leaves the shared record")?;
+        }
+        self.check_image()
+    }
+
+    fn join(&mut self, number: usize) -> Result<Option<Refusal>, String> {
+        match calls::join(&self.image, &self.shared, number) {
+            Ok((shared, record)) => {
+                self.tally.count("join", "joined");
+                must(self.records[number].is_none(), "an unjoined point joins")?;
+                self.shared = shared;
+                self.records[number] = Some(record);
+                Ok(None)
+            }
+            Err(why) => self.refused("join", why, &[12, 13]),
+        }
+    }
+
+    fn refused(
+        &mut self,
+        call: &str,
+        why: Refusal,
+        allowed: &[u64],
+    ) -> Result<Option<Refusal>, String> {
+        self.tally.refused(call, why.number());
+        must(allowed.contains(&why.number()), &format!("{call} refused by {}", why.number()))?;
+        Ok(Some(why))
+    }
+
+    /// The record that the point hands in, and whether it is joined.
+    fn handed_in(&self, p: usize, record: Option<Record>) -> (Record, bool) {
+        match self.records.get(p).cloned().flatten() {
+            Some(newest) => (newest, true),
+            None => (Record { number: p, ..record.unwrap_or(Record::zero()) }, false),
+        }
+    }
+
+    fn begin(
+        &mut self,
+        p: usize,
+        record: Option<Record>,
+        offset: usize,
+        text: &[u8],
+    ) -> Result<Option<Refusal>, String> {
+        let (record, joined) = self.handed_in(p, record);
+        match calls::begin(&self.image, &self.shared, &record, offset, text) {
+            Ok((shared, record)) => {
+                must(joined, "only a joined point begins")?;
+                self.tally.count("begin", "begun");
+                self.book.begun(p, offset, text);
+                self.moved[p] = 0;
+                self.shared = shared;
+                self.records[p] = Some(record);
+                Ok(None)
+            }
+            Err(why) if joined => self.refused("begin", why, &[15, 16, 17, 19]),
+            Err(why) => self.refused("begin", why, &[11, 14]),
+        }
+    }
+
+    fn step(&mut self, p: usize, record: Option<Record>) -> Result<Option<Refusal>, String> {
+        let (record, joined) = self.handed_in(p, record);
+        let (answer, shared, after) = step(&mut self.image, &self.shared, &record);
+        if let Answer::Refused(why) = answer {
+            let allowed: &[u64] = if joined { &[15, 20, 21] } else { &[11, 14] };
+            self.refused("step", why, allowed)?;
+            let ends = matches!(why, Refusal::LogFull | Refusal::NoLogBlock);
+            must(ends || after == record, "a refused step leaves the record")?;
+        }
+        must(joined || matches!(answer, Answer::Refused(_)), "only a joined point steps")?;
+        if joined {
+            self.book.stepped(p, answer);
+            self.shared = shared;
+            self.count_step(p, answer, &record, &after)?;
+            self.records[p] = Some(after);
+        }
+        Ok(match answer {
+            Answer::Refused(why) => Some(why),
+            _ => None,
+        })
+    }
+
+    /// "The retry count is the lesser of 65,535 and the Moved answers of this
+    /// write."
+    fn count_step(
+        &mut self,
+        p: usize,
+        answer: Answer,
+        before: &Record,
+        after: &Record,
+    ) -> Result<(), String> {
+        match answer {
+            Answer::Stored => self.tally.count("step", "stored"),
+            Answer::Extending => self.tally.count("step", "extending"),
+            Answer::Moved => {
+                self.tally.count("step", "moved");
+                self.moved[p] += 1;
+            }
+            Answer::Committed(retries) => {
+                self.tally.count("step", "committed");
+                let count = self.moved[p].min(65_535);
+                must(u64::from(retries) == count, "the retry count of the answer")?;
+                self.log.push(before.write.entry(p).pack());
+            }
+            Answer::Refused(_) => {}
+        }
+        let count = self.moved[p].min(65_535);
+        must(after.is_idle() || u64::from(after.write.retries) == count, "the retry count")
+    }
+
+    fn leave(&mut self, p: usize, record: Option<Record>) -> Result<Option<Refusal>, String> {
+        let (record, joined) = self.handed_in(p, record);
+        match calls::leave(&self.image, &self.shared, &record) {
+            Ok(shared) => {
+                must(joined, "only a joined point leaves")?;
+                self.tally.count("leave", "left");
+                self.book.left(p);
+                self.shared = shared;
+                self.records[p] = None;
+                Ok(None)
+            }
+            Err(why) => self.refused("leave", why, if joined { &[] } else { &[11, 14] }),
+        }
+    }
+
+    /// Opens the image again and compares file, log and map.
+    fn check_image(&self) -> Result<(), String> {
+        let mut scratch = vec![9; 1_024];
+        let opened = open(&self.image, &mut scratch)
+            .map_err(|why| format!("opening again is refused by {}", why.number()))?;
+        let shown = show(&self.image).map_err(|_| "the image shows nothing".to_string())?;
+        must(opened.length == self.book.file.len(), "the length is the book's")?;
+        must(shown.file(&self.image) == self.book.file, "the bytes are the book's")?;
+        must(shown.log == self.log, "the log is the old log and the entries committed")?;
+        must(opened.entries == self.log.len(), "the count of log entries")?;
+        self.check_map(&scratch)
+    }
+
+    /// "Taken are block 0, the log chain, the live blocks and what joined
+    /// points hold", nothing held twice.
+    fn check_map(&self, scratch: &[u16]) -> Result<(), String> {
+        let mut taken: Vec<bool> = scratch.iter().map(|&mark| mark != 0).collect();
+        for record in self.records.iter().flatten().filter(|record| !record.is_idle()) {
+            let write = &record.write;
+            let mut held: Vec<usize> = (write.run..write.run + write.span()).collect();
+            if write.phase == Phase::Zeroing {
+                held.push(write.zeroing);
+            }
+            for block in held {
+                must(!taken[block], "nothing is held twice")?;
+                taken[block] = true;
+            }
+        }
+        let same = (0..MOST_BLOCKS).all(|block| self.shared.is_taken(block) == taken[block]);
+        must(same, "the map's taken blocks")
+    }
+
+    /// How many steps the point needs alone from here, on copies.
+    pub fn steps_alone(&self, p: usize) -> Result<usize, String> {
+        let mut image = self.image.clone();
+        let mut shared = self.shared.clone();
+        let mut record = self.records[p].clone().ok_or("the point is joined")?;
+        for steps in 1..=MOST_STEPS {
+            let (answer, shared_after, record_after) = step(&mut image, &shared, &record);
+            match answer {
+                Answer::Committed(_)
+                | Answer::Refused(Refusal::LogFull | Refusal::NoLogBlock) => return Ok(steps),
+                Answer::Refused(why) => return Err(format!("alone refused by {}", why.number())),
+                _ => {}
+            }
+            shared = shared_after;
+            record = record_after;
+        }
+        Err("a point alone finishes within 388 steps".to_string())
+    }
+}
+
+/// The case that needs all 388 steps: a write of 514 bytes at offset 511 spans
+/// three blocks; another's entry into slot 63 covers both its edges.
+pub fn longest_case() -> Result<usize, String> {
+    let mut image = vec![0; 64 * 16];
+    lay_out(&mut image).map_err(|_| "laying out")?;
+    for slot in FIRST_SLOT..END_SLOT - 1 {
+        image[place_of(1, slot)] = Entry { v: 9, b: 15, n: 1, u: 512, point: 0, rest: 0 }.pack();
+    }
+    let mut world = World::new(image)?;
+    world.call(Call::Join(1))?;
+    world.call(Call::Join(2))?;
+    world.call(Call::Begin(2, None, 511, vec![1; 514]))?;
+    for _ in 0..192 {
+        world.call(Call::Step(2, None))?;
+    }
+    world.call(Call::Begin(1, None, 511, vec![2; 514]))?;
+    world.call(Call::Step(2, None))?;
+    must(world.tally.of("step", "committed") == 1, "the other point has committed")?;
+    let steps = world.steps_alone(1)?;
+    for _ in 0..steps {
+        world.call(Call::Step(1, None))?;
+    }
+    must(world.tally.of("step", "committed") == 2, "both have committed")?;
+    Ok(steps)
+}
