@@ -1,4 +1,4 @@
--- What the parts of a step settle: a plan, and the outcome that it stands for (DESIGN: a step settles, then stores). Nothing here says more than
+-- What the parts of a step settle: a plan, and the outcome that it stands for. Nothing here says more than
 -- `Stepping`: the contracts of the code's parts equate the outcome of a plan with its definitions.
 use Prim.Native.Nat.{ℕ, _+_, _-_, _/_, _%_}
 use mathlib.Core.Path.{_≡_}
