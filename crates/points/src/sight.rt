@@ -23,7 +23,13 @@ fn unseen(reason: u32) -> Sight
 }
 
 // The first of 10, 11, 14, 17 where the block asked for lies past the file, and 18; where there is none, the table is caught up, and the length answered.
-pub(crate) fn see(image: &[u64], shared: Shared, head: Head, table: &mut [u16; 256], past: bool) -> Sight
+pub(crate) fn see(
+    image: &[u64],
+    shared: Shared,
+    head: Head,
+    table: &mut [u16; 256],
+    past: bool,
+) -> Sight
     ensures { λ r. ⌜ (r .reason ≡ sightRefusal one (now (image .entry)) shared head (now (table .entry)) past) × (r .reason ≡ 0 → record { table = now (table .exit); size = r .size } ≡ seen one (now (image .entry)) shared head (now (table .entry))) ⌝ }
 {
     let reason = crate::record::unfit(image, shared, head, table);
