@@ -2,7 +2,8 @@
 use mathlib.Core.Path.{_≡_, _∙_, sym, ap}
 use mathlib.Core.List.{List, _++_}
 use mathlib.Core.Bool.{true, false, Bool}
-use Prim.Native.Nat.{ℕ, _+_, _≤_, _<_, _*_, _/_}
+use Prim.Native.Nat.{ℕ, _+_, _≤_, _<_, _*_, _/_, _%_, _^_}
+use native.Mathlib.Nat.{mod-eq-of-lt}
 use native.Mathlib.Omega.{arith}
 use lib.ListN.{length, drop, replicate, length-replicate, length-append}
 use lib.Seq.{drop-at}
@@ -52,8 +53,12 @@ module _ {words scratch : List ℕ} (p : Passed words scratch) where
   pub scratch-enough : 1024 ≤ length scratch
   scratch-enough = ltb-false (length scratch) 1024 (p .long)
 
-  pub first-small : firstIndex (mem words) < 1024
+  first-small : firstIndex (mem words) < 1024
   first-small = let h = first-inside words (p .index) in let k = blocks-small in omega arith
+
+  -- the walk begins at the log's start
+  pub at-start : (st : Place) → st ≡ record { block = firstIndex (mem words) % 2 ^ 32; slot = 2; passed = 1 } → st ≡ startOf words
+  at-start st e = e ∙ ap (λ (b : ℕ). record { block = b; slot = 2; passed = 1 }) (mod-eq-of-lt (omega (arith, first-small)))
 
   pub seen-bad : (st : Place) → st ≡ startOf words → broken one (count words) (ahead one (mem words) (count words) st) ≡ badEntry one (count words) (log (mem words))
   seen-bad st e = rw e (start-broken words (p .index) (p .ends))

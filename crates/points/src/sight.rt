@@ -11,7 +11,7 @@ use log::Reply;
 use log::Shared;
 
 // Why the file is not seen, 0 where it is; and its length.
-pub struct Sight {
+pub(crate) struct Sight {
     pub reason: u32,
     pub size: u32,
 }
@@ -23,7 +23,13 @@ fn unseen(reason: u32) -> Sight
 }
 
 // The first of 10, 11, 14, 17 where the block asked for lies past the file, and 18; where there is none, the table is caught up, and the length answered.
-pub fn see(image: &[u64], shared: Shared, head: Head, table: &mut [u16; 256], past: bool) -> Sight
+pub(crate) fn see(
+    image: &[u64],
+    shared: Shared,
+    head: Head,
+    table: &mut [u16; 256],
+    past: bool,
+) -> Sight
     ensures { λ r. ⌜ (r .reason ≡ sightRefusal one (now (image .entry)) shared head (now (table .entry)) past) × (r .reason ≡ 0 → record { table = now (table .exit); size = r .size } ≡ seen one (now (image .entry)) shared head (now (table .entry))) ⌝ }
 {
     let reason = crate::record::unfit(image, shared, head, table);
@@ -44,7 +50,7 @@ pub fn see(image: &[u64], shared: Shared, head: Head, table: &mut [u16; 256], pa
 }
 
 // The logical block of a virtual one; 0 where nothing is mapped, and past the table.
-pub fn mapped(table: &[u16], v: usize) -> usize
+pub(crate) fn mapped(table: &[u16], v: usize) -> usize
     ensures { λ r. ⌜ r ≡ getD (now (table .entry)) v 0 ⌝ }
 {
     if v < table.len() {
@@ -54,7 +60,7 @@ pub fn mapped(table: &[u16], v: usize) -> usize
 }
 
 // The part of the image that a logical index names: the block itself, not a copy; empty for 0.
-pub fn part(image: &[u64], b: usize) -> &[u64]
+pub(crate) fn part(image: &[u64], b: usize) -> &[u64]
     ensures { λ r. ⌜ now r ≡ partOf (memory one (now (image .entry))) b ⌝ }
 {
     if b == 0 {
@@ -64,7 +70,7 @@ pub fn part(image: &[u64], b: usize) -> &[u64]
 }
 
 // "a refused read or locating answers 0".
-pub fn refused(reason: u32) -> Count
+pub(crate) fn refused(reason: u32) -> Count
     ensures { λ r. ⌜ r ≡ record { reply = Reply.Refused reason; count = 0 } ⌝ }
 {
     Count {
@@ -74,7 +80,7 @@ pub fn refused(reason: u32) -> Count
 }
 
 // A count that is answered.
-pub fn counted(count: u32) -> Count
+pub(crate) fn counted(count: u32) -> Count
     ensures { λ r. ⌜ r ≡ record { reply = Reply.Done; count = count } ⌝ }
 {
     Count {

@@ -1,0 +1,179 @@
+-- The plan of each part of a step stands for the part's definition: one law a part, over a plan that is written out.
+-- The definitions are opened here; a function's proof puts its callees' contracts into the plan and cites the law.
+use Prim.Native.Nat.{ℕ, _+_, _*_, _-_, _/_, _%_, _≤_, _<_}
+use native.Mathlib.Omega.{arith}
+use native.Mathlib.Numerals.{add-one}
+use mathlib.Core.Path.{_≡_, refl, sym, ap, _∙_}
+use mathlib.Core.Bool.{true, false, _&&_}
+use mathlib.Core.List.{List, [], _∷_}
+use Rattle.words.specs.Edition.{one}
+use Rattle.words.specs.Logic.{isZero, first, _when_}
+use Rattle.words.specs.Memory.{Memory, put}
+use Rattle.words.specs.BlockMap.{mark, markRun, markAll}
+use borrow.Author.Tests.{le-leb, lt-leb, leb-true, not-true}
+use Rattle.words.proofs.Logic.{all-every, every-all}
+use Rattle.words.proofs.Tests.{not-no, is-zero, not-zero}
+use Rattle.log.specs.declared.Shared.{Shared}
+use Rattle.log.specs.declared.Place.{Place}
+use Rattle.log.specs.declared.Seen.{Seen}
+use Rattle.log.specs.Entry.{legal}
+use Rattle.log.specs.CatchUp.{Walk, ahead, broken}
+use Rattle.log.specs.Replay.{Mapped}
+use Rattle.log.specs.Look.{seenBy}
+use Rattle.points.specs.declared.Phase.the-variants.{Zeroing}
+use Rattle.points.specs.declared.Head.{Head}
+use Rattle.points.specs.declared.Point.{Point}
+use Rattle.points.specs.declared.StepAnswer.{StepAnswer}
+use Rattle.points.specs.declared.StepAnswer.the-variants.{Stored, Moved, Extending, Committed, Refused}
+use Rattle.points.specs.declared.plan.Change.{Change}
+use Rattle.points.specs.declared.plan.Change.the-variants.{Keep, Clear, TakeIn, CatchUp}
+use Rattle.points.specs.declared.plan.Plan.{Plan}
+use Rattle.points.specs.Record.{runFirst, runBlocks, firstEdge, lastEdge, noWrite, writing, fileAt, caughtUp}
+use Rattle.points.specs.Search.{search, taking, withTaken}
+use Rattle.points.specs.Calls.{withoutRun}
+use Rattle.points.specs.Fill.{newWord}
+use Rattle.points.specs.Stepping.{Outcome, refused, turned, toCommit, retried, fill, entryFor, replaced, committedHead, commit, giveUp, extend, atEnd, refill, refillAfter, moveOn, linkedHead, link, giveBack, zero-out}
+use Rattle.points.specs.Plan.{outcomeOf, fileAfter, textAfter, allowed, answered, pointOf, placed, storeOf, lengthened, Settles}
+use Rattle.points.proofs.Ways.{endReasons, give-on, extend-on, stop-on, go-on}
+use Rattle.points.proofs.Unfit.{first-settled, first-goes-on}
+
+abbrev pub resting : StepAnswer → Shared → Head → Change → Plan
+resting step s h change = record { step = step; shared = s; head = h; change = change; stores = false; block = 0; word = 0; value = 0 }
+
+abbrev pub storing : StepAnswer → Shared → Head → Change → ℕ → ℕ → ℕ → Plan
+storing step s h change block word value =
+    record { step = step; shared = s; head = h; change = change; stores = true; block = block; word = word; value = value }
+
+module _ (m : Memory) (s : Shared) (h : Head) (table text : List ℕ) where
+  pub refused-settles : (n : ℕ) → Settles one m (resting (Refused n) s h Keep) (pointOf h table text) (refused n s (pointOf h table text))
+  unfolding outcomeOf fileAfter textAfter allowed
+  refused-settles n = record { outcome = refl; change = refl }
+
+  pub fill-settles :
+      (k : ℕ)
+      → Settles one m
+      (storing Stored s (writing h (turned (h .write) (h .write .phase) (k + 1) (h .write .zeroing) (h .write .retries))) Keep (h .write .run) k (newWord one m h table text k))
+      (pointOf h table text) (fill one m s (pointOf h table text) k)
+  unfolding outcomeOf fileAfter textAfter allowed fill
+  fill-settles k = record { outcome = rw add-one; change = refl }
+
+  pub zero-settles :
+      h .write .position < 64
+      → Settles one m
+      (storing Stored s (writing h (turned (h .write) Zeroing (h .write .position + 1) (h .write .zeroing) (h .write .retries))) Keep (h .write .zeroing) (h .write .position) 0)
+      (pointOf h table text) (zero-out s (pointOf h table text))
+  unfolding outcomeOf fileAfter textAfter allowed zero-out
+  zero-settles l =
+      let b : h .write .zeroing + h .write .position / 64 ≡ h .write .zeroing = omega arith in
+      let i : h .write .position % 64 ≡ h .write .position = omega arith in
+      record { outcome = rw (b, i, add-one); change = refl }
+
+  pub link-settles :
+      Settles one m (storing Stored s (linkedHead one h) Keep (h .place .block) 0 (h .write .zeroing)) (pointOf h table text) (link one s (pointOf h table text))
+  unfolding outcomeOf fileAfter textAfter allowed link
+  link-settles =
+      let b : h .place .block + 0 ≡ h .place .block = omega arith in
+      record { outcome = rw b; change = refl }
+
+  pub give-back-settles :
+      (map : List ℕ) → map ≡ mark false (s .taken) (h .write .zeroing)
+      → Settles one m (resting Moved (withTaken s map) (writing h (toCommit one (h .write) (retried (h .write)))) Keep) (pointOf h table text) (giveBack one s (pointOf h table text))
+  unfolding outcomeOf fileAfter textAfter allowed giveBack
+  give-back-settles map e = record { outcome = rw e; change = refl }
+
+  pub give-up-settles :
+      (n : ℕ) (map : List ℕ) → map ≡ markRun false (s .taken) (h .write .run) (runBlocks one (h .write))
+      → Settles one m (resting (Refused n) (withTaken s map) (writing h noWrite) Clear) (pointOf h table text) (giveUp one n s (pointOf h table text))
+  unfolding outcomeOf fileAfter textAfter allowed giveUp withoutRun
+  give-up-settles n map e = record { outcome = rw e; change = refl }
+
+  pub extend-settles :
+      (b : ℕ) → b ≡ search s 1
+      → Settles one m (resting Extending (taking s b 1) (writing h (turned (h .write) Zeroing 0 b (h .write .retries))) Keep) (pointOf h table text) (extend one s (pointOf h table text))
+  unfolding outcomeOf fileAfter textAfter allowed extend
+  extend-settles b e = record { outcome = rw e; change = refl }
+
+  pub commit-settles :
+      (map : List ℕ) → map ≡ markAll false (s .taken) (replaced one (h .write) table) → h .place .slot < 64 → s .blocks ≤ 1024 → legal one (s .blocks) (entryFor one h) ≡ true
+      → Settles one m
+      (storing (Committed (h .write .retries)) (withTaken s map) (committedHead h (h .length)) TakeIn (h .place .block) (h .place .slot) (entryFor one h))
+      (pointOf h table text) (commit one s (pointOf h table text))
+  unfolding outcomeOf fileAfter textAfter allowed commit
+  commit-settles map e l few g =
+      let b : h .place .block + h .place .slot / 64 ≡ h .place .block = omega arith in
+      let i : h .place .slot % 64 ≡ h .place .slot = omega arith in
+      record { outcome = rw (e, b, i); change = all-every _ (le-leb _ _ few, (g, tt)) }
+
+  -- ---- moving on
+
+  abbrev walk : Walk
+  walk = ahead one m (s .blocks) (h .place)
+
+  abbrev pub seenNow : Seen
+  seenNow = seenBy one (s .blocks) (runFirst one (h .write)) (runFirst one (h .write) + runBlocks one (h .write) - 1) walk
+
+  pub stop-settles : (plan : Plan) → seenNow .broken ≡ true → Settles one m plan (pointOf h table text) (refused 18 s (pointOf h table text)) → Settles one m plan (pointOf h table text) (moveOn one (s .blocks) walk s (pointOf h table text))
+  unfolding seenBy
+  stop-settles plan e f = record { outcome = f .outcome ∙ sym (stop-on m s (pointOf h table text) e); change = f .change }
+
+  pub move-settles :
+      s .blocks ≤ 1024 → seenNow .broken ≡ false
+      → Settles one m
+      (resting Moved s
+      (record { number = h .number; length = h .length; place = seenNow .place; write = refill (firstEdge one (h .write) && seenNow .first) (lastEdge one (h .write) && seenNow .last) one (h .write) })
+      CatchUp)
+      (pointOf h table text) (moveOn one (s .blocks) walk s (pointOf h table text))
+  unfolding outcomeOf fileAfter textAfter allowed seenBy caughtUp refillAfter
+  move-settles few e = record { outcome = sym (go-on m s (pointOf h table text) e); change = all-every _ (le-leb _ _ few, (not-no _ e, tt)) }
+
+-- ---- which definition a plan stands for, by the tests on the way
+
+pub settles-as : {m : Memory} {plan : Plan} {p : Point} {o q : Outcome} → Settles one m plan p o → q ≡ o → Settles one m plan p q
+settles-as f e = record { outcome = f .outcome ∙ sym e; change = f .change }
+
+module _ (m : Memory) (s : Shared) (p : Point) where
+  pub end-full : 64 ≤ p .head .place .passed → atEnd one s p ≡ giveUp one 20 s p
+  end-full h = give-on m s p 19 (first-settled 20 _ (21 when isZero (search s 1) ∷ []) (le-leb 64 (p .head .place .passed) h))
+
+  end-not-full : p .head .place .passed < 64 → first (endReasons m s p) ≡ first (21 when isZero (search s 1) ∷ [])
+  end-not-full h = first-goes-on 20 _ (21 when isZero (search s 1) ∷ []) (lt-leb 64 (p .head .place .passed) h)
+
+  pub end-none : p .head .place .passed < 64 → search s 1 ≡ 0 → atEnd one s p ≡ giveUp one 21 s p
+  end-none h e = give-on m s p 20 (end-not-full h ∙ first-settled 21 _ [] (is-zero (search s 1) e))
+
+  pub end-free : p .head .place .passed < 64 → (search s 1 ≡ 0 → ⊥) → atEnd one s p ≡ extend one s p
+  end-free h e = extend-on m s p (end-not-full h ∙ first-goes-on 21 _ [] (not-zero (search s 1) e))
+
+-- ---- what a change leans on
+
+module _ (m : Memory) (blocks : ℕ) (at : Place) (entry : ℕ) where
+  pub allowed-entry : allowed TakeIn one m blocks at entry ≡ true → (blocks ≤ 1024) × (legal one blocks entry ≡ true)
+  unfolding allowed
+  allowed-entry e = let f = every-all _ e in (leb-true _ _ (f .0), f .1 .0)
+
+  pub allowed-walk : allowed CatchUp one m blocks at entry ≡ true → (blocks ≤ 1024) × (broken one blocks (ahead one m blocks at) ≡ false)
+  unfolding allowed
+  allowed-walk e = let f = every-all _ e in (leb-true _ _ (f .0), not-true _ (f .1 .0))
+
+-- ---- the store
+
+-- word i from block b on is word i % 64 of a later block
+pub placed-put : (words : List ℕ) (b i value : ℕ) → put one words (record { block = b; word = i; value = value }) ≡ put one words (placed one b i value)
+placed-put words b i value =
+    let e : b * 64 + i ≡ (b + i / 64) * 64 + i % 64 = omega arith in
+    rw e
+
+-- ---- the step's answer: the plan's records, with the table and the text as they are left
+
+pub answers :
+    (m : Memory) (plan : Plan) (p : Point) (h : Head) (table text : List ℕ) (length : ℕ)
+    → record { table = table; size = length } ≡ fileAfter (plan .change) one m (plan .shared .blocks) (p .head .place) (plan .value) (fileAt (p .head) (p .table))
+    → text ≡ textAfter (plan .change) (p .text) → h ≡ lengthened (plan .head) length
+    → record { step = plan .step; shared = plan .shared; point = pointOf h table text } ≡ answered (outcomeOf one m plan p)
+unfolding outcomeOf
+answers m plan p h table text length f t e =
+    rw (e, t) (ap (λ (x : Mapped). record { step = plan .step; shared = plan .shared; point = pointOf (lengthened (plan .head) (x .size)) (x .table) (textAfter (plan .change) (p .text)) }) f)
+
+pub stored-by : (m : Memory) (plan : Plan) (p : Point) → outcomeOf one m plan p .store ≡ storeOf one plan
+unfolding outcomeOf
+stored-by m plan p = refl

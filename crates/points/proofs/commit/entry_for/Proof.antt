@@ -1,0 +1,72 @@
+-- `points::commit::entry_for`: used bytes and point number fit their fields, so the entry is the definition's.
+use mathlib.Core.Path.{_∙_}
+use Rattle.points.proofs.Commits.{used-few, entry-kept}
+use Prim.Native.Nat.{_+_, _*_, _-_, _/_}
+use Rattle.words.specs.Edition.{one}
+use Rattle.points.specs.Record.{span}
+use borrow.Author.Needs.{needs}
+use Rattle.points.proofs.commit.entry_for.Statement.{statement}
+use Rattle.points.proofs.commit.entry_for.Tie as tie
+
+span-requires : tie.Need-span-requires
+span-requires c κs = search needs
+
+add-used : tie.Need-add-used
+add-used c = search needs
+
+add-used-2 : tie.Need-add-used-2
+add-used-2 c = search needs
+
+sub-used : tie.Need-sub-used
+sub-used c = search needs
+
+mul-used : tie.Need-mul-used
+mul-used c = search needs
+
+sub-used-2 : tie.Need-sub-used-2
+sub-used-2 c = search needs
+
+cast-entry : tie.Need-cast-entry
+cast-entry c = search needs
+
+cast-entry-2 : tie.Need-cast-entry-2
+cast-entry-2 c = search needs
+
+cast-entry-3 : tie.Need-cast-entry-3
+cast-entry-3 c = search needs
+
+cast-entry-4 : tie.Need-cast-entry-4
+cast-entry-4 c = search needs
+
+cast-entry-5 : tie.Need-cast-entry-5
+cast-entry-5 c = search needs
+
+entry-requires : tie.Need-entry-requires
+entry-requires c κs = search needs
+
+returns : tie.Need-returns
+returns c =
+    let args = c .before .before .before .before .before .before .before .args in
+    let span-call = c .before .before .before .before .span in
+    let w = args .head .write in
+    let p = c .before .before .before .before .before .before .before .pre in
+    let n = span one (w .offset) (w .size) in
+    c .entry .ensures ∙ rw (span-call .ensures) (entry-kept (w .offset / 512) (w .run) n (w .offset + w .size - 512 * (w .offset / 512 + n - 1)) (args .head .number) (used-few (w .offset) (w .size) (p .0)) (p .4))
+
+pub entry-for-spec : {M : Type 1} → statement M
+entry-for-spec =
+    tie.close
+    (tie.spec
+    span-requires
+    add-used
+    add-used-2
+    sub-used
+    mul-used
+    sub-used-2
+    cast-entry
+    cast-entry-2
+    cast-entry-3
+    cast-entry-4
+    cast-entry-5
+    entry-requires
+    returns)

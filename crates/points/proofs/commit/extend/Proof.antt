@@ -1,0 +1,29 @@
+-- `points::commit::extend`: the block that the search found is taken, and zeroing begins at word 0.
+use Rattle.points.proofs.Planned.{extend-settles}
+use borrow.Author.Needs.{needs}
+use Rattle.points.proofs.commit.extend.Statement.{statement}
+use Rattle.points.proofs.commit.extend.Tie as tie
+
+turned-requires : tie.Need-turned-requires
+turned-requires c κs = search needs
+
+take-requires : tie.Need-take-requires
+take-requires c κs = search needs
+
+writing-requires : tie.Need-writing-requires
+writing-requires c κs = search needs
+
+resting-requires : tie.Need-resting-requires
+resting-requires c κs = search needs
+
+returns : tie.Need-returns
+returns c m table text =
+    let pre = c .before .before .before .before .before .pre in
+    let turned = c .before .before .before .turned in
+    let take = c .before .before .take in
+    let a = c .before .before .before .before .before .args in
+    rw (c .resting .ensures, c .before .writing .ensures, turned .ensures, take .ensures) (extend-settles m (a .shared) (a .head) table text (a .b) pre)
+
+pub extend-spec : {M : Type 1} → statement M
+extend-spec =
+    tie.close (tie.spec turned-requires take-requires writing-requires resting-requires returns)

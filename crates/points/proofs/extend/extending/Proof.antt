@@ -1,0 +1,61 @@
+-- `points::extend::extending`: one law for each way through the tests of position and next index.
+use mathlib.Core.Path.{sym, _∙_}
+use Rattle.words.specs.Edition.{one}
+use Rattle.words.specs.Memory.{memory}
+use borrow.Author.Tests.{lt-ltb, le-ltb}
+use Rattle.words.proofs.Tests.{is-zero, not-zero}
+use Rattle.points.specs.Plan.{pointOf}
+use Rattle.points.proofs.Planned.{settles-as}
+use Rattle.points.proofs.Ways.{zero-on, link-on, lost-on}
+use borrow.Author.Needs.{needs}
+use Rattle.points.proofs.extend.extending.Statement.{statement}
+use Rattle.points.proofs.extend.extending.Tie as tie
+
+zero-out-requires : tie.Need-zero-out-requires
+zero-out-requires c κs = search needs
+
+returns : tie.Need-returns
+returns c table text = let a = c .before .before .before .before .args in
+    let m = memory one (a .image .now) in
+    settles-as (c .zero-out .ensures m table text) (zero-on m (a .shared) (pointOf (a .head) table text) (lt-ltb _ _ (c .before .if1 .taken)))
+
+cast-next-index : tie.Need-cast-next-index
+cast-next-index c = search needs
+
+next-index-requires : tie.Need-next-index-requires
+next-index-requires c κs = search needs
+
+link-requires : tie.Need-link-requires
+link-requires c κs = search needs
+
+returns-2 : tie.Need-returns-2
+returns-2 c table text =
+    let if1 = c .before .before .before .before .if1 in
+    let next-index = c .before .before .next-index in
+    let a = c .before .before .before .before .before .before .before .args in
+    let m = memory one (a .image .now) in
+    settles-as (c .link .ensures m table text) (link-on m (a .shared) (pointOf (a .head) table text) (le-ltb _ _ (if1 .left)) (is-zero _ (sym (next-index .ensures) ∙ c .before .if2 .taken)))
+
+give-back-requires : tie.Need-give-back-requires
+give-back-requires c κs = search needs
+
+returns-3 : tie.Need-returns-3
+returns-3 c table text =
+    let if1 = c .before .before .before .before .if1 in
+    let next-index = c .before .before .next-index in
+    let a = c .before .before .before .before .before .before .before .args in
+    let m = memory one (a .image .now) in
+    settles-as (c .give-back .ensures m table text) (lost-on m (a .shared) (pointOf (a .head) table text) (le-ltb _ _ (if1 .left)) (not-zero _ (λ e. c .before .if2 .left (next-index .ensures ∙ e))))
+
+pub extending-spec : {M : Type 1} → statement M
+extending-spec =
+    tie.close
+    (tie.spec
+    zero-out-requires
+    returns
+    cast-next-index
+    next-index-requires
+    link-requires
+    returns-2
+    give-back-requires
+    returns-3)

@@ -1,0 +1,78 @@
+-- `points::fill::new_word`: one law for each exit: every byte is of the text, none is, some are.
+use mathlib.Core.Path.{sym, _∙_}
+use mathlib.Core.Logic.{inl, inr}
+use native.Mathlib.Omega.{arith}
+use Rattle.words.specs.Edition.{one}
+use Rattle.words.specs.Memory.{memory}
+use Rattle.points.proofs.NewWord.{new-word, new-word-copied, new-word-text}
+use borrow.Author.Needs.{needs}
+use Rattle.points.proofs.fill.new_word.Statement.{statement}
+use Rattle.points.proofs.fill.new_word.Tie as tie
+
+cast-offset : tie.Need-cast-offset
+cast-offset c = search needs
+
+cast-end : tie.Need-cast-end
+cast-end c = search needs
+
+add-end : tie.Need-add-end
+add-end c = search needs
+
+mul-at : tie.Need-mul-at
+mul-at c = search needs
+
+add-if2 : tie.Need-add-if2
+add-if2 c = search needs
+
+text-word-requires : tie.Need-text-word-requires
+text-word-requires c κs = search needs
+
+returns : tie.Need-returns
+returns c = let a = c .before .before .before .before .before .before .args in
+    c .text-word .ensures ∙ sym (new-word-text (memory one (a .image .now)) (a .head) (a .table .now) (a .text .now) (a .k) (omega arith) (omega arith))
+
+add-copied-word : tie.Need-add-copied-word
+add-copied-word c = search needs
+
+copied-word-requires : tie.Need-copied-word-requires
+copied-word-requires c κs = search needs
+
+add-if3 : tie.Need-add-if3
+add-if3 c = search needs
+
+returns-2 : tie.Need-returns-2
+returns-2 c = let a = c .before .before .before .before .before .before .args in
+    let w = c .before .copied-word in
+    sym (new-word-copied (memory one (a .image .now)) (a .head) (a .table .now) (a .text .now) (a .k) (w .result) (w .ensures) (omega arith) (inl (c .if3 .taken)))
+
+returns-3 : tie.Need-returns-3
+returns-3 c = let a = c .before .before .before .before .before .before .before .args in
+    let w = c .before .before .copied-word in
+    sym (new-word-copied (memory one (a .image .now)) (a .head) (a .table .now) (a .text .now) (a .k) (w .result) (w .ensures) (omega arith) (inr (c .if4 .taken)))
+
+edge-word-requires : tie.Need-edge-word-requires
+edge-word-requires c κs = search needs
+
+returns-4 : tie.Need-returns-4
+returns-4 c = let a = c .before .before .before .before .before .before .before .before .args in
+    let w = c .before .before .before .copied-word in
+    c .edge-word .ensures ∙ sym (new-word (memory one (a .image .now)) (a .head) (a .table .now) (a .text .now) (a .k) (w .result) (w .ensures))
+
+pub new-word-spec : {M : Type 1} → statement M
+new-word-spec =
+    tie.close
+    (tie.spec
+    cast-offset
+    cast-end
+    add-end
+    mul-at
+    add-if2
+    text-word-requires
+    returns
+    add-copied-word
+    copied-word-requires
+    add-if3
+    returns-2
+    returns-3
+    edge-word-requires
+    returns-4)

@@ -1,0 +1,15 @@
+-- `points::plan::refused`: a plan that keeps everything.
+use Rattle.points.proofs.Planned.{refused-settles}
+use borrow.Author.Needs.{needs}
+use Rattle.points.proofs.plan.refused.Statement.{statement}
+use Rattle.points.proofs.plan.refused.Tie as tie
+
+resting-requires : tie.Need-resting-requires
+resting-requires c κs = search needs
+
+returns : tie.Need-returns
+returns c m table text = let a = c .before .args in
+    rw (c .resting .ensures) (refused-settles m (a .shared) (a .head) table text (a .number))
+
+pub refused-spec : {M : Type 1} → statement M
+refused-spec = tie.close (tie.spec resting-requires returns)

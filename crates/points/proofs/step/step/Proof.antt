@@ -1,0 +1,57 @@
+-- `points::step::step`: the plan stands for the outcome of the definition; the table, the text and the image are left as the plan says.
+use mathlib.Core.Path.{sym, ap, _∙_}
+use mathlib.Core.Option.{Option}
+use Rattle.words.specs.Edition.{one}
+use Rattle.words.specs.Memory.{memory, after, Store}
+use Rattle.points.specs.Stepping.{Outcome}
+use Rattle.points.specs.Plan.{answered}
+use Rattle.points.proofs.Planned.{answers, stored-by}
+use borrow.Author.Needs.{needs}
+use Rattle.points.proofs.step.step.Statement.{statement}
+use Rattle.points.proofs.step.step.Tie as tie
+
+settle-requires : tie.Need-settle-requires
+settle-requires c κs = search needs
+
+take-in-requires : tie.Need-take-in-requires
+take-in-requires c κs =
+    let settle = c .before .before .settle in
+    settle .ensures .change
+
+keep-text-requires : tie.Need-keep-text-requires
+keep-text-requires c κs = search needs
+
+store-requires : tie.Need-store-requires
+store-requires c κs = search needs
+
+lengthened-requires : tie.Need-lengthened-requires
+lengthened-requires c κs = search needs
+
+same-length : tie.Need-same-length
+same-length c = search needs
+
+returns : tie.Need-returns
+returns c =
+    let settle = c .before .before .before .before .before .before .before .before .before .before .before .before .before .settle in
+    let take-in = c .before .before .before .before .before .before .before .before .before .before .take-in in
+    let keep-text = c .before .before .before .before .before .before .before .before .keep-text in
+    let store = c .before .before .before .before .before .before .store in
+    let a = c .before .before .before .before .before .before .before .before .before .before .before .before .before .before .before .before .before .before .before .before .args in
+    let plan = settle .result in
+    let m = memory one (a .image .now) in
+    let o = settle .ensures .outcome in (
+      answers m plan (a .point) (c .before .lengthened .result) (take-in .last .1 .1 .1 .0) (keep-text .last .0) (take-in .result) (take-in .ensures) (keep-text .ensures) (c .before .lengthened .ensures) ∙ ap answered o,
+      store .ensures ∙ ap (λ (x : Option Store). after one (a .image .now) x) (sym (stored-by m plan (a .point)) ∙ ap (λ (x : Outcome). x .store) o),
+    )
+
+pub step-spec : {M : Type 1} → statement M
+step-spec =
+    tie.close
+    (tie.spec
+    settle-requires
+    take-in-requires
+    keep-text-requires
+    store-requires
+    lengthened-requires
+    same-length
+    returns)

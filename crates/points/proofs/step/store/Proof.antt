@@ -1,0 +1,28 @@
+-- `points::step::store`: a word counted from the block's first on is the definition's word of a later block.
+use mathlib.Core.Path.{_∙_}
+use Rattle.words.specs.Memory.{after}
+use Rattle.points.proofs.Planned.{placed-put}
+use borrow.Author.Needs.{needs}
+use Rattle.points.proofs.step.store.Statement.{statement}
+use Rattle.points.proofs.step.store.Tie as tie
+
+store-requires : tie.Need-store-requires
+store-requires c κs = search needs
+
+same-length : tie.Need-same-length
+same-length c = search needs
+
+returns : tie.Need-returns
+unfolding after
+returns c =
+    let if1 = c .before .before .before .before .if1 in
+    let store = c .before .before .store in
+    let a = c .before .before .before .before .before .before .args in
+    store .ensures ∙ rw (if1 .taken) (placed-put (a .image .now) (a .block) (a .word) (a .value))
+
+returns-2 : tie.Need-returns-2
+unfolding after
+returns-2 c = rw (c .if1 .left)
+
+pub store-spec : {M : Type 1} → statement M
+store-spec = tie.close (tie.spec store-requires same-length returns returns-2)

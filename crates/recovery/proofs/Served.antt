@@ -1,0 +1,34 @@
+-- A call that answers what its definition says leaves what `turn` says. Assumes nothing.
+use Prim.Native.Nat.{ℕ}
+use mathlib.Core.Path.{_≡_, refl}
+use mathlib.Core.List.{List}
+use Rattle.words.specs.Edition.{one}
+use Rattle.words.specs.Memory.{after}
+use Rattle.log.specs.declared.Shared.{Shared}
+use Rattle.points.specs.declared.Point.{Point}
+use Rattle.points.specs.declared.Joined.{Joined}
+use Rattle.points.specs.declared.Begun.{Begun}
+use Rattle.points.specs.declared.Stepped.{Stepped}
+use Rattle.points.specs.declared.Left.{Left}
+use Rattle.points.specs.Calls.{joining, beginning, leaving}
+use Rattle.points.specs.Stepping.{stepping}
+use Rattle.points.specs.Plan.{answered}
+use Rattle.recovery.specs.World.{turn}
+use Rattle.recovery.specs.Served.{JoinServed, BeginServed, StepServed, LeaveServed}
+
+module _ (words : List ℕ) (s : Shared) where
+  pub join-served : (n : ℕ) (r : Joined) → r ≡ joining one words s n → JoinServed one words s n r
+  unfolding JoinServed turn
+  join-served n r e w a b = rw (e, a, b)
+
+  pub begin-served : (p : Point) (offset : ℕ) (text : List ℕ) (r : Begun) → r ≡ beginning one words s p offset text → BeginServed one words s p offset text r
+  unfolding BeginServed turn
+  begin-served p offset text r e w n q h = rw (e, h .image, h .shared, h .record-is)
+
+  pub step-served : (p : Point) (r : Stepped) (left : List ℕ) → r ≡ answered (stepping one words s p) → left ≡ after one words (stepping one words s p .store) → StepServed one words s p r left
+  unfolding StepServed turn
+  step-served p r left e f w n q h = rw (e, f, h .image, h .shared, h .record-is)
+
+  pub leave-served : (p : Point) (r : Left) → r ≡ leaving one words s p → LeaveServed one words s p r
+  unfolding LeaveServed turn
+  leave-served p r e w n q h = rw (e, h .image, h .shared, h .record-is)

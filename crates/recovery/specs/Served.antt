@@ -1,0 +1,40 @@
+-- The calls of the code are the calls of the list: what a call leaves is what `turn` says of it, in every world that has the image and the
+-- shared record that it was lent and in which the point hands in the record that it was given. So the claims hold of the code.
+use Prim.Native.Nat.{ℕ}
+use mathlib.Core.Path.{_≡_}
+use mathlib.Core.List.{List}
+use Rattle.words.specs.Edition.{Edition}
+use Rattle.log.specs.declared.Shared.{Shared}
+use Rattle.points.specs.declared.Point.{Point}
+use Rattle.points.specs.declared.Joined.{Joined}
+use Rattle.points.specs.declared.Begun.{Begun}
+use Rattle.points.specs.declared.Stepped.{Stepped}
+use Rattle.points.specs.declared.Left.{Left}
+use Rattle.recovery.specs.World.{World, join, begin, go, leave, joins, begins, steps, leaves, handed, renewed, joinedAs, turn}
+
+-- a world in which this point hands in this record, and which has this image and this shared record
+pub record Here (w : World) (words : List ℕ) (s : Shared) (n : ℕ) (given handedIn : Point) : Type 0 where
+  pub image : w .words ≡ words
+  pub shared : w .shared ≡ s
+  pub record-is : handed w n given ≡ handedIn
+
+unfoldable pub JoinServed : Edition → List ℕ → Shared → ℕ → Joined → Type 0
+JoinServed E words s n r =
+    (w : World) → w .words ≡ words → w .shared ≡ s
+    → turn E w (join n) ≡ record { answer = joins (r .reply); world = record { words = words; shared = r .shared; newest = joinedAs (r .reply) w n (r .point) } }
+
+unfoldable pub BeginServed : Edition → List ℕ → Shared → Point → ℕ → List ℕ → Begun → Type 0
+BeginServed E words s p offset text r =
+    (w : World) (n : ℕ) (q : Point) → Here w words s n q p
+    → turn E w (begin n q offset text) ≡ record { answer = begins (r .reply); world = record { words = words; shared = r .shared; newest = renewed w n (r .point) } }
+
+-- with the image as the step leaves it
+unfoldable pub StepServed : Edition → List ℕ → Shared → Point → Stepped → List ℕ → Type 0
+StepServed E words s p r left =
+    (w : World) (n : ℕ) (q : Point) → Here w words s n q p
+    → turn E w (go n q) ≡ record { answer = steps (r .step); world = record { words = left; shared = r .shared; newest = renewed w n (r .point) } }
+
+unfoldable pub LeaveServed : Edition → List ℕ → Shared → Point → Left → Type 0
+LeaveServed E words s p r =
+    (w : World) (n : ℕ) (q : Point) → Here w words s n q p
+    → turn E w (leave n q) ≡ record { answer = leaves (r .reply); world = record { words = words; shared = r .shared; newest = w .newest } }

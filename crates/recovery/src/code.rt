@@ -1,0 +1,33 @@
+// The four calls of `points`, each with what it leaves in a list of calls as its contract: the calls of the claims are the code's.
+ghost use Rattle.words.specs.Edition.{one};
+ghost use Rattle.recovery.specs.Served.{JoinServed, BeginServed, StepServed, LeaveServed};
+use log::Shared;
+use points::Begun;
+use points::Joined;
+use points::Left;
+use points::Point;
+use points::Stepped;
+
+pub fn join(image: &[u64], shared: Shared, number: u32) -> Joined
+    ensures { λ r. ⌜ JoinServed one (now (image .entry)) shared number r ⌝ }
+{
+    points::join::join(image, shared, number)
+}
+
+pub fn begin(image: &[u64], shared: Shared, point: Point, offset: usize, text: &[u8]) -> Begun
+    ensures { λ r. ⌜ BeginServed one (now (image .entry)) shared point offset (now (text .entry)) r ⌝ }
+{
+    points::begin::begin(image, shared, point, offset, text)
+}
+
+pub fn step(image: &mut [u64], shared: Shared, point: Point) -> Stepped
+    ensures { λ r. ⌜ StepServed one (now (image .entry)) shared point r (now (image .exit)) ⌝ }
+{
+    points::step::step(image, shared, point)
+}
+
+pub fn leave(image: &[u64], shared: Shared, point: Point) -> Left
+    ensures { λ r. ⌜ LeaveServed one (now (image .entry)) shared point r ⌝ }
+{
+    points::leave::leave(image, shared, point)
+}
