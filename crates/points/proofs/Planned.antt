@@ -23,26 +23,17 @@ use Rattle.log.specs.Look.{seenBy}
 use Rattle.points.specs.declared.Phase.the-variants.{Zeroing}
 use Rattle.points.specs.declared.Head.{Head}
 use Rattle.points.specs.declared.Point.{Point}
-use Rattle.points.specs.declared.StepAnswer.{StepAnswer}
 use Rattle.points.specs.declared.StepAnswer.the-variants.{Stored, Moved, Extending, Committed, Refused}
-use Rattle.points.specs.declared.plan.Change.{Change}
 use Rattle.points.specs.declared.plan.Change.the-variants.{Keep, Clear, TakeIn, CatchUp}
 use Rattle.points.specs.declared.plan.Plan.{Plan}
 use Rattle.points.specs.Record.{runFirst, runBlocks, firstEdge, lastEdge, noWrite, writing, fileAt, caughtUp}
 use Rattle.points.specs.Search.{search, taking, withTaken}
 use Rattle.points.specs.Calls.{withoutRun}
 use Rattle.points.specs.Fill.{newWord}
-use Rattle.points.specs.Stepping.{Outcome, refused, turned, toCommit, retried, fill, entryFor, replaced, committedHead, commit, giveUp, extend, atEnd, refill, refillAfter, moveOn, linkedHead, link, giveBack, zero-out}
-use Rattle.points.specs.Plan.{outcomeOf, fileAfter, textAfter, allowed, answered, pointOf, placed, storeOf, lengthened, Settles}
+use Rattle.points.specs.Stepping.{Outcome, answered, refused, turned, toCommit, retried, fill, entryFor, replaced, committedHead, commit, giveUp, extend, atEnd, refill, refillAfter, moveOn, linkedHead, link, giveBack, zero-out}
+use Rattle.points.specs.Plan.{outcomeOf, fileAfter, textAfter, allowed, pointOf, storing, resting, placed, storeOf, lengthened, Settles}
 use Rattle.points.proofs.Ways.{endReasons, give-on, extend-on, stop-on, go-on}
 use Rattle.points.proofs.Unfit.{first-settled, first-goes-on}
-
-abbrev pub resting : StepAnswer → Shared → Head → Change → Plan
-resting step s h change = record { step = step; shared = s; head = h; change = change; stores = false; block = 0; word = 0; value = 0 }
-
-abbrev pub storing : StepAnswer → Shared → Head → Change → ℕ → ℕ → ℕ → Plan
-storing step s h change block word value =
-    record { step = step; shared = s; head = h; change = change; stores = true; block = block; word = word; value = value }
 
 module _ (m : Memory) (s : Shared) (h : Head) (table text : List ℕ) where
   pub refused-settles : (n : ℕ) → Settles one m (resting (Refused n) s h Keep) (pointOf h table text) (refused n s (pointOf h table text))

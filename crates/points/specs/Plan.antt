@@ -1,5 +1,5 @@
--- What the parts of a step settle: a plan, and the outcome that it stands for. Nothing here says more than
--- `Stepping`: the contracts of the code's parts equate the outcome of a plan with its definitions.
+-- What the parts of a step settle before it stores: a plan, and the outcome that it stands for. Nothing here says more than `Stepping`: the contracts
+-- of the code's parts equate the outcome of a plan with its definitions.
 use Prim.Native.Nat.{ℕ, _+_, _-_, _/_, _%_}
 use mathlib.Core.Path.{_≡_}
 use mathlib.Core.Bool.{Bool, true, false, _&&_, not}
@@ -12,24 +12,33 @@ use Rattle.words.specs.Logic.{every}
 use Rattle.words.specs.Word.{byteOf}
 use Rattle.words.specs.Memory.{Memory, Store}
 use Rattle.log.specs.declared.Place.{Place}
+use Rattle.log.specs.declared.Shared.{Shared}
 use Rattle.log.specs.Entry.{legal}
 use Rattle.log.specs.Replay.{Mapped, apply, replayOn}
 use Rattle.log.specs.CatchUp.{ahead, broken}
 use Rattle.points.specs.declared.Head.{Head}
 use Rattle.points.specs.declared.Point.{Point}
-use Rattle.points.specs.declared.Stepped.{Stepped}
+use Rattle.points.specs.declared.StepAnswer.{StepAnswer}
 use Rattle.points.specs.declared.plan.Change.{Change}
 use Rattle.points.specs.declared.plan.Change.the-variants.{Keep, Clear, TakeIn, CatchUp}
 use Rattle.points.specs.declared.plan.Plan.{Plan}
 use Rattle.points.specs.Record.{noText, fileAt}
 use Rattle.points.specs.Stepping.{Outcome}
 
--- what stepping answers: an outcome without its store
-abbrev pub answered : Outcome → Stepped
-answered o = record { step = o .step; shared = o .shared; point = o .point }
-
+-- the record of a head and its arrays, which the code's parts are lent apart
 abbrev pub pointOf : Head → List ℕ → List ℕ → Point
 pointOf h table text = record { head = h; table = table; text = text }
+
+-- ---- the two kinds of plan
+
+-- word `word` from the first word of block `block` on gets the value
+abbrev pub storing : StepAnswer → Shared → Head → Change → ℕ → ℕ → ℕ → Plan
+storing step s h change block word value =
+    record { step = step; shared = s; head = h; change = change; stores = true; block = block; word = word; value = value }
+
+-- nothing is stored
+abbrev pub resting : StepAnswer → Shared → Head → Change → Plan
+resting step s h change = record { step = step; shared = s; head = h; change = change; stores = false; block = 0; word = 0; value = 0 }
 
 -- ---- what becomes of table and text
 

@@ -6,7 +6,7 @@ ghost use Prim.Native.Nat.{ℕ, _<_};
 ghost use Rattle.words.specs.Edition.{one};
 ghost use Rattle.words.specs.Memory.{Memory};
 ghost use Rattle.points.specs.Record.{runWords, noWrite, writing};
-ghost use Rattle.points.specs.Plan.{pointOf, Settles};
+ghost use Rattle.points.specs.Plan.{pointOf, storing, resting, Settles};
 ghost use Rattle.points.specs.Stepping.{refused, turned, toCommit, retried, committedHead, linkedHead};
 use crate::Head;
 use crate::Phase;
@@ -45,7 +45,7 @@ pub(crate) fn storing(
     word: u32,
     value: u64,
 ) -> Plan
-    ensures { λ r. ⌜ r ≡ record { step = step; shared = shared; head = head; change = change; stores = true; block = block; word = word; value = value } ⌝ }
+    ensures { λ r. ⌜ r ≡ storing step shared head change block word value ⌝ }
 {
     Plan {
         step,
@@ -61,7 +61,7 @@ pub(crate) fn storing(
 
 // A plan that stores nothing.
 pub(crate) fn resting(step: StepAnswer, shared: Shared, head: Head, change: Change) -> Plan
-    ensures { λ r. ⌜ r ≡ record { step = step; shared = shared; head = head; change = change; stores = false; block = 0; word = 0; value = 0 } ⌝ }
+    ensures { λ r. ⌜ r ≡ resting step shared head change ⌝ }
 {
     Plan {
         step,

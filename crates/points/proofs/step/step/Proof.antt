@@ -3,8 +3,7 @@ use mathlib.Core.Path.{sym, ap, _∙_}
 use mathlib.Core.Option.{Option}
 use Rattle.words.specs.Edition.{one}
 use Rattle.words.specs.Memory.{memory, after, Store}
-use Rattle.points.specs.Stepping.{Outcome}
-use Rattle.points.specs.Plan.{answered}
+use Rattle.points.specs.Stepping.{Outcome, answered}
 use Rattle.points.proofs.Planned.{answers, stored-by}
 use borrow.Author.Needs.{needs}
 use Rattle.points.proofs.step.step.Statement.{statement}
