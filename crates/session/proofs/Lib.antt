@@ -1,0 +1,3 @@
+pub mod DigestLaws
+pub mod NoiseLaws
+pub mod ScanLaws

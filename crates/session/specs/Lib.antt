@@ -1,0 +1,3 @@
+pub mod Scan
+pub mod Digest
+pub mod Noise

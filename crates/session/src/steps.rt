@@ -1,0 +1,128 @@
+// A point's steps, told by stretches of equal answers.
+ghost use Prim.Native.Nat.{_+_, _<_, _^_};
+use crate::print;
+use log::Shared;
+use points::Point;
+use points::StepAnswer;
+
+const STORED: u32 = 0;
+const EXTENDING: u32 = 1;
+const MOVED: u32 = 2;
+const COMMITTED: u32 = 3;
+const REFUSED: u32 = 4;
+
+// An answer as numbers: its kind, and the retry count of Committed or the reason of a refusal.
+struct Told {
+    kind: u32,
+    value: u32,
+}
+
+// The records after some steps.
+pub struct Walked {
+    pub shared: Shared,
+    pub point: Point,
+}
+
+fn told_of(answer: StepAnswer) -> Told {
+    match answer {
+        StepAnswer::Stored => Told {
+            kind: STORED,
+            value: 0,
+        },
+        StepAnswer::Extending => Told {
+            kind: EXTENDING,
+            value: 0,
+        },
+        StepAnswer::Moved => Told {
+            kind: MOVED,
+            value: 0,
+        },
+        StepAnswer::Committed(retries) => Told {
+            kind: COMMITTED,
+            value: retries as u32,
+        },
+        StepAnswer::Refused(reason) => Told {
+            kind: REFUSED,
+            value: reason,
+        },
+    }
+}
+
+fn print_told(t: Told) {
+    if t.kind == STORED {
+        return print::words(b"stored");
+    }
+    if t.kind == EXTENDING {
+        return print::words(b"extending");
+    }
+    if t.kind == MOVED {
+        return print::words(b"moved");
+    }
+    if t.kind == COMMITTED {
+        return print::labelled(b"committed ", t.value as u64);
+    }
+    print::labelled(b"refused ", t.value as u64);
+}
+
+// The line of a stretch of equal answers; none for an empty stretch.
+fn print_stretch(t: Told, times: u64) {
+    if times == 0 {
+        return;
+    }
+    print_told(t);
+    if 1 < times {
+        print::labelled(b" x ", times);
+    }
+    print::words(b"\n");
+}
+
+fn same(s: Told, t: Told) -> bool {
+    if s.kind != t.kind {
+        return false;
+    }
+    s.value == t.value
+}
+
+// The length of the stretch that an answer goes on or begins; in the second case the stretch before is written.
+fn stretch(before: Told, times: u64, now: Told) -> u64
+    requires { ⌜ times < 100000 ⌝ }
+    ensures { λ r. ⌜ r < times + 2 ⌝ }
+{
+    if same(before, now) {
+        return times + 1;
+    }
+    print_stretch(before, times);
+    1
+}
+
+// Up to `most` steps of a point, ending after Committed or a refusal, and their lines.
+pub fn walk(image: &mut [u64], shared: Shared, point: Point, most: u64) -> Walked
+    requires { ⌜ most < 100001 ⌝ }
+{
+    let mut s = shared;
+    let mut p = point;
+    let mut last = Told {
+        kind: STORED,
+        value: 0,
+    };
+    let mut times: u64 = 0;
+    let mut left = most;
+    while 0 < left {
+        let stepped = points::step::step(image, s, p);
+        let answer = stepped.step;
+        let now = told_of(answer);
+        times = stretch(last, times, now);
+        last = now;
+        s = stepped.shared;
+        p = stepped.point;
+        left -= 1;
+        if MOVED < now.kind {
+            left = 0;
+        }
+    }
+    print_stretch(last, times);
+    Walked {
+        shared: s,
+        point: p,
+    }
+}
