@@ -92,8 +92,8 @@ fn kept(path: &str) -> Vec<u8> {
 #[test]
 fn the_gate_script_gives_its_output() {
     let mut bench = Bench::new();
-    let output = bench.script(&kept("../gate.script"));
-    assert!(output == kept("../gate.expected"), "gate.expected differs");
+    let output = bench.script(&kept("../../crates/session/stdin"));
+    assert!(output == kept("../../crates/session/stdout"), "the gate's output differs");
     assert_eq!(bench.tally.missing(), Vec::<String>::new());
 }
 
