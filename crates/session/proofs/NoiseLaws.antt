@@ -7,7 +7,7 @@ use native.Mathlib.Omega.{arith}
 use native.Mathlib.Numerals.{add-one}
 use lib.ListN.{length, take, drop, set}
 use lib.Seq.{take-suc-set, take-all, append-snoc}
-use Rattle.session.specs.Noise.{firstNoise, scrambled, noise}
+use Rattle.session.specs.Made.{firstNoise, scrambled, noise}
 
 pub first-zero : {s : ℕ} → s ≡ 0 → firstNoise s ≡ 88172645463325252
 unfolding firstNoise

@@ -1,3 +1,3 @@
 pub mod Scan
 pub mod Digest
-pub mod Noise
+pub mod Made

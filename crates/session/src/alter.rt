@@ -1,9 +1,10 @@
 // Alterations of records.
-ghost use Prim.Native.Nat.{_<_};
+ghost use Prim.Native.Nat.{_+_, _≤_, _<_};
 use crate::order;
 use crate::order::Order;
 use crate::print;
 use crate::records;
+use crate::records::Places;
 use log::Shared;
 
 // The greatest number that a field of a point's record takes: 5 for the phase, 16 bits for the retries.
@@ -19,57 +20,32 @@ fn most(field: u64) -> u64
     4294967295
 }
 
-fn alter(heads: &mut [u32; 384], o: Order) {
+// Number `o.b` of the `count` numbers of a record from `first` on becomes `o.c`, which is at most `most`.
+fn put(places: &mut Places, o: Order, first: usize, count: u64, most: u64)
+    requires { ⌜ (first + count ≤ 1292) × (most < 4294967296) ⌝ }
+{
     if 31 < o.a {
         return print::error();
     }
-    if 11 < o.b {
+    if count <= o.b {
         return print::error();
     }
-    if most(o.b) < o.c {
+    if most < o.c {
         return print::error();
     }
-    heads[12 * o.a as usize + o.b as usize] = o.c as u32;
+    places[1292 * o.a as usize + first + o.b as usize] = o.c as u32;
     print::altered();
 }
 
-fn table(tables: &mut [u16; 8192], o: Order) {
-    if 31 < o.a {
-        return print::error();
-    }
-    if 255 < o.b {
-        return print::error();
-    }
-    if 65535 < o.c {
-        return print::error();
-    }
-    tables[256 * o.a as usize + o.b as usize] = o.c as u16;
-    print::altered();
-}
-
-fn text(texts: &mut [u8; 32768], o: Order) {
-    if 31 < o.a {
-        return print::error();
-    }
-    if 1023 < o.b {
-        return print::error();
-    }
-    if 255 < o.c {
-        return print::error();
-    }
-    texts[1024 * o.a as usize + o.b as usize] = o.c as u8;
-    print::altered();
-}
-
-fn copy(heads: &mut [u32; 384], tables: &mut [u16; 8192], texts: &mut [u8; 32768], o: Order) {
+fn copy(places: &mut Places, o: Order) {
     if 31 < o.a {
         return print::error();
     }
     if 31 < o.b {
         return print::error();
     }
-    let point = records::load(heads, tables, texts, o.a as usize);
-    records::save(heads, tables, texts, o.b as usize, point);
+    let point = records::load(places, o.a as usize);
+    records::save(places, o.b as usize, point);
     print::words(b"copied\n");
 }
 
@@ -103,7 +79,7 @@ fn map(shared: Shared, o: Order) -> Shared {
 }
 
 // Alters a record and writes the line; the shared record after it.
-pub fn obey(shared: Shared, heads: &mut [u32; 384], tables: &mut [u16; 8192], texts: &mut [u8; 32768], o: Order) -> Shared {
+pub fn obey(shared: Shared, places: &mut Places, o: Order) -> Shared {
     let command = o.command;
     if command == order::ALTERSHARED {
         return shared_field(shared, o);
@@ -111,17 +87,18 @@ pub fn obey(shared: Shared, heads: &mut [u32; 384], tables: &mut [u16; 8192], te
     if command == order::MAP {
         return map(shared, o);
     }
+    if command == order::COPY {
+        copy(places, o);
+        return shared;
+    }
     if command == order::ALTER {
-        alter(heads, o);
+        put(places, o, 0, 12, most(o.b));
+        return shared;
     }
     if command == order::TABLE {
-        table(tables, o);
+        put(places, o, 12, 256, 65535);
+        return shared;
     }
-    if command == order::TEXT {
-        text(texts, o);
-    }
-    if command == order::COPY {
-        copy(heads, tables, texts, o);
-    }
+    put(places, o, 268, 1024, 255);
     shared
 }

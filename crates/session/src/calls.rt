@@ -1,10 +1,14 @@
 // Calls of the store.
+ghost use mathlib.Core.Path.{_≡_};
 ghost use Prim.Native.Nat.{_≤_, _<_};
+ghost use lib.ListN.{length};
+ghost use Rattle.session.specs.Made.{textOf};
 use crate::digest;
 use crate::order;
 use crate::order::Order;
 use crate::print;
 use crate::records;
+use crate::records::Places;
 use crate::steps;
 use log::Opened;
 use log::Reply;
@@ -37,25 +41,25 @@ fn open_with(image: &[u64], scratch: &mut [u16]) -> Shared {
 }
 
 // Opens with a scratch of so many numbers, each 7 before; all places become zero.
-fn open(image: &[u64], shared: Shared, heads: &mut [u32; 384], tables: &mut [u16; 8192], texts: &mut [u8; 32768], room: u64) -> Shared {
+fn open(image: &[u64], shared: Shared, places: &mut Places, room: u64) -> Shared {
     if 2048 < room {
         return wrong(shared);
     }
-    records::clear_all(heads, tables, texts);
+    records::clear_all(places);
     let mut scratch = [7u16; 2048];
     let n = room as usize;
     open_with(image, &mut scratch[0..n])
 }
 
 // Power loss: nothing but the image stays.
-fn cut(heads: &mut [u32; 384], tables: &mut [u16; 8192], texts: &mut [u8; 32768]) -> Shared {
-    records::clear_all(heads, tables, texts);
+fn cut(places: &mut Places) -> Shared {
+    records::clear_all(places);
     print::words(b"cut\n");
     records::no_shared()
 }
 
 // The point of this number joins; its place gets the answered record unless the call is refused.
-fn join(image: &[u64], shared: Shared, heads: &mut [u32; 384], tables: &mut [u16; 8192], texts: &mut [u8; 32768], number: u64) -> Shared {
+fn join(image: &[u64], shared: Shared, places: &mut Places, number: u64) -> Shared {
     if 4294967295 < number {
         return wrong(shared);
     }
@@ -64,7 +68,7 @@ fn join(image: &[u64], shared: Shared, heads: &mut [u32; 384], tables: &mut [u16
     print::reply(reply, b"joined\n");
     if is_done(reply) {
         if number < 32 {
-            records::save(heads, tables, texts, number as usize, joined.point);
+            records::save(places, number as usize, joined.point);
         }
     }
     joined.shared
@@ -77,20 +81,21 @@ fn is_done(reply: Reply) -> bool {
     }
 }
 
-// The text of a write: byte i is seed + 7 i, mod 256.
-fn fill_text(text: &mut [u8], seed: u8) {
-    let mut x = seed;
+// The text of a write.
+fn fill_text(text: &mut [u8], seed: u64)
+    requires { ⌜ (length (now text) ≤ 1100) × (seed < 256) ⌝ }
+    ensures { λ _. ⌜ now (text .exit) ≡ textOf seed (length (now (text .entry))) ⌝ }
+{
     for i in 0..text.len() {
-        text[i] = x;
-        x = std::num::wrapping_add_u8(x, 7);
+        text[i] = ((seed + 7 * i as u64) % 256) as u8;
     }
 }
 
 // Place p's point begins a write of this text.
-fn begin_with(image: &[u64], shared: Shared, heads: &mut [u32; 384], tables: &mut [u16; 8192], texts: &mut [u8; 32768], p: usize, offset: usize, text: &[u8]) -> Shared
+fn begin_with(image: &[u64], shared: Shared, places: &mut Places, p: usize, offset: usize, text: &[u8]) -> Shared
     requires { ⌜ p < 32 ⌝ }
 {
-    let point = records::load(heads, tables, texts, p);
+    let point = records::load(places, p);
     let begun = points::begin::begin(image, shared, point, offset, text);
     let after = begun.point;
     let reply = begun.reply;
@@ -99,7 +104,7 @@ fn begin_with(image: &[u64], shared: Shared, heads: &mut [u32; 384], tables: &mu
             let head = after.head;
             let write = head.write;
             print::line(b"begun run ", write.run as u64);
-            records::save(heads, tables, texts, p, after);
+            records::save(places, p, after);
         }
         Reply::Refused(reason) => print::refused(reason),
     }
@@ -107,7 +112,7 @@ fn begin_with(image: &[u64], shared: Shared, heads: &mut [u32; 384], tables: &mu
 }
 
 // `begin P O L S`
-fn begin(image: &[u64], shared: Shared, heads: &mut [u32; 384], tables: &mut [u16; 8192], texts: &mut [u8; 32768], o: Order) -> Shared {
+fn begin(image: &[u64], shared: Shared, places: &mut Places, o: Order) -> Shared {
     if 31 < o.a {
         return wrong(shared);
     }
@@ -123,12 +128,12 @@ fn begin(image: &[u64], shared: Shared, heads: &mut [u32; 384], tables: &mut [u1
     let mut bytes = [0u8; 1100];
     let size = o.c as usize;
     let text = &mut bytes[0..size];
-    fill_text(text, o.d as u8);
-    begin_with(image, shared, heads, tables, texts, o.a as usize, o.b as usize, text)
+    fill_text(text, o.d);
+    begin_with(image, shared, places, o.a as usize, o.b as usize, text)
 }
 
 // `step P K`: place p's point makes up to k steps.
-fn step(image: &mut [u64], shared: Shared, heads: &mut [u32; 384], tables: &mut [u16; 8192], texts: &mut [u8; 32768], o: Order) -> Shared {
+fn step(image: &mut [u64], shared: Shared, places: &mut Places, o: Order) -> Shared {
     if 31 < o.a {
         return wrong(shared);
     }
@@ -139,50 +144,50 @@ fn step(image: &mut [u64], shared: Shared, heads: &mut [u32; 384], tables: &mut 
         return wrong(shared);
     }
     let p = o.a as usize;
-    let point = records::load(heads, tables, texts, p);
+    let point = records::load(places, p);
     let walked = steps::walk(image, shared, point, o.b);
-    records::save(heads, tables, texts, p, walked.point);
+    records::save(places, p, walked.point);
     walked.shared
 }
 
 // Place p's point leaves; its place becomes zero unless the call is refused.
-fn leave(image: &[u64], shared: Shared, heads: &mut [u32; 384], tables: &mut [u16; 8192], texts: &mut [u8; 32768], place: u64) -> Shared {
+fn leave(image: &[u64], shared: Shared, places: &mut Places, place: u64) -> Shared {
     if 31 < place {
         return wrong(shared);
     }
     let p = place as usize;
-    let point = records::load(heads, tables, texts, p);
+    let point = records::load(places, p);
     let left = points::leave::leave(image, shared, point);
     let reply = left.reply;
     print::reply(reply, b"left\n");
     if is_done(reply) {
-        records::clear(heads, tables, texts, p);
+        records::clear(places, p);
     }
     left.shared
 }
 
 // Does a call and writes its lines; the shared record after it.
-pub fn obey(image: &mut [u64], shared: Shared, heads: &mut [u32; 384], tables: &mut [u16; 8192], texts: &mut [u8; 32768], o: Order) -> Shared {
+pub fn obey(image: &mut [u64], shared: Shared, places: &mut Places, o: Order) -> Shared {
     let command = o.command;
     if command == order::OPEN {
-        return open(image, shared, heads, tables, texts, o.a);
+        return open(image, shared, places, o.a);
     }
     if command == order::CUT {
-        return cut(heads, tables, texts);
+        return cut(places);
     }
     if command == order::BEGIN {
-        return begin(image, shared, heads, tables, texts, o);
+        return begin(image, shared, places, o);
     }
     if command == order::STEP {
-        return step(image, shared, heads, tables, texts, o);
+        return step(image, shared, places, o);
     }
     if command == order::LEAVE {
-        return leave(image, shared, heads, tables, texts, o.a);
+        return leave(image, shared, places, o.a);
     }
     if command == order::JOIN {
         if 31 < o.a {
             return wrong(shared);
         }
     }
-    join(image, shared, heads, tables, texts, o.a)
+    join(image, shared, places, o.a)
 }

@@ -5,6 +5,7 @@ use crate::order;
 use crate::order::Order;
 use crate::print;
 use crate::records;
+use crate::records::Places;
 use log::Reply;
 use log::Shared;
 use points::Count;
@@ -84,20 +85,20 @@ fn number_of(x: u32) -> u64 {
     x as u64
 }
 
-fn print_numbers(heads: &[u32; 384], p: usize)
+fn print_numbers(places: &Places, p: usize)
     requires { ⌜ p < 32 ⌝ }
 {
     for i in 0..12 {
-        print::labelled(b" ", number_of(heads[12 * p + i]));
+        print::labelled(b" ", number_of(places[1292 * p + i]));
     }
 }
 
 // The numbers of place p's record, and the digests of its table and its text.
-fn record(heads: &[u32; 384], point: Point, p: usize)
+fn record(places: &Places, point: Point, p: usize)
     requires { ⌜ p < 32 ⌝ }
 {
     print::words(b"record");
-    print_numbers(heads, p);
+    print_numbers(places, p);
     print::labelled(b" ", digest::of_numbers(&point.table));
     print::line(b" ", digest::of_bytes(&point.text));
 }
@@ -147,7 +148,7 @@ fn look(image: &[u64], shared: Shared, point: Point, o: Order) {
 }
 
 // Looks, and writes the line.
-pub fn obey(image: &[u64], shared: Shared, heads: &[u32; 384], tables: &[u16; 8192], texts: &[u8; 32768], o: Order) {
+pub fn obey(image: &[u64], shared: Shared, places: &Places, o: Order) {
     if o.command == order::SHARED {
         return print_shared(shared);
     }
@@ -158,9 +159,9 @@ pub fn obey(image: &[u64], shared: Shared, heads: &[u32; 384], tables: &[u16; 81
         return print::error();
     }
     let p = o.a as usize;
-    let point = records::load(heads, tables, texts, p);
+    let point = records::load(places, p);
     if o.command == order::RECORD {
-        return record(heads, point, p);
+        return record(places, point, p);
     }
     look(image, shared, point, o);
 }

@@ -14,6 +14,7 @@ mod scan;
 mod steps;
 use log::Shared;
 use order::Order;
+use records::Places;
 
 // What lasts from line to line beside the image's words and the record places: how many words the image has, and the shared record.
 struct Bench {
@@ -22,31 +23,31 @@ struct Bench {
 }
 
 // Does a command but `image` and writes its lines; the shared record after it.
-fn obey(image: &mut [u64], shared: Shared, heads: &mut [u32; 384], tables: &mut [u16; 8192], texts: &mut [u8; 32768], o: Order) -> Shared {
+fn obey(image: &mut [u64], shared: Shared, places: &mut Places, o: Order) -> Shared {
     let command = o.command;
     if command < order::OPEN {
         image::obey(image, o);
         return shared;
     }
     if command < order::READ {
-        return calls::obey(image, shared, heads, tables, texts, o);
+        return calls::obey(image, shared, places, o);
     }
     if command < order::ALTER {
-        looks::obey(image, shared, heads, tables, texts, o);
+        looks::obey(image, shared, places, o);
         return shared;
     }
-    alter::obey(shared, heads, tables, texts, o)
+    alter::obey(shared, places, o)
 }
 
 // The same on the first words of the room that images stand in.
-fn obey_in(room: &mut [u64], words: usize, shared: Shared, heads: &mut [u32; 384], tables: &mut [u16; 8192], texts: &mut [u8; 32768], o: Order) -> Shared
+fn obey_in(room: &mut [u64], words: usize, shared: Shared, places: &mut Places, o: Order) -> Shared
     requires { ⌜ words ≤ length (now room) ⌝ }
 {
-    obey(&mut room[0..words], shared, heads, tables, texts, o)
+    obey(&mut room[0..words], shared, places, o)
 }
 
 // An image of so many zero words; all records become zero.
-fn renew(room: &mut [u64; 65600], bench: Bench, heads: &mut [u32; 384], tables: &mut [u16; 8192], texts: &mut [u8; 32768], words: u64) -> Bench
+fn renew(room: &mut [u64; 65600], bench: Bench, places: &mut Places, words: u64) -> Bench
     requires { ⌜ bench .words ≤ 65600 ⌝ }
     ensures { λ r. ⌜ r .words ≤ 65600 ⌝ }
 {
@@ -55,7 +56,7 @@ fn renew(room: &mut [u64; 65600], bench: Bench, heads: &mut [u32; 384], tables: 
         return bench;
     }
     *room = [0u64; 65600];
-    records::clear_all(heads, tables, texts);
+    records::clear_all(places);
     print::line(b"image ", words);
     let shared = records::no_shared();
     Bench {
@@ -65,7 +66,7 @@ fn renew(room: &mut [u64; 65600], bench: Bench, heads: &mut [u32; 384], tables: 
 }
 
 // Does what a line orders and writes its lines.
-fn do_line(line: &[u8], room: &mut [u64; 65600], bench: Bench, heads: &mut [u32; 384], tables: &mut [u16; 8192], texts: &mut [u8; 32768]) -> Bench
+fn do_line(line: &[u8], room: &mut [u64; 65600], bench: Bench, places: &mut Places) -> Bench
     requires { ⌜ bench .words ≤ 65600 ⌝ }
     ensures { λ r. ⌜ r .words ≤ 65600 ⌝ }
 {
@@ -78,16 +79,16 @@ fn do_line(line: &[u8], room: &mut [u64; 65600], bench: Bench, heads: &mut [u32;
         return bench;
     }
     if o.command == order::IMAGE {
-        return renew(room, bench, heads, tables, texts, o.a);
+        return renew(room, bench, places, o.a);
     }
     let words = bench.words;
     let before = bench.shared;
-    let shared = obey_in(room, words, before, heads, tables, texts, o);
+    let shared = obey_in(room, words, before, places, o);
     Bench { words, shared }
 }
 
 // Does the lines of a script in turn.
-fn run(script: &[u8], room: &mut [u64; 65600], heads: &mut [u32; 384], tables: &mut [u16; 8192], texts: &mut [u8; 32768]) {
+fn run(script: &[u8], room: &mut [u64; 65600], places: &mut Places) {
     let mut bench = Bench {
         words: 0,
         shared: records::no_shared(),
@@ -95,7 +96,7 @@ fn run(script: &[u8], room: &mut [u64; 65600], heads: &mut [u32; 384], tables: &
     let mut at: usize = 0;
     while at < script.len() {
         let end = scan::find(script, at, b'\n');
-        bench = do_line(&script[at..end], room, bench, heads, tables, texts);
+        bench = do_line(&script[at..end], room, bench, places);
         at = end + 1;
     }
 }
@@ -108,8 +109,6 @@ fn main() {
         return;
     }
     let mut room = [0u64; 65600];
-    let mut heads = [0u32; 384];
-    let mut tables = [0u16; 8192];
-    let mut texts = [0u8; 32768];
-    run(&script[..n], &mut room, &mut heads, &mut tables, &mut texts);
+    let mut places = [0u32; 41344];
+    run(&script[..n], &mut room, &mut places);
 }

@@ -1,7 +1,7 @@
 // Pseudo-random words.
 ghost use mathlib.Core.Path.{_≡_};
 ghost use lib.ListN.{length};
-ghost use Rattle.session.specs.Noise.{scrambled, firstNoise, noise};
+ghost use Rattle.session.specs.Made.{scrambled, firstNoise, noise};
 
 // The word that follows a word.
 fn scrambled(x: u64) -> u64

@@ -1,4 +1,4 @@
-// The 32 record places. A place's numbers stand in the order in which `record` writes them, its table and its text beside them.
+// The 32 record places: 1,292 numbers each, first the 12 that `record` writes, in its order, then the table's 256, then the text's 1,024.
 ghost use Prim.Native.Nat.{_<_};
 use log::Place;
 use log::Shared;
@@ -6,6 +6,8 @@ use points::Head;
 use points::Phase;
 use points::Point;
 use points::Write;
+
+pub type Places = [u32; 41344];
 
 fn phase_of(n: u32) -> Phase {
     match n {
@@ -29,63 +31,75 @@ fn phase_number(phase: Phase) -> u32 {
     }
 }
 
-fn retries_of(n: u32) -> u16 {
+fn low16(n: u32) -> u16 {
     (n % 65536) as u16
 }
 
-fn load_head(heads: &[u32; 384], p: usize) -> Head
+fn low8(n: u32) -> u8 {
+    (n % 256) as u8
+}
+
+fn of16(n: u16) -> u32 {
+    n as u32
+}
+
+fn of8(n: u8) -> u32 {
+    n as u32
+}
+
+fn load_head(places: &Places, p: usize) -> Head
     requires { ⌜ p < 32 ⌝ }
 {
-    let at = 12 * p;
+    let at = 1292 * p;
     let place = Place {
-        block: heads[at + 2],
-        slot: heads[at + 3],
-        passed: heads[at + 4],
+        block: places[at + 2],
+        slot: places[at + 3],
+        passed: places[at + 4],
     };
     let write = Write {
-        offset: heads[at + 6],
-        size: heads[at + 7],
-        run: heads[at + 8],
-        phase: phase_of(heads[at + 5]),
-        position: heads[at + 9],
-        zeroing: heads[at + 10],
-        retries: retries_of(heads[at + 11]),
+        offset: places[at + 6],
+        size: places[at + 7],
+        run: places[at + 8],
+        phase: phase_of(places[at + 5]),
+        position: places[at + 9],
+        zeroing: places[at + 10],
+        retries: low16(places[at + 11]),
     };
     Head {
-        number: heads[at],
-        length: heads[at + 1],
+        number: places[at],
+        length: places[at + 1],
         place: place,
         write: write,
     }
 }
 
-fn load_table(tables: &[u16; 8192], p: usize) -> [u16; 256]
+fn load_table(places: &Places, p: usize) -> [u16; 256]
     requires { ⌜ p < 32 ⌝ }
 {
     let mut table = [0u16; 256];
     for i in 0..256 {
-        table[i] = tables[256 * p + i];
+        table[i] = low16(places[1292 * p + 12 + i]);
     }
     table
 }
 
-fn load_text(texts: &[u8; 32768], p: usize) -> [u8; 1024]
+fn load_text(places: &Places, p: usize) -> [u8; 1024]
     requires { ⌜ p < 32 ⌝ }
 {
     let mut text = [0u8; 1024];
     for i in 0..1024 {
-        text[i] = texts[1024 * p + i];
+        text[i] = low8(places[1292 * p + 268 + i]);
     }
     text
 }
 
 // Place p's record.
-pub fn load(heads: &[u32; 384], tables: &[u16; 8192], texts: &[u8; 32768], p: usize) -> Point
+pub fn load(places: &Places, p: usize) -> Point
     requires { ⌜ p < 32 ⌝ }
 {
-    let head = load_head(heads, p);
-    let table = load_table(tables, p);
-    let text = load_text(texts, p);
+    let head = load_head(places, p);
+    let table = load_table(places, p);
+    let text = load_text(places, p);
     Point {
         head: head,
         table: table,
@@ -93,88 +107,64 @@ pub fn load(heads: &[u32; 384], tables: &[u16; 8192], texts: &[u8; 32768], p: us
     }
 }
 
-fn save_head(heads: &mut [u32; 384], p: usize, head: Head)
+fn save_head(places: &mut Places, p: usize, head: Head)
     requires { ⌜ p < 32 ⌝ }
 {
-    let at = 12 * p;
+    let at = 1292 * p;
     let place = head.place;
     let write = head.write;
     let phase = write.phase;
-    heads[at] = head.number;
-    heads[at + 1] = head.length;
-    heads[at + 2] = place.block;
-    heads[at + 3] = place.slot;
-    heads[at + 4] = place.passed;
-    heads[at + 5] = phase_number(phase);
-    heads[at + 6] = write.offset;
-    heads[at + 7] = write.size;
-    heads[at + 8] = write.run;
-    heads[at + 9] = write.position;
-    heads[at + 10] = write.zeroing;
-    heads[at + 11] = write.retries as u32;
+    places[at] = head.number;
+    places[at + 1] = head.length;
+    places[at + 2] = place.block;
+    places[at + 3] = place.slot;
+    places[at + 4] = place.passed;
+    places[at + 5] = phase_number(phase);
+    places[at + 6] = write.offset;
+    places[at + 7] = write.size;
+    places[at + 8] = write.run;
+    places[at + 9] = write.position;
+    places[at + 10] = write.zeroing;
+    places[at + 11] = write.retries as u32;
 }
 
-fn save_table(tables: &mut [u16; 8192], p: usize, table: &[u16; 256])
+fn save_table(places: &mut Places, p: usize, table: &[u16; 256])
     requires { ⌜ p < 32 ⌝ }
 {
     for i in 0..256 {
-        tables[256 * p + i] = table[i];
+        places[1292 * p + 12 + i] = of16(table[i]);
     }
 }
 
-fn save_text(texts: &mut [u8; 32768], p: usize, text: &[u8; 1024])
+fn save_text(places: &mut Places, p: usize, text: &[u8; 1024])
     requires { ⌜ p < 32 ⌝ }
 {
     for i in 0..1024 {
-        texts[1024 * p + i] = text[i];
+        places[1292 * p + 268 + i] = of8(text[i]);
     }
 }
 
 // Place p gets a record.
-pub fn save(heads: &mut [u32; 384], tables: &mut [u16; 8192], texts: &mut [u8; 32768], p: usize, point: Point)
+pub fn save(places: &mut Places, p: usize, point: Point)
     requires { ⌜ p < 32 ⌝ }
 {
-    save_head(heads, p, point.head);
-    save_table(tables, p, &point.table);
-    save_text(texts, p, &point.text);
+    save_head(places, p, point.head);
+    save_table(places, p, &point.table);
+    save_text(places, p, &point.text);
 }
 
 // Place p becomes zero.
-pub fn clear(heads: &mut [u32; 384], tables: &mut [u16; 8192], texts: &mut [u8; 32768], p: usize)
+pub fn clear(places: &mut Places, p: usize)
     requires { ⌜ p < 32 ⌝ }
 {
-    let place = Place {
-        block: 0,
-        slot: 0,
-        passed: 0,
-    };
-    let write = Write {
-        offset: 0,
-        size: 0,
-        run: 0,
-        phase: Phase::Idle,
-        position: 0,
-        zeroing: 0,
-        retries: 0,
-    };
-    let head = Head {
-        number: 0,
-        length: 0,
-        place: place,
-        write: write,
-    };
-    let table = [0u16; 256];
-    let text = [0u8; 1024];
-    save_head(heads, p, head);
-    save_table(tables, p, &table);
-    save_text(texts, p, &text);
+    for i in 0..1292 {
+        places[1292 * p + i] = 0;
+    }
 }
 
 // All places become zero.
-pub fn clear_all(heads: &mut [u32; 384], tables: &mut [u16; 8192], texts: &mut [u8; 32768]) {
-    *heads = [0u32; 384];
-    *tables = [0u16; 8192];
-    *texts = [0u8; 32768];
+pub fn clear_all(places: &mut Places) {
+    *places = [0u32; 41344];
 }
 
 // A shared record of zeros.

@@ -10,10 +10,10 @@ use Rattle.session.proofs.records.no_shared.Reads as no-shared-reads
 use Rattle.session.proofs.scan.find.Reads as find-reads
 
 abbrev Inv-loop : tie.InvT-loop
-Inv-loop script room₀ heads₀ tables₀ texts₀ bench₀ at₀ room heads tables texts bench at = bench .words ≤ 65600
+Inv-loop script room₀ places₀ bench₀ at₀ room places bench at = bench .words ≤ 65600
 
 abbrev μ-loop : tie.MeasureT-loop
-μ-loop script room₀ heads₀ tables₀ texts₀ bench₀ at₀ room heads tables texts bench at = length script - at
+μ-loop script room₀ places₀ bench₀ at₀ room places bench at = length script - at
 
 -- src/main.rt:93:17
 no-shared-requires : tie.Need-no-shared-requires Inv-loop μ-loop

@@ -4,7 +4,7 @@ use mathlib.Core.Path.{_≡_, refl, sym, _∙_, ap}
 use mathlib.Core.List.{_++_}
 use native.Mathlib.Omega.{arith}
 use lib.ListN.{length, take, length-set}
-use Rattle.session.specs.Noise.{noise}
+use Rattle.session.specs.Made.{noise}
 use Rattle.session.proofs.NoiseLaws.{noise-next, noise-end}
 use Rattle.session.proofs.noise.fill.Statement.{statement}
 use Rattle.session.proofs.noise.fill.Tie as tie

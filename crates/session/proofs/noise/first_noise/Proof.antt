@@ -1,4 +1,4 @@
-use Rattle.session.specs.Noise.{firstNoise}
+use Rattle.session.specs.Made.{firstNoise}
 use mathlib.Core.Path.{_≡_,sym}
 use Rattle.session.proofs.NoiseLaws.{first-zero, first-other}
 use Rattle.session.proofs.noise.first_noise.Statement.{statement}

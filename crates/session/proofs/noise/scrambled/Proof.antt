@@ -1,4 +1,4 @@
-use Rattle.session.specs.Noise.{scrambled}
+use Rattle.session.specs.Made.{scrambled}
 use mathlib.Core.Path.{refl}
 use Rattle.session.proofs.noise.scrambled.Statement.{statement}
 use Rattle.session.proofs.noise.scrambled.Tie as tie

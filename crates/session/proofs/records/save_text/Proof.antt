@@ -4,46 +4,59 @@ use Rattle.session.proofs.records.save_text.Statement.{statement}
 use Rattle.session.proofs.records.save_text.Tie as tie
 use Rattle.session.proofs.records.save_text.Reads as reads
 use Rattle.session.proofs.records.save_text.Lts as lts
+use Rattle.session.proofs.records.of8.Reads as of8-reads
 
 abbrev Inv-loop : tie.InvT-loop
-Inv-loop texts₀ p text i₀ texts i = i ≤ 1024
+Inv-loop places₀ p text i₀ places i = i ≤ 1024
 
 abbrev μ-loop : tie.MeasureT-loop
-μ-loop texts₀ p text i₀ texts i = 1024 - i
+μ-loop places₀ p text i₀ places i = 1024 - i
 
--- src/records.rt:128:5
+-- src/records.rt:142:5
 loop-holds : tie.Need-loop-holds Inv-loop μ-loop
 loop-holds c = omega arith
 
--- src/records.rt:129:31
-element-copy-out-texts : tie.Need-element-copy-out-texts Inv-loop μ-loop
-element-copy-out-texts c = omega arith
+-- src/records.rt:143:42
+element-copy-out-of8 : tie.Need-element-copy-out-of8 Inv-loop μ-loop
+element-copy-out-of8 c = omega arith
 
--- src/records.rt:129:15
-mul-texts : tie.Need-mul-texts Inv-loop μ-loop
-mul-texts c = omega arith
+-- src/records.rt:143:38
+of8-requires : tie.Need-of8-requires Inv-loop μ-loop
+of8-requires c κs = tt
 
--- src/records.rt:129:15
-add-texts : tie.Need-add-texts Inv-loop μ-loop
-add-texts c = omega arith
+-- src/records.rt:143:16
+mul-places : tie.Need-mul-places Inv-loop μ-loop
+mul-places c = omega arith
 
--- src/records.rt:129:9
-element-write-texts : tie.Need-element-write-texts Inv-loop μ-loop
-element-write-texts c = omega arith
+-- src/records.rt:143:16
+add-places : tie.Need-add-places Inv-loop μ-loop
+add-places c = omega arith
 
--- src/records.rt:128:9
+-- src/records.rt:143:16
+add-places-2 : tie.Need-add-places-2 Inv-loop μ-loop
+add-places-2 c = omega arith
+
+-- src/records.rt:143:9
+mul-places-2 : tie.Need-mul-places-2 Inv-loop μ-loop
+mul-places-2 c = omega arith
+
+-- src/records.rt:143:9
+element-write-places : tie.Need-element-write-places Inv-loop μ-loop
+element-write-places c = omega arith
+
+-- src/records.rt:142:9
 add-i : tie.Need-add-i Inv-loop μ-loop
 add-i c = omega arith
 
--- src/records.rt:128:5
+-- src/records.rt:142:5
 loop-less : tie.Need-loop-less Inv-loop μ-loop
 loop-less c = omega arith
 
--- src/records.rt:128:5
+-- src/records.rt:142:5
 loop-again : tie.Need-loop-again Inv-loop μ-loop
 loop-again c = omega arith
 
--- src/records.rt:125:1
+-- src/records.rt:139:1
 returns : tie.Need-returns Inv-loop μ-loop
 returns c = tt
 
@@ -54,10 +67,13 @@ save-text-spec =
     Inv-loop
     μ-loop
     loop-holds
-    element-copy-out-texts
-    mul-texts
-    add-texts
-    element-write-texts
+    element-copy-out-of8
+    of8-requires
+    mul-places
+    add-places
+    add-places-2
+    mul-places-2
+    element-write-places
     add-i
     loop-less
     loop-again

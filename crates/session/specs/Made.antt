@@ -1,7 +1,8 @@
--- Pseudo-random words.
-use Prim.Native.Nat.{ℕ, zero, suc, _*_, _/_, _%_, _^_}
+-- What the commands `noise` and `begin` make.
+use Prim.Native.Nat.{ℕ, zero, suc, _+_, _*_, _/_, _%_, _^_}
 use mathlib.Core.List.{List, [], _∷_}
 use lib.Bits.{bitXor}
+use Rattle.words.specs.Logic.{listFrom}
 
 -- "x ^= x << 13 (mod 2^64), x ^= x >> 7, x ^= x << 17 (mod 2^64)"
 abbrev pub shiftUp : ℕ → ℕ → ℕ
@@ -22,3 +23,7 @@ firstNoise (suc s) = suc s
 unfoldable pub noise : ℕ → ℕ → List ℕ
 noise x zero = []
 noise x (suc n) = scrambled x ∷ noise (scrambled x) n
+
+-- "byte i being (S + 7 × i) mod 256"
+unfoldable pub textOf : ℕ → ℕ → List ℕ
+textOf seed size = listFrom 0 size (λ i. (seed + 7 * i) % 256)
