@@ -20,8 +20,6 @@ use Rattle.log.specs.Replay.{Mapped, replayOn, nothing, replay, shared, 
 use Rattle.log.specs.declared.Place.{Place}
 use Rattle.log.specs.declared.Reply.the-variants.{Done}
 use Rattle.words.proofs.Memory.{size-facts}
-use Rattle.words.proofs.Paint.{inside}
-use Rattle.words.proofs.Word.{clear}
 use Rattle.log.proofs.Chain.{inside-outside}
 use Rattle.log.proofs.Cover.{fresh}
 use Rattle.log.proofs.Opening.{Passed, refusedWith, refused-opened, refused-scratch, refused-cleared, is-7, is-8, is-9, is-0, done-opened, done-scratch}

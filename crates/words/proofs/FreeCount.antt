@@ -6,14 +6,14 @@ use Prim.Native.Nat.{ℕ, zero, suc, _+_, _-_, _*_, _/_, _%_, _^_, _<_, _≤_, m
 use native.Mathlib.Nat.{mod-lt, mod-one, mod-eq-of-lt, add-comm, add-zero, add-suc, add-assoc, one-mul}
 use native.Mathlib.Numerals.{one-add}
 use native.Mathlib.Omega.{arith}
-use lib.Pow.{pow-pos, pow-lt, mod-pow-add}
-use lib.Count.{ones, ones-cat, ones-le}
 use lib.Bits.{bitAnd, and-mask}
-use lib.ListN.{length, getD, List·getD-eq-default}
+use lib.Count.{ones, ones-cat, ones-le}
 use lib.Dec.{eqb}
+use lib.ListN.{length, getD, List·getD-eq-default}
+use lib.Pow.{pow-pos, pow-lt, mod-pow-add}
+use Rattle.words.specs.BlockMap.{taken, freeCount}
 use Rattle.words.specs.Logic.{one-if, countFrom}
 use Rattle.words.specs.Word.{bits}
-use Rattle.words.specs.BlockMap.{taken, freeCount}
 use Rattle.words.proofs.Word.{Digit, off, on, bit-digit, bit-none}
 
 -- a bit counts itself

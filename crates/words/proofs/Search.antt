@@ -5,8 +5,8 @@ use mathlib.Core.Bool.{Bool, true, false}
 use Prim.Native.Nat.{ℕ, zero, suc, _+_, _-_, _<_, _≤_, min}
 use native.Mathlib.Numerals.{add-one}
 use native.Mathlib.Omega.{arith}
-use Rattle.words.specs.Logic.{upFrom}
 use Rattle.words.specs.BlockMap.{taken, takenIn}
+use Rattle.words.specs.Logic.{upFrom}
 use Rattle.words.specs.Search.{freeAmong, found}
 
 module _ (map : List ℕ) (n : ℕ) where

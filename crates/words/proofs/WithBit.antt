@@ -3,14 +3,14 @@ use mathlib.Core.Path.{_≡_, refl, sym, ap, _∙_}
 use mathlib.Core.Logic.{_≢_}
 use mathlib.Core.Bool.{Bool, true, false}
 use Prim.Native.Nat.{ℕ, zero, suc, _+_, _*_, _-_, _/_, _%_, _^_, _≤_, _<_}
+use native.Mathlib.Decide.{ℕ-discrete}
 use native.Mathlib.Nat.{one-mul, zero-mul, add-zero, sub-zero, mod-lt}
 use native.Mathlib.Omega.{arith}
-use native.Mathlib.Decide.{ℕ-discrete}
+use lib.Bits.{bitOr, bitAnd, or-lt}
 use lib.Dec.{eqb}
 use lib.Pow.{pow-add, mod-pow-add, split}
-use lib.Bits.{bitOr, bitAnd, or-lt}
-use Rattle.words.specs.Word.{bits, bit}
 use Rattle.words.specs.BlockMap.{withBit}
+use Rattle.words.specs.Word.{bits, bit}
 use Rattle.words.proofs.Choice.{upd, upd-same, upd-other}
 use Rattle.words.proofs.Word.{Digit, off, on, bit-digit, bit-zero, bit-suc, withField, bit-set, cleared-in}
 

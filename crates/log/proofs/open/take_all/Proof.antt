@@ -24,10 +24,11 @@ take-live-requires c κs = search needs
 
 returns : tie.Need-returns
 returns c = let a = c .before .before .before .before .before .before .before .before .before .before .args in
-    let m2 = c .before .before .before .before .take-chain .last .1 .0 in
-    let m3 = c .before .take-live .last .1 .0 in (
-      met-shared (a .image .now) (a .table .now) (c .before .before .before .before .before .before .before .before .before .before .pre) (c .before .before .before .before .before .before .before .take-block .last .0) m2 m3 (c .before .take-live .result) (c .before .before .before .before .before .before .before .take-block .ensures) (c .before .before .before .before .take-chain .ensures) (c .before .take-live .ensures .1),
-      map-taken (a .image .now) (a .table .now) (c .before .before .before .before .before .before .before .before .before .before .pre) (c .before .before .before .before .before .before .before .take-block .last .0) m2 m3 (c .before .take-live .result) (c .before .before .before .before .before .before .before .take-block .ensures) (c .before .before .before .before .take-chain .ensures) (c .before .take-live .ensures .0),
+    let z = c .before .before .before .before .before .before .before .take-block in
+    let k = c .before .before .before .before .take-chain in
+    let l = c .before .take-live in (
+      met-shared (a .image .now) (a .table .now) (c .before .before .before .before .before .before .before .before .before .before .pre) (z .last .0) (k .last .1 .0) (l .last .1 .0) (l .result) (z .ensures) (k .ensures) (l .ensures .1),
+      map-taken (a .image .now) (a .table .now) (c .before .before .before .before .before .before .before .before .before .before .pre) (z .last .0) (k .last .1 .0) (l .last .1 .0) (l .result) (z .ensures) (k .ensures) (l .ensures .0),
     )
 
 pub take-all-spec : {M : Type 1} → statement M

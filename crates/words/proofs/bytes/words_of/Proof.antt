@@ -1,9 +1,9 @@
 -- After i words the first i are those that the bytes make, and the others are as they came.
-use Prim.Native.Nat.{ℕ, _+_, _-_, _*_, _/_, _≤_}
 use mathlib.Core.Path.{_≡_, refl, sym, ap, _∙_}
 use mathlib.Core.List.{List, _++_}
-use native.Mathlib.Omega.{arith}
+use Prim.Native.Nat.{ℕ, _+_, _-_, _*_, _/_, _≤_}
 use native.Mathlib.Numerals.{add-one}
+use native.Mathlib.Omega.{arith}
 use lib.ListN.{length, drop, set, getD, length-set}
 use borrow.Author.Tests.{ltb-true, ltb-false}
 use Rattle.words.specs.Logic.{listFrom}

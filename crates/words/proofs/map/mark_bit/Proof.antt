@@ -1,9 +1,9 @@
 -- The word is stored with its bit changed; past the map marking changes nothing.
-use native.Mathlib.Omega.{arith}
-use Prim.Native.Nat.{_+_, _*_}
 use mathlib.Core.Path.{sym}
-use Rattle.words.proofs.BlockMap.{mark-at, mark-past}
+use Prim.Native.Nat.{_+_, _*_}
+use native.Mathlib.Omega.{arith}
 use borrow.Author.Needs.{needs}
+use Rattle.words.proofs.BlockMap.{mark-at, mark-past}
 use Rattle.words.proofs.map.mark_bit.Statement.{statement}
 use Rattle.words.proofs.map.mark_bit.Tie as tie
 

@@ -1,10 +1,10 @@
 -- A bit is set by `|` with a shifted 1, and cleared by `&` with all but it.
-use native.Mathlib.Omega.{arith}
+use mathlib.Core.Path.{ap, sym, _∙_}
 use mathlib.Core.Bool.{Bool}
-use mathlib.Core.Path.{_≡_, ap, sym, _∙_}
+use native.Mathlib.Omega.{arith}
+use borrow.Author.Needs.{needs}
 use Rattle.words.specs.BlockMap.{withBit}
 use Rattle.words.proofs.WithBit.{bit-is-set, bit-is-cleared}
-use borrow.Author.Needs.{needs}
 use Rattle.words.proofs.map.with_bit.Statement.{statement}
 use Rattle.words.proofs.map.with_bit.Tie as tie
 
