@@ -6,9 +6,7 @@ ghost use Rattle.points.specs.Record.{noTable, noText, noWrite};
 ghost use Rattle.points.specs.Calls.{badFirst, joinRefusal, joining};
 use crate::Head;
 use crate::Joined;
-use crate::Phase;
 use crate::Point;
-use crate::Write;
 use log::Place;
 use log::Reply;
 use log::Shared;
@@ -51,15 +49,7 @@ fn idle_at(number: u32, place: Place) -> Point
             number,
             length: 0,
             place,
-            write: Write {
-                offset: 0,
-                size: 0,
-                run: 0,
-                phase: Phase::Idle,
-                position: 0,
-                zeroing: 0,
-                retries: 0,
-            },
+            write: crate::plan::no_write(),
         },
         table,
         text,
