@@ -11,8 +11,7 @@ use Rattle.points.specs.declared.Begun.{Begun}
 use Rattle.points.specs.declared.Stepped.{Stepped}
 use Rattle.points.specs.declared.Left.{Left}
 use Rattle.points.specs.Calls.{joining, beginning, leaving}
-use Rattle.points.specs.Stepping.{stepping}
-use Rattle.points.specs.Plan.{answered}
+use Rattle.points.specs.Stepping.{answered, stepping}
 use Rattle.recovery.specs.World.{turn}
 use Rattle.recovery.specs.Served.{JoinServed, BeginServed, StepServed, LeaveServed}
 
