@@ -1,7 +1,7 @@
 -- The walk from the log's start, once 1, 4 and 5 are passed: it is sound and passes the log.
 use mathlib.Core.Path.{_≡_, _∙_, sym, refl, ap}
 use mathlib.Core.List.{List, [], _∷_}
-use mathlib.Core.Bool.{true, false, Bool, _||_}
+use mathlib.Core.Bool.{true, false, Bool, or-false}
 use Prim.Native.Nat.{ℕ, zero, suc, _-_, _+_, _≤_, _<_, _*_, _/_}
 use native.Mathlib.Decide.{decLe}
 use native.Mathlib.Omega.{arith}
@@ -17,7 +17,6 @@ use Rattle.log.specs.Opening.{badEntry}
 use Rattle.log.specs.Parts.{startOf}
 use Rattle.words.proofs.Logic.{or-left, or-right, any-none}
 use Rattle.words.proofs.Memory.{block-length}
-use Rattle.words.proofs.Paint.{inside}
 use Rattle.log.proofs.Chain.{chain-next, endless-start, endless-on}
 use Rattle.log.proofs.Walk.{walk-stop, walk-last, walk-on, Claim, walk-entries, Counted, counted}
 
@@ -96,10 +95,6 @@ module _ (words : List ℕ) (idx : badIndex (length words / 64) (memory one word
     pub start-broken : broken one blocks (ahead one m blocks (startOf words)) ≡ badEntry one blocks (log m)
     unfolding broken any
     start-broken = rw (start-sound, start-entries) (or-false (badEntry one blocks (log m)))
-      where
-        or-false : (a : Bool) → a || false ≡ a
-        or-false true = refl
-        or-false false = refl
 
 -- the log's length from the place where the walk from its start ends
 pub log-count :
