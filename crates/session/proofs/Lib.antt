@@ -1,3 +1,3 @@
 pub mod DigestLaws
-pub mod NoiseLaws
+pub mod MadeLaws
 pub mod ScanLaws

@@ -25,5 +25,8 @@ noise x zero = []
 noise x (suc n) = scrambled x ∷ noise (scrambled x) n
 
 -- "byte i being (S + 7 × i) mod 256"
+abbrev pub textByte : ℕ → ℕ → ℕ
+textByte seed i = (seed + 7 * i) % 256
+
 unfoldable pub textOf : ℕ → ℕ → List ℕ
-textOf seed size = listFrom 0 size (λ i. (seed + 7 * i) % 256)
+textOf seed size = listFrom 0 size (textByte seed)

@@ -33,7 +33,7 @@ fn put(places: &mut Places, o: Order, first: usize, count: u64, most: u64)
     if most < o.c {
         return print::error();
     }
-    places[1292 * o.a as usize + first + o.b as usize] = o.c as u32;
+    places[records::SIZE * o.a as usize + first + o.b as usize] = o.c as u32;
     print::altered();
 }
 
@@ -96,9 +96,9 @@ pub fn obey(shared: Shared, places: &mut Places, o: Order) -> Shared {
         return shared;
     }
     if command == order::TABLE {
-        put(places, o, 12, 256, 65535);
+        put(places, o, records::TABLE, 256, 65535);
         return shared;
     }
-    put(places, o, 268, 1024, 255);
+    put(places, o, records::TEXT, 1024, 255);
     shared
 }

@@ -92,7 +92,14 @@ fn fill_text(text: &mut [u8], seed: u64)
 }
 
 // Place p's point begins a write of this text.
-fn begin_with(image: &[u64], shared: Shared, places: &mut Places, p: usize, offset: usize, text: &[u8]) -> Shared
+fn begin_with(
+    image: &[u64],
+    shared: Shared,
+    places: &mut Places,
+    p: usize,
+    offset: usize,
+    text: &[u8],
+) -> Shared
     requires { ⌜ p < 32 ⌝ }
 {
     let point = records::load(places, p);

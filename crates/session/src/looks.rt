@@ -89,7 +89,7 @@ fn print_numbers(places: &Places, p: usize)
     requires { ⌜ p < 32 ⌝ }
 {
     for i in 0..12 {
-        print::labelled(b" ", number_of(places[1292 * p + i]));
+        print::labelled(b" ", number_of(places[records::SIZE * p + i]));
     }
 }
 

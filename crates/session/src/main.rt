@@ -1,6 +1,7 @@
 // A bench for the store: does the commands of a script from standard input, and writes what each leaves.
 ghost use Prim.Native.Nat.{_≤_, _<_};
 ghost use lib.ListN.{length};
+
 mod alter;
 mod calls;
 mod digest;
@@ -12,6 +13,7 @@ mod print;
 mod records;
 mod scan;
 mod steps;
+
 use log::Shared;
 use order::Order;
 use records::Places;

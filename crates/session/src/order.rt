@@ -10,36 +10,58 @@ pub const WRONG: u32 = 1;
 
 // Commands on the image alone.
 pub const IMAGE: u32 = 10;
+
 pub const NOISE: u32 = 11;
+
 pub const SET: u32 = 12;
+
 pub const WORD: u32 = 13;
+
 pub const LAYOUT: u32 = 14;
+
 pub const DIGEST: u32 = 15;
 
 // Calls of the store.
 pub const OPEN: u32 = 20;
+
 pub const CUT: u32 = 21;
+
 pub const JOIN: u32 = 22;
+
 pub const JOINAS: u32 = 23;
+
 pub const BEGIN: u32 = 24;
+
 pub const STEP: u32 = 25;
+
 pub const LEAVE: u32 = 26;
 
 // Looks.
 pub const READ: u32 = 30;
+
 pub const SHOW: u32 = 31;
+
 pub const LOCATE: u32 = 32;
+
 pub const VIEW: u32 = 33;
+
 pub const RECORD: u32 = 34;
+
 pub const SHARED: u32 = 35;
+
 pub const FREE: u32 = 36;
 
 // Alterations of records.
 pub const ALTER: u32 = 40;
+
 pub const TABLE: u32 = 41;
+
 pub const TEXT: u32 = 42;
+
 pub const COPY: u32 = 43;
+
 pub const ALTERSHARED: u32 = 44;
+
 pub const MAP: u32 = 45;
 
 // A command, and how many words follow its name.

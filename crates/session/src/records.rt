@@ -9,6 +9,13 @@ use points::Write;
 
 pub type Places = [u32; 41344];
 
+// How many numbers a place has, and where the table and the text begin among them.
+pub const SIZE: usize = 1292;
+
+pub const TABLE: usize = 12;
+
+pub const TEXT: usize = 268;
+
 fn phase_of(n: u32) -> Phase {
     match n {
         1 => Phase::Filling,
@@ -50,7 +57,7 @@ fn of8(n: u8) -> u32 {
 fn load_head(places: &Places, p: usize) -> Head
     requires { ⌜ p < 32 ⌝ }
 {
-    let at = 1292 * p;
+    let at = SIZE * p;
     let place = Place {
         block: places[at + 2],
         slot: places[at + 3],
@@ -78,7 +85,7 @@ fn load_table(places: &Places, p: usize) -> [u16; 256]
 {
     let mut table = [0u16; 256];
     for i in 0..256 {
-        table[i] = low16(places[1292 * p + 12 + i]);
+        table[i] = low16(places[SIZE * p + TABLE + i]);
     }
     table
 }
@@ -88,7 +95,7 @@ fn load_text(places: &Places, p: usize) -> [u8; 1024]
 {
     let mut text = [0u8; 1024];
     for i in 0..1024 {
-        text[i] = low8(places[1292 * p + 268 + i]);
+        text[i] = low8(places[SIZE * p + TEXT + i]);
     }
     text
 }
@@ -110,7 +117,7 @@ pub fn load(places: &Places, p: usize) -> Point
 fn save_head(places: &mut Places, p: usize, head: Head)
     requires { ⌜ p < 32 ⌝ }
 {
-    let at = 1292 * p;
+    let at = SIZE * p;
     let place = head.place;
     let write = head.write;
     let phase = write.phase;
@@ -132,7 +139,7 @@ fn save_table(places: &mut Places, p: usize, table: &[u16; 256])
     requires { ⌜ p < 32 ⌝ }
 {
     for i in 0..256 {
-        places[1292 * p + 12 + i] = of16(table[i]);
+        places[SIZE * p + TABLE + i] = of16(table[i]);
     }
 }
 
@@ -140,7 +147,7 @@ fn save_text(places: &mut Places, p: usize, text: &[u8; 1024])
     requires { ⌜ p < 32 ⌝ }
 {
     for i in 0..1024 {
-        places[1292 * p + 268 + i] = of8(text[i]);
+        places[SIZE * p + TEXT + i] = of8(text[i]);
     }
 }
 
@@ -157,8 +164,8 @@ pub fn save(places: &mut Places, p: usize, point: Point)
 pub fn clear(places: &mut Places, p: usize)
     requires { ⌜ p < 32 ⌝ }
 {
-    for i in 0..1292 {
-        places[1292 * p + i] = 0;
+    for i in 0..SIZE {
+        places[SIZE * p + i] = 0;
     }
 }
 

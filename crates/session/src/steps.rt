@@ -6,9 +6,13 @@ use points::Point;
 use points::StepAnswer;
 
 const STORED: u32 = 0;
+
 const EXTENDING: u32 = 1;
+
 const MOVED: u32 = 2;
+
 const COMMITTED: u32 = 3;
+
 const REFUSED: u32 = 4;
 
 // An answer as numbers: its kind, and the retry count of Committed or the reason of a refusal.

@@ -1,13 +1,9 @@
+-- Each turn takes a line off the script. The image stays within its room.
 use Prim.Native.Nat.{_-_, _≤_}
 use native.Mathlib.Omega.{arith}
 use lib.ListN.{length}
 use Rattle.session.proofs.run.Statement.{statement}
 use Rattle.session.proofs.run.Tie as tie
-use Rattle.session.proofs.run.Reads as reads
-use Rattle.session.proofs.run.Lts as lts
-use Rattle.session.proofs.do_line.Reads as do-line-reads
-use Rattle.session.proofs.records.no_shared.Reads as no-shared-reads
-use Rattle.session.proofs.scan.find.Reads as find-reads
 
 abbrev Inv-loop : tie.InvT-loop
 Inv-loop script room₀ places₀ bench₀ at₀ room places bench at = bench .words ≤ 65600
@@ -15,47 +11,36 @@ Inv-loop script room₀ places₀ bench₀ at₀ room places bench at = bench .w
 abbrev μ-loop : tie.MeasureT-loop
 μ-loop script room₀ places₀ bench₀ at₀ room places bench at = length script - at
 
--- src/main.rt:93:17
 no-shared-requires : tie.Need-no-shared-requires Inv-loop μ-loop
 no-shared-requires c κs = tt
 
--- src/main.rt:96:5
 loop-holds : tie.Need-loop-holds Inv-loop μ-loop
 loop-holds c = omega arith
 
--- src/main.rt:97:13
 find-requires : tie.Need-find-requires Inv-loop μ-loop
 find-requires c κs = omega arith
 
--- src/main.rt:98:25
 sub-do-line : tie.Need-sub-do-line Inv-loop μ-loop
 sub-do-line c = omega arith
 
--- src/main.rt:98:25
 part-do-line-start : tie.Need-part-do-line-start Inv-loop μ-loop
 part-do-line-start c = omega arith
 
--- src/main.rt:98:25
 part-do-line-end : tie.Need-part-do-line-end Inv-loop μ-loop
 part-do-line-end c = omega arith
 
--- src/main.rt:98:9
 do-line-requires : tie.Need-do-line-requires Inv-loop μ-loop
 do-line-requires c κs = omega arith
 
--- src/main.rt:99:14
 add-at : tie.Need-add-at Inv-loop μ-loop
 add-at c = omega arith
 
--- src/main.rt:96:5
 loop-less : tie.Need-loop-less Inv-loop μ-loop
 loop-less c = omega arith
 
--- src/main.rt:96:5
 loop-again : tie.Need-loop-again Inv-loop μ-loop
 loop-again c = omega arith
 
--- src/main.rt:90:1
 returns : tie.Need-returns Inv-loop μ-loop
 returns c = tt
 

@@ -1,20 +1,12 @@
+-- The digest of the whole list is the digest of what is left, from the digest so far.
 use Prim.Native.Nat.{_-_, _≤_, _<_}
 use mathlib.Core.Path.{_≡_, refl, _∙_, sym}
 use native.Mathlib.Omega.{arith}
-use lib.ListN.{length, drop, getD}
-use Rattle.session.specs.Digest.{digestFrom}
-use Rattle.session.proofs.DigestLaws.{digest-next, digest-end}
-use Prim.Native.Nat.{_-_, _≤_, _<_}
-use mathlib.Core.Path.{_≡_, refl, _∙_, ap}
-use native.Mathlib.Omega.{arith}
-use lib.ListN.{length, drop, getD}
+use lib.ListN.{length, drop}
 use Rattle.session.specs.Digest.{digestFrom}
 use Rattle.session.proofs.DigestLaws.{digest-next, digest-end}
 use Rattle.session.proofs.digest.of_bytes.Statement.{statement}
 use Rattle.session.proofs.digest.of_bytes.Tie as tie
-use Rattle.session.proofs.digest.of_bytes.Reads as reads
-use Rattle.session.proofs.digest.of_bytes.Lts as lts
-use Rattle.session.proofs.digest.add.Reads as add-reads
 
 abbrev Inv-loop : tie.InvT-loop
 Inv-loop bytes h₀ i₀ i-end h i = (i-end ≡ length bytes) × (i ≤ length bytes) × (h < 4294967291) × (digestFrom 1 bytes ≡ digestFrom h (drop i bytes))
@@ -22,37 +14,29 @@ Inv-loop bytes h₀ i₀ i-end h i = (i-end ≡ length bytes) × (i ≤ length b
 abbrev μ-loop : tie.MeasureT-loop
 μ-loop bytes h₀ i₀ i-end h i = length bytes - i
 
--- src/digest.rt:28:5
 loop-holds : tie.Need-loop-holds Inv-loop μ-loop
 loop-holds c = (refl, omega arith, omega arith, refl)
 
--- src/digest.rt:29:20
 shared-slice-read-add : tie.Need-shared-slice-read-add Inv-loop μ-loop
 shared-slice-read-add c = omega arith
 
--- src/digest.rt:29:20
 cast-add : tie.Need-cast-add Inv-loop μ-loop
 cast-add c = omega (arith, c .shared-slice-known2 .given (c .before .before .loop .i))
 
--- src/digest.rt:29:9
 add-requires : tie.Need-add-requires Inv-loop μ-loop
 add-requires c κs = omega (arith, c .shared-slice-known2 .given (c .before .before .loop .i))
 
--- src/digest.rt:28:9
 add-i : tie.Need-add-i Inv-loop μ-loop
 add-i c = omega arith
 
--- src/digest.rt:28:5
 loop-less : tie.Need-loop-less Inv-loop μ-loop
 loop-less c = omega arith
 
--- src/digest.rt:28:5
 loop-again : tie.Need-loop-again Inv-loop μ-loop
 loop-again c = let l = c .before .before .before .loop in
     let xs = c .before .before .before .before .before .args .bytes .now in
     (refl, omega arith, c .add .ensures .1, l .inv .3 ∙ digest-next (l .h) (l .i) xs (c .add .result) (omega arith) (c .add .ensures .0))
 
--- src/digest.rt:24:1
 returns : tie.Need-returns Inv-loop μ-loop
 returns c = let l = c .before .loop in sym (l .inv .3 ∙ digest-end (l .h) (l .i) (c .before .before .before .args .bytes .now) (omega arith))
 

@@ -1,14 +1,12 @@
+-- The digest of the whole list is the digest of what is left, from the digest so far, four parts a word.
 use Prim.Native.Nat.{_-_, _≤_, _<_}
 use mathlib.Core.Path.{_≡_, refl, _∙_, sym}
 use native.Mathlib.Omega.{arith}
-use lib.ListN.{length, drop, getD}
+use lib.ListN.{length, drop}
 use Rattle.session.specs.Digest.{digestFrom, parts}
 use Rattle.session.proofs.DigestLaws.{words-next, words-end}
 use Rattle.session.proofs.digest.of_words.Statement.{statement}
 use Rattle.session.proofs.digest.of_words.Tie as tie
-use Rattle.session.proofs.digest.of_words.Reads as reads
-use Rattle.session.proofs.digest.of_words.Lts as lts
-use Rattle.session.proofs.digest.add_word.Reads as add-word-reads
 
 abbrev Inv-loop : tie.InvT-loop
 Inv-loop words h₀ i₀ i-end h i = (i-end ≡ length words) × (i ≤ length words) × (h < 4294967291) × (digestFrom 1 (parts words) ≡ digestFrom h (parts (drop i words)))
@@ -16,37 +14,29 @@ Inv-loop words h₀ i₀ i-end h i = (i-end ≡ length words) × (i ≤ length w
 abbrev μ-loop : tie.MeasureT-loop
 μ-loop words h₀ i₀ i-end h i = length words - i
 
--- src/digest.rt:48:5
 loop-holds : tie.Need-loop-holds Inv-loop μ-loop
 loop-holds c = (refl, omega arith, omega arith, refl)
 
--- src/digest.rt:49:25
 mul-add-word : tie.Need-mul-add-word Inv-loop μ-loop
 mul-add-word c = omega arith
 
--- src/digest.rt:49:25
 shared-slice-read-add-word : tie.Need-shared-slice-read-add-word Inv-loop μ-loop
 shared-slice-read-add-word c = omega arith
 
--- src/digest.rt:49:9
 add-word-requires : tie.Need-add-word-requires Inv-loop μ-loop
 add-word-requires c κs = omega arith
 
--- src/digest.rt:48:9
 add-i : tie.Need-add-i Inv-loop μ-loop
 add-i c = omega arith
 
--- src/digest.rt:48:5
 loop-less : tie.Need-loop-less Inv-loop μ-loop
 loop-less c = omega arith
 
--- src/digest.rt:48:5
 loop-again : tie.Need-loop-again Inv-loop μ-loop
 loop-again c = let l = c .before .before .before .loop in
     let xs = c .before .before .before .before .before .args .words .now in
     (refl, omega arith, c .add-word .ensures .1, l .inv .3 ∙ words-next (l .h) (l .i) xs (c .add-word .result) (omega arith) (c .add-word .ensures .0))
 
--- src/digest.rt:44:1
 returns : tie.Need-returns Inv-loop μ-loop
 returns c = let l = c .before .loop in sym (l .inv .3 ∙ words-end (l .h) (l .i) (c .before .before .before .args .words .now) (omega arith))
 

@@ -1,17 +1,13 @@
-use Rattle.session.proofs.NoiseLaws.{noise-start}
+-- What the part has in front, and the words still to come, are the definition's words.
 use Prim.Native.Nat.{_-_, _≤_}
-use mathlib.Core.Path.{_≡_, refl, sym, _∙_, ap}
 use mathlib.Core.List.{_++_}
+use mathlib.Core.Path.{_≡_, refl, _∙_, ap}
 use native.Mathlib.Omega.{arith}
 use lib.ListN.{length, take, length-set}
 use Rattle.session.specs.Made.{noise}
-use Rattle.session.proofs.NoiseLaws.{noise-next, noise-end}
+use Rattle.session.proofs.MadeLaws.{noise-start, noise-next, noise-end}
 use Rattle.session.proofs.noise.fill.Statement.{statement}
 use Rattle.session.proofs.noise.fill.Tie as tie
-use Rattle.session.proofs.noise.fill.Reads as reads
-use Rattle.session.proofs.noise.fill.Lts as lts
-use Rattle.session.proofs.noise.first_noise.Reads as first-noise-reads
-use Rattle.session.proofs.noise.scrambled.Reads as scrambled-reads
 
 abbrev Inv-loop : tie.InvT-loop
 Inv-loop part₀ seed x₀ i₀ i-end part x i = (i-end ≡ length part₀) × (i ≤ length part₀) × (length part ≡ length part₀) × (take i part ++ noise x (length part₀ - i) ≡ noise x₀ (length part₀))
@@ -19,45 +15,35 @@ Inv-loop part₀ seed x₀ i₀ i-end part x i = (i-end ≡ length part₀) × (
 abbrev μ-loop : tie.MeasureT-loop
 μ-loop part₀ seed x₀ i₀ i-end part x i = length part₀ - i
 
--- src/noise.rt:29:9
 first-noise-requires : tie.Need-first-noise-requires Inv-loop μ-loop
 first-noise-requires c κs = tt
 
--- src/noise.rt:30:5
 loop-holds : tie.Need-loop-holds Inv-loop μ-loop
 loop-holds c = (refl, omega arith, refl, noise-start _ _ (c .before .before .args .part .now))
 
--- src/noise.rt:31:9
 scrambled-requires : tie.Need-scrambled-requires Inv-loop μ-loop
 scrambled-requires c κs = tt
 
--- src/noise.rt:32:9
 mul-part : tie.Need-mul-part Inv-loop μ-loop
 mul-part c = omega arith
 
--- src/noise.rt:32:9
 slice-write-part : tie.Need-slice-write-part Inv-loop μ-loop
 slice-write-part c = omega arith
 
--- src/noise.rt:30:9
 add-i : tie.Need-add-i Inv-loop μ-loop
 add-i c = omega arith
 
--- src/noise.rt:30:5
 loop-less : tie.Need-loop-less Inv-loop μ-loop
 loop-less c = omega arith
 
--- src/noise.rt:30:5
 loop-again : tie.Need-loop-again Inv-loop μ-loop
 loop-again c = let l = c .before .before .loop in
     let n = length (c .before .before .before .before .before .args .part .now) in
     (refl, omega arith, simp length-set (l .inv .2), noise-next (l .x) n (l .i) (l .part) _ (l .inv .2) (l .inv .3) (c .scrambled .result) (omega arith) (c .scrambled .ensures))
 
--- src/noise.rt:26:1
 same-length : tie.Need-same-length Inv-loop μ-loop
 same-length c = c .before .loop .inv .2
 
--- src/noise.rt:26:1
 returns : tie.Need-returns Inv-loop μ-loop
 returns c = let l = c .before .loop in
     let n = length (c .before .before .before .before .args .part .now) in

@@ -1,9 +1,8 @@
+-- 1,292 numbers, all of place p.
 use Prim.Native.Nat.{_-_, _≤_}
 use native.Mathlib.Omega.{arith}
 use Rattle.session.proofs.records.clear.Statement.{statement}
 use Rattle.session.proofs.records.clear.Tie as tie
-use Rattle.session.proofs.records.clear.Reads as reads
-use Rattle.session.proofs.records.clear.Lts as lts
 
 abbrev Inv-loop : tie.InvT-loop
 Inv-loop places₀ p i₀ places i = i ≤ 1292
@@ -11,39 +10,30 @@ Inv-loop places₀ p i₀ places i = i ≤ 1292
 abbrev μ-loop : tie.MeasureT-loop
 μ-loop places₀ p i₀ places i = 1292 - i
 
--- src/records.rt:160:5
 loop-holds : tie.Need-loop-holds Inv-loop μ-loop
 loop-holds c = omega arith
 
--- src/records.rt:161:16
 mul-places : tie.Need-mul-places Inv-loop μ-loop
 mul-places c = omega arith
 
--- src/records.rt:161:16
 add-places : tie.Need-add-places Inv-loop μ-loop
 add-places c = omega arith
 
--- src/records.rt:161:9
 mul-places-2 : tie.Need-mul-places-2 Inv-loop μ-loop
 mul-places-2 c = omega arith
 
--- src/records.rt:161:9
 element-write-places : tie.Need-element-write-places Inv-loop μ-loop
 element-write-places c = omega arith
 
--- src/records.rt:160:9
 add-i : tie.Need-add-i Inv-loop μ-loop
 add-i c = omega arith
 
--- src/records.rt:160:5
 loop-less : tie.Need-loop-less Inv-loop μ-loop
 loop-less c = omega arith
 
--- src/records.rt:160:5
 loop-again : tie.Need-loop-again Inv-loop μ-loop
 loop-again c = omega arith
 
--- src/records.rt:157:1
 returns : tie.Need-returns Inv-loop μ-loop
 returns c = tt
 

@@ -1,10 +1,8 @@
+-- 256 numbers, all of place p.
 use Prim.Native.Nat.{_-_, _≤_}
 use native.Mathlib.Omega.{arith}
 use Rattle.session.proofs.records.load_table.Statement.{statement}
 use Rattle.session.proofs.records.load_table.Tie as tie
-use Rattle.session.proofs.records.load_table.Reads as reads
-use Rattle.session.proofs.records.load_table.Lts as lts
-use Rattle.session.proofs.records.low16.Reads as low16-reads
 
 abbrev Inv-loop : tie.InvT-loop
 Inv-loop places p table₀ i₀ table i = i ≤ 256
@@ -12,55 +10,42 @@ Inv-loop places p table₀ i₀ table i = i ≤ 256
 abbrev μ-loop : tie.MeasureT-loop
 μ-loop places p table₀ i₀ table i = 256 - i
 
--- src/records.rt:80:5
 loop-holds : tie.Need-loop-holds Inv-loop μ-loop
 loop-holds c = omega arith
 
--- src/records.rt:81:33
 mul-low16 : tie.Need-mul-low16 Inv-loop μ-loop
 mul-low16 c = omega arith
 
--- src/records.rt:81:33
 add-low16 : tie.Need-add-low16 Inv-loop μ-loop
 add-low16 c = omega arith
 
--- src/records.rt:81:33
 add-low16-2 : tie.Need-add-low16-2 Inv-loop μ-loop
 add-low16-2 c = omega arith
 
--- src/records.rt:81:26
 mul-low16-2 : tie.Need-mul-low16-2 Inv-loop μ-loop
 mul-low16-2 c = omega arith
 
--- src/records.rt:81:26
 element-copy-out-low16 : tie.Need-element-copy-out-low16 Inv-loop μ-loop
 element-copy-out-low16 c = omega arith
 
--- src/records.rt:81:20
 low16-requires : tie.Need-low16-requires Inv-loop μ-loop
 low16-requires c κs = tt
 
--- src/records.rt:81:9
 mul-table : tie.Need-mul-table Inv-loop μ-loop
 mul-table c = omega arith
 
--- src/records.rt:81:9
 array-write-table : tie.Need-array-write-table Inv-loop μ-loop
 array-write-table c = omega arith
 
--- src/records.rt:80:9
 add-i : tie.Need-add-i Inv-loop μ-loop
 add-i c = omega arith
 
--- src/records.rt:80:5
 loop-less : tie.Need-loop-less Inv-loop μ-loop
 loop-less c = omega arith
 
--- src/records.rt:80:5
 loop-again : tie.Need-loop-again Inv-loop μ-loop
 loop-again c = omega arith
 
--- src/records.rt:76:1
 returns : tie.Need-returns Inv-loop μ-loop
 returns c = tt
 

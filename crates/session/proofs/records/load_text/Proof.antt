@@ -1,10 +1,8 @@
+-- 1,024 numbers, all of place p.
 use Prim.Native.Nat.{_-_, _≤_}
 use native.Mathlib.Omega.{arith}
 use Rattle.session.proofs.records.load_text.Statement.{statement}
 use Rattle.session.proofs.records.load_text.Tie as tie
-use Rattle.session.proofs.records.load_text.Reads as reads
-use Rattle.session.proofs.records.load_text.Lts as lts
-use Rattle.session.proofs.records.low8.Reads as low8-reads
 
 abbrev Inv-loop : tie.InvT-loop
 Inv-loop places p text₀ i₀ text i = i ≤ 1024
@@ -12,51 +10,39 @@ Inv-loop places p text₀ i₀ text i = i ≤ 1024
 abbrev μ-loop : tie.MeasureT-loop
 μ-loop places p text₀ i₀ text i = 1024 - i
 
--- src/records.rt:90:5
 loop-holds : tie.Need-loop-holds Inv-loop μ-loop
 loop-holds c = omega arith
 
--- src/records.rt:91:31
 mul-low8 : tie.Need-mul-low8 Inv-loop μ-loop
 mul-low8 c = omega arith
 
--- src/records.rt:91:31
 add-low8 : tie.Need-add-low8 Inv-loop μ-loop
 add-low8 c = omega arith
 
--- src/records.rt:91:31
 add-low8-2 : tie.Need-add-low8-2 Inv-loop μ-loop
 add-low8-2 c = omega arith
 
--- src/records.rt:91:24
 mul-low8-2 : tie.Need-mul-low8-2 Inv-loop μ-loop
 mul-low8-2 c = omega arith
 
--- src/records.rt:91:24
 element-copy-out-low8 : tie.Need-element-copy-out-low8 Inv-loop μ-loop
 element-copy-out-low8 c = omega arith
 
--- src/records.rt:91:19
 low8-requires : tie.Need-low8-requires Inv-loop μ-loop
 low8-requires c κs = tt
 
--- src/records.rt:91:9
 array-write-text : tie.Need-array-write-text Inv-loop μ-loop
 array-write-text c = omega arith
 
--- src/records.rt:90:9
 add-i : tie.Need-add-i Inv-loop μ-loop
 add-i c = omega arith
 
--- src/records.rt:90:5
 loop-less : tie.Need-loop-less Inv-loop μ-loop
 loop-less c = omega arith
 
--- src/records.rt:90:5
 loop-again : tie.Need-loop-again Inv-loop μ-loop
 loop-again c = omega arith
 
--- src/records.rt:86:1
 returns : tie.Need-returns Inv-loop μ-loop
 returns c = tt
 

@@ -1,10 +1,8 @@
+-- 1,024 numbers, all of place p.
 use Prim.Native.Nat.{_-_, _≤_}
 use native.Mathlib.Omega.{arith}
 use Rattle.session.proofs.records.save_text.Statement.{statement}
 use Rattle.session.proofs.records.save_text.Tie as tie
-use Rattle.session.proofs.records.save_text.Reads as reads
-use Rattle.session.proofs.records.save_text.Lts as lts
-use Rattle.session.proofs.records.of8.Reads as of8-reads
 
 abbrev Inv-loop : tie.InvT-loop
 Inv-loop places₀ p text i₀ places i = i ≤ 1024
@@ -12,51 +10,39 @@ Inv-loop places₀ p text i₀ places i = i ≤ 1024
 abbrev μ-loop : tie.MeasureT-loop
 μ-loop places₀ p text i₀ places i = 1024 - i
 
--- src/records.rt:142:5
 loop-holds : tie.Need-loop-holds Inv-loop μ-loop
 loop-holds c = omega arith
 
--- src/records.rt:143:42
 element-copy-out-of8 : tie.Need-element-copy-out-of8 Inv-loop μ-loop
 element-copy-out-of8 c = omega arith
 
--- src/records.rt:143:38
 of8-requires : tie.Need-of8-requires Inv-loop μ-loop
 of8-requires c κs = tt
 
--- src/records.rt:143:16
 mul-places : tie.Need-mul-places Inv-loop μ-loop
 mul-places c = omega arith
 
--- src/records.rt:143:16
 add-places : tie.Need-add-places Inv-loop μ-loop
 add-places c = omega arith
 
--- src/records.rt:143:16
 add-places-2 : tie.Need-add-places-2 Inv-loop μ-loop
 add-places-2 c = omega arith
 
--- src/records.rt:143:9
 mul-places-2 : tie.Need-mul-places-2 Inv-loop μ-loop
 mul-places-2 c = omega arith
 
--- src/records.rt:143:9
 element-write-places : tie.Need-element-write-places Inv-loop μ-loop
 element-write-places c = omega arith
 
--- src/records.rt:142:9
 add-i : tie.Need-add-i Inv-loop μ-loop
 add-i c = omega arith
 
--- src/records.rt:142:5
 loop-less : tie.Need-loop-less Inv-loop μ-loop
 loop-less c = omega arith
 
--- src/records.rt:142:5
 loop-again : tie.Need-loop-again Inv-loop μ-loop
 loop-again c = omega arith
 
--- src/records.rt:139:1
 returns : tie.Need-returns Inv-loop μ-loop
 returns c = tt
 

@@ -1,14 +1,12 @@
+-- The place of the first such byte is the same, looked for from here or from the start.
 use Prim.Native.Nat.{_+_, _-_, _≤_}
 use mathlib.Core.Path.{_≡_, refl}
 use native.Mathlib.Omega.{arith}
 use lib.ListN.{length, drop}
-use borrow.Author.Tests.{eqb-true, eqb-false}
 use Rattle.session.specs.Scan.{upTo}
 use Rattle.session.proofs.ScanLaws.{upTo-next, upTo-stop, upTo-end}
 use Rattle.session.proofs.scan.find.Statement.{statement}
 use Rattle.session.proofs.scan.find.Tie as tie
-use Rattle.session.proofs.scan.find.Reads as reads
-use Rattle.session.proofs.scan.find.Lts as lts
 
 abbrev Inv-loop : tie.InvT-loop
 Inv-loop text from byte at₀ at = (from ≤ at) × (at ≤ length text) × (at + length (upTo byte (drop at text)) ≡ from + length (upTo byte (drop from text)))
@@ -16,33 +14,26 @@ Inv-loop text from byte at₀ at = (from ≤ at) × (at ≤ length text) × (at 
 abbrev μ-loop : tie.MeasureT-loop
 μ-loop text from byte at₀ at = length text - at
 
--- src/scan.rt:19:5
 loop-holds : tie.Need-loop-holds Inv-loop μ-loop
 loop-holds c = (omega arith, c .pre, refl)
 
--- src/scan.rt:20:12
 shared-slice-read-if1 : tie.Need-shared-slice-read-if1 Inv-loop μ-loop
 shared-slice-read-if1 c = omega arith
 
--- src/scan.rt:21:13
 returns : tie.Need-returns Inv-loop μ-loop
 returns c = let a = c .before .before .before .before .args in let l = c .before .before .before .loop in
     omega (arith, upTo-stop (a .text .now) (l .at) (a .byte) (omega arith) (c .if1 .taken))
 
--- src/scan.rt:23:9
 add-at : tie.Need-add-at Inv-loop μ-loop
 add-at c = omega arith
 
--- src/scan.rt:19:5
 loop-less : tie.Need-loop-less Inv-loop μ-loop
 loop-less c = omega arith
 
--- src/scan.rt:19:5
 loop-again : tie.Need-loop-again Inv-loop μ-loop
 loop-again c = let a = c .before .before .before .before .args in let l = c .before .before .before .loop in
     omega (arith, upTo-next (a .text .now) (l .at) (a .byte) (omega arith) (c .if1 .left))
 
--- src/scan.rt:14:1
 returns-2 : tie.Need-returns-2 Inv-loop μ-loop
 returns-2 c = let a = c .before .before .args in omega (arith, upTo-end (a .text .now) (c .before .loop .at) (a .byte) (omega arith))
 

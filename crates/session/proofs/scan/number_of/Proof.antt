@@ -1,16 +1,13 @@
-use mathlib.Core.Path.{_∙_, sym}
-use lib.ListN.{getD}
+-- The value of the word is the value of what is left after the value so far; it has only digits if what is left has.
 use Prim.Native.Nat.{_-_, _≤_, _<_, _^_}
-use mathlib.Core.Path.{_≡_, refl}
+use mathlib.Core.Path.{_∙_, sym, _≡_, refl}
 use native.Mathlib.Omega.{arith}
-use lib.ListN.{length, drop}
+use lib.ListN.{getD, length, drop}
 use Rattle.words.specs.Logic.{all-of}
 use Rattle.session.specs.Scan.{valueFrom, isDigit}
 use Rattle.session.proofs.ScanLaws.{value-next, value-end, value-least, digits-next, digits-end, digits-stop, is-digit, below-digits, above-digits, too-short, too-long, no-digit, too-large, is-number}
 use Rattle.session.proofs.scan.number_of.Statement.{statement}
 use Rattle.session.proofs.scan.number_of.Tie as tie
-use Rattle.session.proofs.scan.number_of.Reads as reads
-use Rattle.session.proofs.scan.number_of.Lts as lts
 
 abbrev Inv-loop : tie.InvT-loop
 Inv-loop word value₀ i₀ i-end value i = (i-end ≡ length word) × (i ≤ length word) × (value < 2 ^ 64) × (valueFrom 0 word ≡ valueFrom value (drop i word)) × (all-of isDigit word ≡ all-of isDigit (drop i word))
@@ -18,67 +15,52 @@ Inv-loop word value₀ i₀ i-end value i = (i-end ≡ length word) × (i ≤ le
 abbrev μ-loop : tie.MeasureT-loop
 μ-loop word value₀ i₀ i-end value i = length word - i
 
--- src/scan.rt:64:9
 returns : tie.Need-returns Inv-loop μ-loop
 returns c = too-short (c .before .args .word .now) (c .if1 .taken)
 
--- src/scan.rt:67:9
 returns-2 : tie.Need-returns-2 Inv-loop μ-loop
 returns-2 c = too-long (c .before .before .args .word .now) (c .if2 .taken)
 
--- src/scan.rt:70:5
 loop-holds : tie.Need-loop-holds Inv-loop μ-loop
 loop-holds c = (refl, omega arith, omega arith, refl, refl)
 
--- src/scan.rt:71:17
 shared-slice-read-x : tie.Need-shared-slice-read-x Inv-loop μ-loop
 shared-slice-read-x c = omega arith
 
--- src/scan.rt:71:17
 cast-x : tie.Need-cast-x Inv-loop μ-loop
 cast-x c = omega (arith, c .shared-slice-known .given (c .before .before .loop .i))
 
--- src/scan.rt:73:13
 returns-3 : tie.Need-returns-3 Inv-loop μ-loop
 returns-3 c = let l = c .before .before .before .loop in let w = c .before .before .before .before .before .before .args .word .now in
     no-digit w (l .inv .4 ∙ digits-stop w (l .i) (omega arith) (below-digits (getD w (l .i) 0) (c .if3 .taken)))
 
--- src/scan.rt:76:13
 returns-4 : tie.Need-returns-4 Inv-loop μ-loop
 returns-4 c = let l = c .before .before .before .before .loop in let w = c .before .before .before .before .before .before .before .args .word .now in
     no-digit w (l .inv .4 ∙ digits-stop w (l .i) (omega arith) (above-digits (getD w (l .i) 0) (c .if4 .taken)))
 
--- src/scan.rt:78:13
 sub-if5 : tie.Need-sub-if5 Inv-loop μ-loop
 sub-if5 c = omega arith
 
--- src/scan.rt:79:13
 returns-5 : tie.Need-returns-5 Inv-loop μ-loop
 returns-5 c = let l = c .before .before .before .before .before .loop in let w = c .before .before .before .before .before .before .before .before .args .word .now in
     too-large w (omega (arith, value-least w (l .i) (l .value) (omega arith)))
 
--- src/scan.rt:81:17
 mul-value : tie.Need-mul-value Inv-loop μ-loop
 mul-value c = omega arith
 
--- src/scan.rt:81:17
 add-value : tie.Need-add-value Inv-loop μ-loop
 add-value c = omega arith
 
--- src/scan.rt:70:9
 add-i : tie.Need-add-i Inv-loop μ-loop
 add-i c = omega arith
 
--- src/scan.rt:70:5
 loop-less : tie.Need-loop-less Inv-loop μ-loop
 loop-less c = omega arith
 
--- src/scan.rt:70:5
 loop-again : tie.Need-loop-again Inv-loop μ-loop
 loop-again c = let l = c .before .before .before .before .before .loop in let w = c .before .before .before .before .before .before .before .before .args .word .now in
     (refl, omega arith, omega arith, l .inv .3 ∙ value-next w (l .i) (l .value) (omega arith), l .inv .4 ∙ digits-next w (l .i) (omega arith) (is-digit (getD w (l .i) 0) (omega arith) (omega arith)))
 
--- src/scan.rt:60:1
 returns-6 : tie.Need-returns-6 Inv-loop μ-loop
 returns-6 c = let l = c .before .loop in let w = c .before .before .before .before .args .word .now in
     is-number w (l .value) (sym (l .inv .3 ∙ value-end w (l .i) (l .value) (omega arith))) (omega arith) (omega arith) (l .inv .4 ∙ digits-end w (l .i) (omega arith)) (l .inv .2)

@@ -1,17 +1,12 @@
-use mathlib.Core.Path.{_∙_, sym, ap}
-use Prim.Native.Nat.{ℕ}
-use Prim.Native.Nat.{_-_, _≤_}
-use mathlib.Core.Path.{_≡_, refl}
+-- The word wanted of the line is the word wanted of the rest of the line, one less for each word passed.
+use Prim.Native.Nat.{ℕ, _≤_}
+use mathlib.Core.Path.{_∙_, sym, ap, _≡_, refl}
 use native.Mathlib.Omega.{arith}
 use lib.ListN.{length, drop}
 use Rattle.session.specs.Scan.{wordAt}
 use Rattle.session.proofs.ScanLaws.{word-next, word-here}
 use Rattle.session.proofs.scan.word.Statement.{statement}
 use Rattle.session.proofs.scan.word.Tie as tie
-use Rattle.session.proofs.scan.word.Reads as reads
-use Rattle.session.proofs.scan.word.Lts as lts
-use Rattle.session.proofs.scan.find.Reads as find-reads
-use Rattle.session.proofs.scan.skip.Reads as skip-reads
 
 abbrev Inv-loop : tie.InvT-loop
 Inv-loop line k at₀ left₀ at left = (at ≤ length line) × (wordAt k line ≡ wordAt left (drop at line))
@@ -19,53 +14,41 @@ Inv-loop line k at₀ left₀ at left = (at ≤ length line) × (wordAt k line �
 abbrev μ-loop : tie.MeasureT-loop
 μ-loop line k at₀ left₀ at left = left
 
--- src/scan.rt:49:5
 loop-holds : tie.Need-loop-holds Inv-loop μ-loop
 loop-holds c = (omega arith, refl)
 
--- src/scan.rt:50:13
 skip-requires : tie.Need-skip-requires Inv-loop μ-loop
 skip-requires c κs = omega arith
 
--- src/scan.rt:51:9
 find-requires : tie.Need-find-requires Inv-loop μ-loop
 find-requires c κs = omega arith
 
--- src/scan.rt:52:9
 sub-left : tie.Need-sub-left Inv-loop μ-loop
 sub-left c = omega arith
 
--- src/scan.rt:49:5
 loop-less : tie.Need-loop-less Inv-loop μ-loop
 loop-less c = omega arith
 
--- src/scan.rt:49:5
 loop-again : tie.Need-loop-again Inv-loop μ-loop
 loop-again c = let l = c .before .before .before .loop in
     let line = c .before .before .before .before .before .args .line .now in
     (omega arith, l .inv .1 ∙ word-next line (l .at) (c .before .skip .result) (c .find .result) (c .before .skip .ensures .0) (c .find .ensures .0) (l .left) (omega arith))
 
--- src/scan.rt:54:9
 skip-requires-2 : tie.Need-skip-requires-2 Inv-loop μ-loop
 skip-requires-2 c κs = omega arith
 
--- src/scan.rt:55:9
 find-requires-2 : tie.Need-find-requires-2 Inv-loop μ-loop
 find-requires-2 c κs = omega arith
 
--- src/scan.rt:56:5
 sub-result : tie.Need-sub-result Inv-loop μ-loop
 sub-result c = omega arith
 
--- src/scan.rt:56:5
 part-result-start : tie.Need-part-result-start Inv-loop μ-loop
 part-result-start c = omega arith
 
--- src/scan.rt:56:5
 part-result-end : tie.Need-part-result-end Inv-loop μ-loop
 part-result-end c = omega arith
 
--- src/scan.rt:44:1
 returns : tie.Need-returns Inv-loop μ-loop
 returns c = let l = c .before .before .before .before .loop in
     let a = c .before .before .before .before .before .before .args in

@@ -1,13 +1,15 @@
--- The pseudo-random words of a seed: what stands in front of a part that is filled from the front, and what is still to come.
+-- Lists that a loop fills from the front: the pseudo-random words of a seed, with those still to come; the text of a write, before what was there.
 use Prim.Native.Nat.{ℕ, zero, suc, _+_, _-_, _≤_, _<_}
 use mathlib.Core.Path.{_≡_, refl, sym, _∙_}
 use mathlib.Core.Logic.{_≢_}
 use mathlib.Core.List.{List, [], _∷_, _++_, append-nil}
 use native.Mathlib.Omega.{arith}
 use native.Mathlib.Numerals.{add-one}
-use lib.ListN.{length, take, drop, set}
+use lib.ListN.{length, take, drop, set, drop-of-length-le}
 use lib.Seq.{take-suc-set, take-all, append-snoc}
-use Rattle.session.specs.Made.{firstNoise, scrambled, noise}
+use Rattle.words.specs.Logic.{listFrom}
+use Rattle.words.proofs.Logic.{listFrom-set}
+use Rattle.session.specs.Made.{firstNoise, scrambled, noise, textByte, textOf}
 
 pub first-zero : {s : ℕ} → s ≡ 0 → firstNoise s ≡ 88172645463325252
 unfolding firstNoise
@@ -42,3 +44,13 @@ module _ (x n i : ℕ) (part whole : List ℕ) (size : length part ≡ n) (so-fa
       let h : length part ≤ i = omega arith in
       let s = rw (e, take-all i part h, noise-none) at so-far in
       sym (append-nil part) ∙ s
+
+module _ (seed i : ℕ) (text before : List ℕ) (so-far : text ≡ listFrom 0 i (textByte seed) ++ drop i before) where
+  pub text-next : i < length before → set text i (textByte seed i) ≡ listFrom 0 (i + 1) (textByte seed) ++ drop (i + 1) before
+  text-next l = let z : 0 + i ≡ i = omega arith in rw (so-far, add-one) (rw z at (listFrom-set 0 i (textByte seed) before l))
+
+  pub text-end : i ≡ length before → text ≡ textOf seed (length before)
+  unfolding textOf
+  text-end e =
+      let h : length before ≤ i = omega arith in
+      so-far ∙ rw (drop-of-length-le before h, append-nil, e)
