@@ -1,0 +1,82 @@
+/* The loops that call the library, as a C program writes them. Records are lent as memory of the caller; Rust sees only their sizes. */
+#include "store.h"
+
+size_t bench_shared_size(void) { return sizeof(store_shared); }
+size_t bench_point_size(void) { return sizeof(store_point); }
+
+uint32_t bench_lay_out(uint64_t *image, size_t words) { return store_lay_out(image, words); }
+
+/* Opens; the refusal or 0, and the count of log entries. */
+uint32_t bench_open(const uint64_t *image, size_t words, uint16_t *scratch, store_shared *shared, uint32_t *entries)
+{
+    store_opened opened = store_open(image, words, scratch, 1024, shared);
+    *entries = opened.entries;
+    return opened.refused;
+}
+
+uint32_t bench_join(const uint64_t *image, size_t words, store_shared *shared, store_point *points, uint32_t number)
+{
+    return store_join(image, words, shared, number, &points[number]);
+}
+
+uint32_t bench_leave(const uint64_t *image, size_t words, store_shared *shared, store_point *points, uint32_t number)
+{
+    return store_leave(image, words, shared, &points[number]);
+}
+
+uint32_t bench_begin(const uint64_t *image, size_t words, store_shared *shared, store_point *points, uint32_t number,
+                     size_t offset, const uint8_t *text, size_t length)
+{
+    return store_begin(image, words, shared, &points[number], offset, text, length);
+}
+
+/* One step: the kind of its answer. */
+uint32_t bench_step(uint64_t *image, size_t words, store_shared *shared, store_point *points, uint32_t number)
+{
+    return store_step(image, words, shared, &points[number]).kind;
+}
+
+void bench_rewind(store_point *points, uint32_t number) { points[number].head.position = 0; }
+
+/* The 64 fills of a write of a whole block, that many times; 0, or 1 when a step did not store. */
+uint32_t bench_fill_block(uint64_t *image, size_t words, store_shared *shared, store_point *points, size_t times)
+{
+    for (size_t i = 0; i < times; i++) {
+        points[0].head.position = 0;
+        for (size_t w = 0; w < 64; w++)
+            if (store_step(image, words, shared, &points[0]).kind != 1)
+                return 1;
+    }
+    return 0;
+}
+
+/* Points from first on begin, each at 4,096 times its number, then take one step each in turn until all have committed.
+   The tally counts answers by kind. 0, or 1 when a call was refused. */
+uint32_t bench_turns(uint64_t *image, size_t words, store_shared *shared, store_point *points, size_t first, size_t count,
+                     const uint8_t *text, size_t length, uint64_t tally[6])
+{
+    size_t under_way = count;
+    for (size_t p = first; p < first + count; p++)
+        if (store_begin(image, words, shared, &points[p], 4096 * p, text, length) != 0)
+            return 1;
+    while (under_way > 0)
+        for (size_t p = first; p < first + count; p++) {
+            if (points[p].head.phase == 0)
+                continue;
+            uint32_t kind = store_step(image, words, shared, &points[p]).kind;
+            tally[kind]++;
+            if (kind == 5)
+                return 1;
+            under_way -= kind == 4;
+        }
+    return 0;
+}
+
+/* Reads: the refusal or 0, and the count of bytes. */
+uint32_t bench_read(const uint64_t *image, size_t words, const store_shared *shared, const store_point *points, uint32_t number,
+                    size_t offset, uint8_t *buffer, size_t length, uint32_t *count)
+{
+    store_count answer = store_read(image, words, shared, &points[number], offset, buffer, length);
+    *count = answer.count;
+    return answer.refused;
+}

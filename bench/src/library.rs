@@ -1,0 +1,158 @@
+//! This library as a store, through C: `library.c` makes the calls of
+//! `include/store.h`.
+
+use crate::store::*;
+
+extern "C" {
+    fn bench_shared_size() -> usize;
+    fn bench_point_size() -> usize;
+    fn bench_lay_out(image: *mut u64, words: usize) -> u32;
+    fn bench_open(image: *const u64, words: usize, scratch: *mut u16, shared: *mut u64, entries: *mut u32) -> u32;
+    fn bench_join(image: *const u64, words: usize, shared: *mut u64, points: *mut u64, number: u32) -> u32;
+    fn bench_leave(image: *const u64, words: usize, shared: *mut u64, points: *mut u64, number: u32) -> u32;
+    fn bench_begin(
+        image: *const u64,
+        words: usize,
+        shared: *mut u64,
+        points: *mut u64,
+        number: u32,
+        offset: usize,
+        text: *const u8,
+        length: usize,
+    ) -> u32;
+    fn bench_step(image: *mut u64, words: usize, shared: *mut u64, points: *mut u64, number: u32) -> u32;
+    fn bench_rewind(points: *mut u64, number: u32);
+    fn bench_fill_block(image: *mut u64, words: usize, shared: *mut u64, points: *mut u64, times: usize) -> u32;
+    fn bench_turns(
+        image: *mut u64,
+        words: usize,
+        shared: *mut u64,
+        points: *mut u64,
+        first: usize,
+        count: usize,
+        text: *const u8,
+        length: usize,
+        tally: *mut u64,
+    ) -> u32;
+    fn bench_read(
+        image: *const u64,
+        words: usize,
+        shared: *const u64,
+        points: *const u64,
+        number: u32,
+        offset: usize,
+        buffer: *mut u8,
+        length: usize,
+        count: *mut u32,
+    ) -> u32;
+}
+
+/// The records are memory of the right size and of eight bytes' alignment.
+pub struct Library {
+    image: Vec<u64>,
+    scratch: Vec<u16>,
+    shared: Vec<u64>,
+    points: Vec<u64>,
+    tally: [u64; 6],
+}
+
+/// Words that hold that many bytes.
+fn words_for(bytes: usize) -> Vec<u64> {
+    vec![0; bytes.div_ceil(8)]
+}
+
+fn accepted(refusal: u32) {
+    assert_eq!(refusal, 0, "a call is refused");
+}
+
+impl Store for Library {
+    const NAME: &'static str = "this library";
+    const PROMISE: &'static str = "committed writes whole, in order: proved";
+
+    fn new(blocks: usize) -> Library {
+        // SAFETY: both answer a number.
+        let (shared, point) = unsafe { (bench_shared_size(), bench_point_size()) };
+        let mut store = Library {
+            image: vec![1; 64 * blocks],
+            scratch: vec![0; 1_024],
+            shared: words_for(shared),
+            points: words_for(32 * point),
+            tally: [0; 6],
+        };
+        store.lay_out();
+        store
+    }
+
+    fn lay_out(&mut self) {
+        // SAFETY: here and below the C functions get memory of the sizes that they are told.
+        accepted(unsafe { bench_lay_out(self.image.as_mut_ptr(), self.image.len()) });
+        self.open();
+        self.tally = [0; 6];
+    }
+
+    fn restore(&mut self, from: &Library) {
+        self.image.copy_from_slice(&from.image);
+        self.shared.copy_from_slice(&from.shared);
+        self.points.copy_from_slice(&from.points);
+    }
+
+    fn open(&mut self) -> usize {
+        let mut entries = 0;
+        let (image, words) = (self.image.as_ptr(), self.image.len());
+        accepted(unsafe { bench_open(image, words, self.scratch.as_mut_ptr(), self.shared.as_mut_ptr(), &mut entries) });
+        entries as usize
+    }
+
+    fn join(&mut self, number: usize) {
+        let (image, words) = (self.image.as_ptr(), self.image.len());
+        accepted(unsafe { bench_join(image, words, self.shared.as_mut_ptr(), self.points.as_mut_ptr(), number as u32) });
+    }
+
+    fn leave(&mut self, number: usize) {
+        let (image, words) = (self.image.as_ptr(), self.image.len());
+        accepted(unsafe { bench_leave(image, words, self.shared.as_mut_ptr(), self.points.as_mut_ptr(), number as u32) });
+    }
+
+    fn begin(&mut self, number: usize, offset: usize, text: &[u8]) {
+        let (image, words) = (self.image.as_ptr(), self.image.len());
+        let (shared, points) = (self.shared.as_mut_ptr(), self.points.as_mut_ptr());
+        accepted(unsafe { bench_begin(image, words, shared, points, number as u32, offset, text.as_ptr(), text.len()) });
+    }
+
+    fn step(&mut self, number: usize) {
+        let (image, words) = (self.image.as_mut_ptr(), self.image.len());
+        let (shared, points) = (self.shared.as_mut_ptr(), self.points.as_mut_ptr());
+        let kind = unsafe { bench_step(image, words, shared, points, number as u32) } as usize;
+        assert!(kind < REFUSED, "a step is refused");
+        self.tally[kind] += 1;
+    }
+
+    fn rewind(&mut self, number: usize) {
+        unsafe { bench_rewind(self.points.as_mut_ptr(), number as u32) }
+    }
+
+    fn fill_block(&mut self, times: usize) {
+        let (image, words) = (self.image.as_mut_ptr(), self.image.len());
+        accepted(unsafe { bench_fill_block(image, words, self.shared.as_mut_ptr(), self.points.as_mut_ptr(), times) });
+    }
+
+    fn turns(&mut self, first: usize, count: usize, text: &[u8]) {
+        let (image, words) = (self.image.as_mut_ptr(), self.image.len());
+        let (shared, points) = (self.shared.as_mut_ptr(), self.points.as_mut_ptr());
+        let tally = self.tally.as_mut_ptr();
+        accepted(unsafe { bench_turns(image, words, shared, points, first, count, text.as_ptr(), text.len(), tally) });
+    }
+
+    fn read(&self, number: usize, offset: usize, buffer: &mut [u8]) -> usize {
+        let mut count = 0;
+        let (image, words) = (self.image.as_ptr(), self.image.len());
+        let (shared, points) = (self.shared.as_ptr(), self.points.as_ptr());
+        let (lent, length) = (buffer.as_mut_ptr(), buffer.len());
+        accepted(unsafe { bench_read(image, words, shared, points, number as u32, offset, lent, length, &mut count) });
+        count as usize
+    }
+
+    fn tally(&self) -> [u64; 6] {
+        self.tally
+    }
+}

@@ -1,0 +1,103 @@
+//! One step of a filling point in plain Rust, with the record by value and
+//! behind `&mut`: what the language itself costs. The tests and the word are
+//! those of document 01.
+
+#[derive(Clone, Copy)]
+pub struct Head {
+    pub number: u32,
+    pub length: u32,
+    pub block: u32,
+    pub slot: u32,
+    pub passed: u32,
+    pub offset: u32,
+    pub size: u32,
+    pub run: u32,
+    pub position: u32,
+}
+
+/// A point's record, 1.6 KB.
+#[derive(Clone, Copy)]
+pub struct Record {
+    pub head: Head,
+    pub table: [u16; 256],
+    pub text: [u8; 1024],
+}
+
+/// A point that begins a write of a whole block at offset 0.
+pub fn begun(text: &[u8; 512]) -> Record {
+    let mut record = Record {
+        head: Head { number: 0, length: 0, block: 1, slot: 2, passed: 1, offset: 0, size: 512, run: 2, position: 0 },
+        table: [0; 256],
+        text: [0; 1024],
+    };
+    record.text[..512].copy_from_slice(text);
+    record
+}
+
+/// Blocks that the write spans.
+fn span(head: &Head) -> u32 {
+    (head.offset + head.size - 1) / 512 - head.offset / 512 + 1
+}
+
+/// Whether head and table fit an image of that many blocks.
+fn fits(head: &Head, table: &[u16; 256], blocks: u32) -> bool {
+    let mut below = true;
+    for &entry in table {
+        below &= entry < blocks as u16;
+    }
+    below
+        && (1..blocks).contains(&head.block)
+        && (2..=64).contains(&head.slot)
+        && (1..=64).contains(&head.passed)
+        && head.length <= 131_072
+        && (1..=1_024).contains(&head.size)
+        && head.offset <= 131_072 - head.size
+        && head.run >= 1
+        && head.run + span(head) <= blocks
+        && head.position <= 64 * span(head)
+}
+
+/// The word that the run gets at the position: bytes of the text, the others
+/// from the mapped block or 0.
+fn word(image: &[u64], head: &Head, table: &[u16; 256], text: &[u8; 1024]) -> u64 {
+    let v = (head.offset / 512 + head.position / 64) as usize;
+    let old = match usize::from(table[v]) {
+        0 => 0,
+        block => image[64 * block + head.position as usize % 64],
+    };
+    let mut bytes = old.to_le_bytes();
+    let start = 512 * (head.offset / 512) + 8 * head.position;
+    for (j, byte) in bytes.iter_mut().enumerate() {
+        let place = start + j as u32;
+        if place >= head.offset && place < head.offset + head.size {
+            *byte = text[(place - head.offset) as usize];
+        }
+    }
+    u64::from_le_bytes(bytes)
+}
+
+/// One fill, the record handed in and back by value; None where it is refused.
+#[inline(never)]
+pub fn step_by_value(image: &mut [u64], joined: u32, record: Record) -> Option<Record> {
+    let mut record = record;
+    step_behind_reference(image, joined, &mut record).then_some(record)
+}
+
+/// One fill, the record lent; false where it is refused.
+#[inline(never)]
+pub fn step_by_reference(image: &mut [u64], joined: u32, record: &mut Record) -> bool {
+    step_behind_reference(image, joined, record)
+}
+
+#[inline(always)]
+fn step_behind_reference(image: &mut [u64], joined: u32, record: &mut Record) -> bool {
+    let blocks = (image.len() / 64) as u32;
+    let head = record.head;
+    if !fits(&head, &record.table, blocks) || joined >> (head.number & 31) & 1 == 0 || head.position >= 64 * span(&head) {
+        return false;
+    }
+    let value = word(image, &head, &record.table, &record.text);
+    image[(64 * head.run + head.position) as usize] = value;
+    record.head.position += 1;
+    true
+}

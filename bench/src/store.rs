@@ -1,0 +1,146 @@
+//! An implementation of document 01, and the column made of it.
+
+use crate::column::*;
+use crate::measure::timed;
+use std::time::Duration;
+
+/// The kinds of a step's answers, as the C interface numbers them.
+pub const STORED: usize = 1;
+pub const MOVED: usize = 2;
+pub const EXTENDING: usize = 3;
+pub const COMMITTED: usize = 4;
+pub const REFUSED: usize = 5;
+
+/// An implementation with its image, its records and a tally of its steps'
+/// answers by kind. Every call panics where the implementation refuses.
+pub trait Store {
+    const NAME: &'static str;
+    const PROMISE: &'static str;
+
+    /// Memory for that many blocks, all of it touched, laid out.
+    fn new(blocks: usize) -> Self;
+    /// Laid out and opened, no point joined, nothing tallied.
+    fn lay_out(&mut self);
+    /// Everything as in `from`, which has as many blocks.
+    fn restore(&mut self, from: &Self);
+    /// Opens again: the count of log entries. No point is joined then.
+    fn open(&mut self) -> usize;
+    fn join(&mut self, number: usize);
+    fn leave(&mut self, number: usize);
+    fn begin(&mut self, number: usize, offset: usize, text: &[u8]);
+    fn step(&mut self, number: usize);
+    /// A point that is filling fills from its first word again.
+    fn rewind(&mut self, number: usize);
+    /// Points from `first` on begin, each at APART times its number, then
+    /// take one step each in turn until all have committed.
+    fn turns(&mut self, first: usize, count: usize, text: &[u8]);
+    fn read(&self, number: usize, offset: usize, buffer: &mut [u8]) -> usize;
+    fn tally(&self) -> [u64; 6];
+
+    /// A store of 1,024 blocks with that many log entries, all by point 0
+    /// and at the writers' places in turn.
+    fn with_entries(entries: usize) -> Self
+    where
+        Self: Sized,
+    {
+        let mut store = Self::new(1_024);
+        let text = text_of(64);
+        store.join(0);
+        for i in 0..entries {
+            store.begin(0, APART * (i % MOST_WRITERS), &text);
+            let committed = store.tally()[COMMITTED];
+            while store.tally()[COMMITTED] == committed {
+                store.step(0);
+            }
+        }
+        store
+    }
+
+    /// A point's write of a whole block is under way, nothing of it filled.
+    fn begun() -> Self
+    where
+        Self: Sized,
+    {
+        let mut store = Self::new(1_024);
+        store.join(0);
+        store.begin(0, 0, &text_of(512));
+        store
+    }
+
+    /// The 64 fills of such a write, that many times.
+    fn fill_block(&mut self, times: usize) {
+        for _ in 0..times {
+            self.rewind(0);
+            for _ in 0..64 {
+                self.step(0);
+            }
+        }
+    }
+}
+
+/// The column of a store: its points take turns.
+pub struct Turns<S> {
+    store: S,
+    points: usize,
+}
+
+impl<S: Store> Turns<S> {
+    pub fn new() -> Turns<S> {
+        Turns { store: S::new(1_024), points: 0 }
+    }
+}
+
+impl<S: Store> Default for Turns<S> {
+    fn default() -> Self {
+        Turns::new()
+    }
+}
+
+impl<S: Store> Column for Turns<S> {
+    fn name(&self) -> &'static str {
+        S::NAME
+    }
+
+    fn promise(&self) -> &'static str {
+        S::PROMISE
+    }
+
+    fn fresh(&mut self, writers: usize) {
+        self.store.lay_out();
+        self.points = writers;
+        for number in 0..writers {
+            self.store.join(number);
+        }
+    }
+
+    fn rounds(&mut self, times: usize, text: &mut [u8]) {
+        for _ in 0..times {
+            alter(text);
+            self.store.turns(0, self.points, text);
+        }
+    }
+
+    fn bytes_stored(&self) -> Option<u64> {
+        let tally = self.store.tally();
+        Some(8 * (tally[STORED] + tally[COMMITTED]))
+    }
+
+    fn keep(&mut self, entries: usize) {
+        self.store = S::with_entries(entries);
+        assert_eq!(self.store.open(), entries);
+    }
+
+    fn open(&mut self, times: usize) -> Option<Duration> {
+        Some(timed(|| {
+            for _ in 0..times {
+                self.store.open();
+            }
+        }))
+    }
+
+    fn read(&mut self, times: usize, buffer: &mut [u8]) {
+        for _ in 0..times {
+            assert_eq!(self.store.read(0, 0, buffer), buffer.len());
+        }
+    }
+}
