@@ -82,7 +82,7 @@ pub fn with_log() {
     let (first, last) = (ends[0], ends[ends.len() - 1]);
     let span = (ENTRIES[ENTRIES.len() - 1] - ENTRIES[0]) as f64;
     println!(
-        "For a point at the tail the log behind it costs nothing (with 3,900 entries a write takes {} times what it takes with none); \
+        "With 3,900 log entries behind it a write of a point at the tail takes {} times what it takes with none; \
          a newcomer pays {} ns an entry once, at its first beginning, and a read with a record that has not caught up pays that each time.\n",
         number(last[0] / first[0]),
         number((last[2] - first[2]) / span)

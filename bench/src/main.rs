@@ -3,6 +3,7 @@
 
 use bench::measure::*;
 use bench::rows::*;
+use bench::second::Second;
 use bench::store::Store;
 use bench::{columns, growth, table, First};
 use std::path::Path;
@@ -38,13 +39,17 @@ fn writes_table(columns: &mut Columns) {
          New log blocks are timed with the writes that need them, SQLite's checkpoints too.\n"
     );
     let mut rows = Vec::new();
+    let mut spread: f64 = 0.0;
     for writers in WRITERS {
         for size in SIZES {
-            rows.push(writes(columns, writers, size).cells(table::time));
+            let row = writes(columns, writers, size);
+            spread = spread.max(row.spread);
+            rows.push(row.cells(table::time));
         }
     }
     rows.push(promises(columns));
     print_rows("", columns, &rows);
+    println!("The fastest and the slowest left out, the repetitions of a cell lie at most {:.0} % of its median apart.\n", 100.0 * spread);
     println!(
         "What this library promises holds for memory that keeps stores of eight bytes whole and in the order made: it flushes no processor cache, \
          libpmemobj and libpmemlog do. SQLite and LMDB sync to a memory file system, which costs a call and no device; on a disk they take longer. \
@@ -74,6 +79,9 @@ fn other_tables(columns: &mut Columns) {
     print_rows("bytes a write", columns, &rows);
 }
 
+/// Columns that the README's table does without.
+const LEFT_OUT: [&str; 3] = [Second::NAME, "SQLite, NORMAL", "libpmemlog"];
+
 /// A table for the README.
 fn short(columns: &mut Columns) {
     let rows = [
@@ -92,7 +100,7 @@ fn main() {
     let folder = arguments.first().expect("a folder in a memory file system");
     let mut columns = columns(Path::new(folder));
     if arguments.iter().any(|argument| argument == "--short") {
-        columns.retain(|column| ![bench::second::Second::NAME, "SQLite, NORMAL", "libpmemlog"].contains(&column.name()) || column.name() == First::NAME);
+        columns.retain(|column| column.name() == First::NAME || !LEFT_OUT.contains(&column.name()));
         return short(&mut columns);
     }
     preface();

@@ -41,6 +41,16 @@ pub fn repeated(mut work: impl FnMut() -> Work) -> f64 {
     median(values.flatten().collect()).unwrap()
 }
 
+/// How far the values lie apart, the least and the greatest left out, as a
+/// part of their median; 0 of fewer than three values.
+pub fn spread(mut values: Vec<f64>) -> f64 {
+    values.sort_by(f64::total_cmp);
+    match &values[..] {
+        [_, inner @ .., _] if !inner.is_empty() => (inner[inner.len() - 1] - inner[0]) / inner[inner.len() / 2],
+        _ => 0.0,
+    }
+}
+
 /// The middle one of an odd number of values; None of no value.
 pub fn median(mut values: Vec<f64>) -> Option<f64> {
     values.sort_by(f64::total_cmp);

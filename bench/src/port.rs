@@ -57,21 +57,26 @@ fn fits(head: &Head, table: &[u16; 256], blocks: u32) -> bool {
         && head.position <= 64 * span(head)
 }
 
-/// The word that the run gets at the position: bytes of the text, the others
-/// from the mapped block or 0.
+/// The word that the run gets at the position: of the text, of the mapped
+/// block, or of both, byte by byte.
 fn word(image: &[u64], head: &Head, table: &[u16; 256], text: &[u8; 1024]) -> u64 {
-    let v = (head.offset / 512 + head.position / 64) as usize;
-    let old = match usize::from(table[v]) {
+    let lead = head.offset as usize % 512;
+    let end = lead + head.size as usize;
+    let position = head.position as usize;
+    let at = 8 * position;
+    if lead <= at && at + 8 <= end {
+        return u64::from_le_bytes(text[at - lead..at - lead + 8].try_into().unwrap());
+    }
+    let copied = match usize::from(table[head.offset as usize / 512 + position / 64]) {
         0 => 0,
-        block => image[64 * block + head.position as usize % 64],
+        block => image[64 * block + position % 64],
     };
-    let mut bytes = old.to_le_bytes();
-    let start = 512 * (head.offset / 512) + 8 * head.position;
-    for (j, byte) in bytes.iter_mut().enumerate() {
-        let place = start + j as u32;
-        if place >= head.offset && place < head.offset + head.size {
-            *byte = text[(place - head.offset) as usize];
-        }
+    if at + 8 <= lead || end <= at {
+        return copied;
+    }
+    let mut bytes = copied.to_le_bytes();
+    for (byte, place) in bytes.iter_mut().zip(at..).filter(|(_, place)| (lead..end).contains(place)) {
+        *byte = text[place - lead];
     }
     u64::from_le_bytes(bytes)
 }

@@ -20,9 +20,17 @@ pub type Columns = [Box<dyn Column>];
 pub struct Row {
     pub label: String,
     pub values: Vec<Option<f64>>,
+    /// The greatest spread of a column's repetitions.
+    pub spread: f64,
 }
 
 impl Row {
+    /// A row of each column's repetitions.
+    fn of(label: String, repetitions: Vec<Vec<f64>>) -> Row {
+        let spread = repetitions.iter().cloned().map(spread).fold(0.0, f64::max);
+        Row { label, values: repetitions.into_iter().map(median).collect(), spread }
+    }
+
     /// The row's cells, each with its ratio.
     pub fn cells(&self, shown: impl Fn(f64) -> String) -> Vec<String> {
         let first = self.values[0].unwrap();
@@ -48,7 +56,7 @@ fn measured(
             list.extend(nanoseconds(|| work(column.as_mut())));
         }
     }
-    Row { label, values: values.into_iter().map(median).collect() }
+    Row::of(label, values)
 }
 
 /// Committed writes: as many as a log holds, then laid out again, not timed.
@@ -107,7 +115,7 @@ pub fn words_stored(columns: &mut Columns, writers: usize, size: usize) -> Row {
         column.rounds(LOG_ENTRIES / writers, &mut text_of(size));
         column.bytes_stored().map(|bytes| bytes as f64 / 8.0 / written)
     });
-    Row { label, values: values.collect() }
+    Row { label, values: values.collect(), spread: 0.0 }
 }
 
 /// The implementations of one step, in the order of `steps`.
@@ -140,7 +148,7 @@ pub fn steps() -> Row {
             list.extend(nanoseconds(|| Some(Work { time: timed(|| work(times)), pieces: 64 * times })));
         }
     }
-    Row { label: "one step (a fill)".to_string(), values: values.into_iter().map(median).collect() }
+    Row::of("one step (a fill)".to_string(), values)
 }
 
 /// The plain Rust port with its image.
