@@ -169,18 +169,12 @@ pub fn step(image: &mut [u64], shared: Shared, point: Point) -> Stepped
     let length = take_in(image, blocks, head, &mut kept.table, change, plan.value);
     keep_text(&mut kept.text, change);
     store(image, plan.stores, plan.block, plan.word, plan.value);
-    let table = kept.table;
-    let text = kept.text;
-    let next = lengthened(plan.head, length);
+    kept.head = lengthened(plan.head, length);
     let left = plan.shared;
     let answer = plan.step;
     Stepped {
         step: answer,
         shared: left,
-        point: Point {
-            head: next,
-            table,
-            text,
-        },
+        point: kept,
     }
 }

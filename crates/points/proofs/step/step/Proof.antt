@@ -31,11 +31,11 @@ same-length c = search needs
 
 returns : tie.Need-returns
 returns c =
-    let settle = c .before .before .before .before .before .before .before .before .before .before .before .before .before .settle in
-    let take-in = c .before .before .before .before .before .before .before .before .before .before .take-in in
-    let keep-text = c .before .before .before .before .before .before .before .before .keep-text in
-    let store = c .before .before .before .before .before .before .store in
-    let a = c .before .before .before .before .before .before .before .before .before .before .before .before .before .before .before .before .before .before .before .before .args in
+    let settle = c .before .before .before .before .before .before .before .before .before .before .before .settle in
+    let take-in = c .before .before .before .before .before .before .before .before .take-in in
+    let keep-text = c .before .before .before .before .before .before .keep-text in
+    let store = c .before .before .before .before .store in
+    let a = c .before .before .before .before .before .before .before .before .before .before .before .before .before .before .before .before .before .before .args in
     let plan = settle .result in
     let m = memory one (a .image .now) in
     let o = settle .ensures .outcome in (
