@@ -5,8 +5,11 @@ ghost use lib.ListN.{length};
 ghost use Rattle.words.specs.Edition.{one};
 ghost use Rattle.points.specs.Calls.{newWrite, textOf, beginning};
 ghost use Rattle.points.specs.Start.{Started};
+ghost use Rattle.points.specs.Plan.{pointOf};
+ghost use Rattle.points.specs.Lent.{begunOf};
 use crate::Begun;
 use crate::Head;
+use crate::LentBegun;
 use crate::Phase;
 use crate::Point;
 use crate::Write;
@@ -109,28 +112,55 @@ fn begun(number: u32, length: u32, place: Place, offset: u32, size: u32, run: u3
     }
 }
 
-// Beginning: the point catches up and takes a run of the blocks that the write spans.
+// Beginning, with the record's table and text lent: the point catches up and takes a run of the blocks that the write spans.
+pub fn begin_lent(
+    image: &[u64],
+    shared: Shared,
+    head: Head,
+    table: &mut [u16; 256],
+    text: &mut [u8; 1024],
+    offset: usize,
+    bytes: &[u8],
+) -> LentBegun
+    ensures { λ r. ⌜ begunOf r (now (table .exit)) (now (text .exit)) ≡ beginning one (now (image .entry)) shared (pointOf head (now (table .entry)) (now (text .entry))) offset (now (bytes .entry)) ⌝ }
+{
+    let start = settle(image, shared, head, table, offset, bytes.len());
+    if start.reason != 0 {
+        return LentBegun {
+            reply: Reply::Refused(start.reason),
+            shared,
+            head,
+        };
+    }
+    let length = log::ahead::catch_up(image, shared.blocks, head.place, table, head.length);
+    *text = text_of(bytes);
+    let at = offset as u32;
+    let size = bytes.len() as u32;
+    LentBegun {
+        reply: Reply::Done,
+        shared: crate::shared::take(shared, start.run, crate::record::span(at, size)),
+        head: begun(head.number, length, start.place, at, size, start.run),
+    }
+}
+
+// Beginning.
 pub fn begin(image: &[u64], shared: Shared, point: Point, offset: usize, text: &[u8]) -> Begun
     ensures { λ r. ⌜ r ≡ beginning one (now (image .entry)) shared point offset (now (text .entry)) ⌝ }
 {
     let head = point.head;
-    let start = settle(image, shared, head, &point.table, offset, text.len());
-    if start.reason != 0 {
-        return Begun {
-            reply: Reply::Refused(start.reason),
-            shared,
-            point,
-        };
-    }
-    let mut p = point;
-    let length = log::ahead::catch_up(image, shared.blocks, head.place, &mut p.table, head.length);
-    p.text = text_of(text);
-    let at = offset as u32;
-    let size = text.len() as u32;
-    p.head = begun(head.number, length, start.place, at, size, start.run);
+    let mut table = point.table;
+    let mut kept = point.text;
+    let left = begin_lent(image, shared, head, &mut table, &mut kept, offset, text);
+    let reply = left.reply;
+    let taken = left.shared;
+    let head = left.head;
     Begun {
-        reply: Reply::Done,
-        shared: crate::shared::take(shared, start.run, crate::record::span(at, size)),
-        point: p,
+        reply,
+        shared: taken,
+        point: Point {
+            head,
+            table,
+            text: kept,
+        },
     }
 }

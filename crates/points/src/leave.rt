@@ -1,7 +1,11 @@
 // Leaving.
 ghost use mathlib.Core.Path.{_≡_};
+ghost use mathlib.Core.List.{List};
+ghost use Prim.Native.Nat.{ℕ};
 ghost use Rattle.words.specs.Edition.{one};
 ghost use Rattle.points.specs.Calls.{withoutHeld, leaving};
+ghost use Rattle.points.specs.Plan.{pointOf};
+use crate::Head;
 use crate::Left;
 use crate::Point;
 use crate::Write;
@@ -26,12 +30,11 @@ fn free_held(map: &mut [u64], write: Write)
     }
 }
 
-// Leaving: what the point holds becomes free, and the point is joined no more.
-pub fn leave(image: &[u64], shared: Shared, point: Point) -> Left
-    ensures { λ r. ⌜ r ≡ leaving one (now (image .entry)) shared point ⌝ }
+// Leaving, with the record's table lent: what the point holds becomes free, and the point is joined no more.
+pub fn leave_lent(image: &[u64], shared: Shared, head: Head, table: &[u16; 256]) -> Left
+    ensures { λ r. ⌜ ((text : List ℕ) → r ≡ leaving one (now (image .entry)) shared (pointOf head (now (table .entry)) text)) ⌝ }
 {
-    let head = point.head;
-    let reason = crate::record::unfit(image, shared, head, &point.table);
+    let reason = crate::record::unfit(image, shared, head, table);
     if reason != 0 {
         return Left {
             reply: Reply::Refused(reason),
@@ -48,4 +51,12 @@ pub fn leave(image: &[u64], shared: Shared, point: Point) -> Left
             crate::shared::without_point(shared.joined, head.number),
         ),
     }
+}
+
+// Leaving.
+pub fn leave(image: &[u64], shared: Shared, point: Point) -> Left
+    ensures { λ r. ⌜ r ≡ leaving one (now (image .entry)) shared point ⌝ }
+{
+    let head = point.head;
+    leave_lent(image, shared, head, &point.table)
 }

@@ -28,19 +28,27 @@ fn find(image: &[u64], shared: Shared, head: Head, table: &mut [u16; 256], v: us
     crate::sight::counted(b)
 }
 
-// Locating: the logical index of virtual block v.
-pub fn locate(image: &[u64], shared: Shared, mut point: Point, v: usize) -> Count
+// Locating, with the record's table lent: the logical index of virtual block v.
+pub fn locate_lent(image: &[u64], shared: Shared, head: Head, table: &[u16; 256], v: usize) -> Count
+    ensures { λ r. ⌜ r ≡ locating one (now (image .entry)) shared head (now (table .entry)) v ⌝ }
+{
+    let mut own = *table;
+    find(image, shared, head, &mut own, v)
+}
+
+// Locating.
+pub fn locate(image: &[u64], shared: Shared, point: Point, v: usize) -> Count
     ensures { λ r. ⌜ r ≡ locating one (now (image .entry)) shared (point .head) (point .table) v ⌝ }
 {
     let head = point.head;
-    find(image, shared, head, &mut point.table, v)
+    locate_lent(image, shared, head, &point.table, v)
 }
 
 // Viewing: the part of the image that begins at virtual block v, the block itself; empty exactly when locating refuses.
-pub fn view(image: &[u64], shared: Shared, mut point: Point, v: usize) -> &[u64]
+pub fn view(image: &[u64], shared: Shared, point: Point, v: usize) -> &[u64]
     ensures { λ r. ⌜ now r ≡ viewed one (now (image .entry)) shared (point .head) (point .table) v ⌝ }
 {
     let head = point.head;
-    let found = find(image, shared, head, &mut point.table, v);
+    let found = locate_lent(image, shared, head, &point.table, v);
     crate::sight::part(image, found.count as usize)
 }

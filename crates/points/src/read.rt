@@ -10,6 +10,7 @@ ghost use Rattle.words.specs.Memory.{memory, byteIn};
 ghost use Rattle.log.specs.Replay.{mappedByte, fileByte};
 ghost use Rattle.points.specs.Reading.{reading, bufferAfter};
 use crate::Count;
+use crate::Head;
 use crate::Point;
 use log::Shared;
 
@@ -105,7 +106,7 @@ fn copy_block(image: &[u64], b: usize, from: usize, buffer: &mut [u8], at: usize
 }
 
 // n bytes of the file from an offset on go to the buffer's front, block by block.
-fn fill(image: &[u64], table: &[u16], offset: usize, buffer: &mut [u8], n: usize)
+fn fill(image: &[u64], table: &[u16; 256], offset: usize, buffer: &mut [u8], n: usize)
     requires { ⌜ (n ≤ length (now buffer)) × (offset + n < 2 ^ 64) ⌝ }
     ensures { λ _. ⌜ now (buffer .exit) ≡ sets (now (buffer .entry)) 0 (listFrom offset n (fileByte one (memory one (now (image .entry))) (record { table = now (table .entry); size = 0 }))) ⌝ }
 {
@@ -129,22 +130,31 @@ fn left(size: u32, offset: usize, room: usize) -> usize
     least(room, size as usize - offset)
 }
 
-// Reading: the file's bytes from an offset on fill the buffer, as far as both go; the count is answered, and no further byte is touched.
-pub fn read(
+// Reading, with the record's table lent: the file's bytes from an offset on fill the buffer, as far as both go; the count is answered, and no further byte is touched.
+pub fn read_lent(
     image: &[u64],
     shared: Shared,
-    mut point: Point,
+    head: Head,
+    table: &[u16; 256],
     offset: usize,
     buffer: &mut [u8],
 ) -> Count
-    ensures { λ r. ⌜ (r ≡ reading one (now (image .entry)) shared (point .head) (point .table) offset (length (now (buffer .entry)))) × (now (buffer .exit) ≡ bufferAfter one (now (image .entry)) shared (point .head) (point .table) offset (now (buffer .entry))) ⌝ }
+    ensures { λ r. ⌜ (r ≡ reading one (now (image .entry)) shared head (now (table .entry)) offset (length (now (buffer .entry)))) × (now (buffer .exit) ≡ bufferAfter one (now (image .entry)) shared head (now (table .entry)) offset (now (buffer .entry))) ⌝ }
 {
-    let head = point.head;
-    let sight = crate::sight::see(image, shared, head, &mut point.table, false);
+    let mut own = *table;
+    let sight = crate::sight::see(image, shared, head, &mut own, false);
     if sight.reason != 0 {
         return crate::sight::refused(sight.reason);
     }
     let n = left(sight.size, offset, buffer.len());
-    fill(image, &point.table, offset, buffer, n);
+    fill(image, &own, offset, buffer, n);
     crate::sight::counted(n as u32)
+}
+
+// Reading.
+pub fn read(image: &[u64], shared: Shared, point: Point, offset: usize, buffer: &mut [u8]) -> Count
+    ensures { λ r. ⌜ (r ≡ reading one (now (image .entry)) shared (point .head) (point .table) offset (length (now (buffer .entry)))) × (now (buffer .exit) ≡ bufferAfter one (now (image .entry)) shared (point .head) (point .table) offset (now (buffer .entry))) ⌝ }
+{
+    let head = point.head;
+    read_lent(image, shared, head, &point.table, offset, buffer)
 }

@@ -8,7 +8,9 @@ ghost use Rattle.words.specs.Memory.{memory, after};
 ghost use Rattle.points.specs.Record.{runWords, isZeroing, fileAt};
 ghost use Rattle.points.specs.Stepping.{answered, fill, filling, writeOn, stepRefusal, stepping};
 ghost use Rattle.points.specs.Plan.{pointOf, Settles, allowed, fileAfter, textAfter, placed, lengthened};
+ghost use Rattle.points.specs.Lent.{steppedOf};
 use crate::Head;
+use crate::LentStepped;
 use crate::Point;
 use crate::StepAnswer;
 use crate::Stepped;
@@ -157,24 +159,46 @@ fn lengthened(head: Head, length: u32) -> Head
     h
 }
 
+// A step of a write whose table and text are lent.
+pub fn step_lent(
+    image: &mut [u64],
+    shared: Shared,
+    head: Head,
+    table: &mut [u16; 256],
+    text: &mut [u8; 1024],
+) -> LentStepped
+    ensures { λ r. ⌜ (steppedOf r (now (table .exit)) (now (text .exit)) ≡ answered (stepping one (now (image .entry)) shared (pointOf head (now (table .entry)) (now (text .entry)))))
+        × (now (image .exit) ≡ after one (now (image .entry)) (stepping one (now (image .entry)) shared (pointOf head (now (table .entry)) (now (text .entry))) .store)) ⌝ }
+{
+    let plan = settle(image, shared, head, table, text);
+    let change = plan.change;
+    let length = take_in(image, plan.shared.blocks, head, table, change, plan.value);
+    keep_text(text, change);
+    store(image, plan.stores, plan.block, plan.word, plan.value);
+    let left = lengthened(plan.head, length);
+    let kept = plan.shared;
+    let answer = plan.step;
+    LentStepped {
+        step: answer,
+        shared: kept,
+        head: left,
+    }
+}
+
 // A step of the point's write.
 pub fn step(image: &mut [u64], shared: Shared, point: Point) -> Stepped
     ensures { λ r. ⌜ (r ≡ answered (stepping one (now (image .entry)) shared point)) × (now (image .exit) ≡ after one (now (image .entry)) (stepping one (now (image .entry)) shared point .store)) ⌝ }
 {
-    let mut kept = point;
-    let head = kept.head;
-    let plan = settle(image, shared, head, &kept.table, &kept.text);
-    let blocks = plan.shared.blocks;
-    let change = plan.change;
-    let length = take_in(image, blocks, head, &mut kept.table, change, plan.value);
-    keep_text(&mut kept.text, change);
-    store(image, plan.stores, plan.block, plan.word, plan.value);
-    kept.head = lengthened(plan.head, length);
-    let left = plan.shared;
-    let answer = plan.step;
+    let head = point.head;
+    let mut table = point.table;
+    let mut text = point.text;
+    let left = step_lent(image, shared, head, &mut table, &mut text);
+    let answer = left.step;
+    let kept = left.shared;
+    let head = left.head;
     Stepped {
         step: answer,
-        shared: left,
-        point: kept,
+        shared: kept,
+        point: Point { head, table, text },
     }
 }

@@ -10,8 +10,8 @@ use borrow.Author.Needs.{needs}
 use Rattle.points.proofs.locate.view.Statement.{statement}
 use Rattle.points.proofs.locate.view.Tie as tie
 
-find-requires : tie.Need-find-requires
-find-requires c κs = search needs
+locate-lent-requires : tie.Need-locate-lent-requires
+locate-lent-requires c κs = search needs
 
 cast-part : tie.Need-cast-part
 cast-part c = search needs
@@ -22,9 +22,9 @@ part-requires c κs = search needs
 returns : tie.Need-returns
 unfolding locating
 returns c =
-    let a = c .before .before .before .before .before .before .args in
-    let found = c .before .before .find in
+    let a = c .before .before .before .before .before .before .before .args in
+    let found = c .before .before .locate-lent in
     c .part .ensures ∙ ap (λ (r : Count). partOf (memory one (a .image .now)) (r .count)) (found .ensures) ∙ view-part (a .image .now) (a .shared) (a .t3 .head) (a .t3 .table) (a .v)
 
 pub view-spec : {M : Type 1} → statement M
-view-spec = tie.close (tie.spec find-requires cast-part part-requires returns)
+view-spec = tie.close (tie.spec locate-lent-requires cast-part part-requires returns)

@@ -22,7 +22,7 @@ abbrev μ-loop : tie.MeasureT-loop
 μ-loop image table offset buffer₀ n done₀ buffer done = n - done
 
 loop-holds : tie.Need-loop-holds Inv-loop μ-loop
-loop-holds c = let a = c .before .before .before .args in copied-none (byteFrom (a .image .now) (a .table .now)) (a .buffer .now) 0 (a .offset) (a .n)
+loop-holds c = let a = c .before .before .args in copied-none (byteFrom (a .image .now) (a .table .now)) (a .buffer .now) 0 (a .offset) (a .n)
 
 add-p : tie.Need-add-p Inv-loop μ-loop
 add-p c = omega arith
@@ -51,7 +51,7 @@ loop-less c = omega arith
 loop-again : tie.Need-loop-again Inv-loop μ-loop
 loop-again c =
     let a = c .before .before .before .before .before .before .before .before .before .before .before .args in
-    let l = c .before .before .before .before .before .before .before .loop in
+    let l = c .before .before .before .before .before .before .before .before .loop in
     let n = c .before .before .before .before .least .result in
     let p = a .offset + l .done in
     let f : Mapped = record { table = a .table .now; size = 0 } in
@@ -65,7 +65,7 @@ same-length c = c .before .loop .inv .same
 
 returns : tie.Need-returns Inv-loop μ-loop
 returns c =
-    let a = c .before .before .before .before .before .args in
+    let a = c .before .before .before .before .args in
     let l = c .before .loop in
     copied-all (byteFrom (a .image .now) (a .table .now)) (a .buffer .now) 0 (a .offset) (a .n) (l .buffer) (l .done) (l .inv) (omega arith)
 

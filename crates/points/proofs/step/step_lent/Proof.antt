@@ -1,13 +1,14 @@
--- `points::step::step`: the plan stands for the outcome of the definition; the table, the text and the image are left as the plan says.
+-- `points::step::step_lent`: the plan stands for the outcome of the definition; the table, the text and the image are left as the plan says.
 use mathlib.Core.Path.{sym, ap, _∙_}
 use mathlib.Core.Option.{Option}
 use Rattle.words.specs.Edition.{one}
 use Rattle.words.specs.Memory.{memory, after, Store}
 use Rattle.points.specs.Stepping.{Outcome, answered}
+use Rattle.points.specs.Plan.{pointOf}
 use Rattle.points.proofs.Planned.{answers, stored-by}
 use borrow.Author.Needs.{needs}
-use Rattle.points.proofs.step.step.Statement.{statement}
-use Rattle.points.proofs.step.step.Tie as tie
+use Rattle.points.proofs.step.step_lent.Statement.{statement}
+use Rattle.points.proofs.step.step_lent.Tie as tie
 
 settle-requires : tie.Need-settle-requires
 settle-requires c κs = search needs
@@ -35,16 +36,17 @@ returns c =
     let take-in = c .before .before .before .before .before .before .before .before .take-in in
     let keep-text = c .before .before .before .before .before .before .keep-text in
     let store = c .before .before .before .before .store in
-    let a = c .before .before .before .before .before .before .before .before .before .before .before .before .before .before .before .before .before .before .args in
+    let a = c .before .before .before .before .before .before .before .before .before .before .before .before .before .before .before .before .args in
     let plan = settle .result in
     let m = memory one (a .image .now) in
+    let p = pointOf (a .head) (a .table .now) (a .text .now) in
     let o = settle .ensures .outcome in (
-      answers m plan (a .point) (c .before .lengthened .result) (take-in .last .1 .1 .1 .0) (keep-text .last .0) (take-in .result) (take-in .ensures) (keep-text .ensures) (c .before .lengthened .ensures) ∙ ap answered o,
-      store .ensures ∙ ap (λ (x : Option Store). after one (a .image .now) x) (sym (stored-by m plan (a .point)) ∙ ap (λ (x : Outcome). x .store) o),
+      answers m plan p (c .before .lengthened .result) (take-in .last .1 .1 .1 .0) (keep-text .last .0) (take-in .result) (take-in .ensures) (keep-text .ensures) (c .before .lengthened .ensures) ∙ ap answered o,
+      store .ensures ∙ ap (λ (x : Option Store). after one (a .image .now) x) (sym (stored-by m plan p) ∙ ap (λ (x : Outcome). x .store) o),
     )
 
-pub step-spec : {M : Type 1} → statement M
-step-spec =
+pub step-lent-spec : {M : Type 1} → statement M
+step-lent-spec =
     tie.close
     (tie.spec
     settle-requires

@@ -1,0 +1,59 @@
+-- `points::begin::begin_lent` meets its contract: one law for the refusal, one for the beginning; what has passed the reasons gives every bound.
+-- Assumes nothing.
+use native.Mathlib.Omega.{arith}
+use mathlib.Core.Path.{sym, _∙_}
+use borrow.Author.Needs.{needs}
+use Rattle.points.specs.Plan.{pointOf}
+use Rattle.points.proofs.Begins.{Ready, ready, begin-refused, begin-done}
+use Rattle.points.proofs.begin.begin_lent.Statement.{statement}
+use Rattle.points.proofs.begin.begin_lent.Tie as tie
+
+passed : (c : tie.Else1) → let a = c .before .before .before .before .before .before .args in Ready (a .image .now) (a .shared) (pointOf (a .head) (a .table .now) (a .text .now)) (a .offset) (a .bytes .now)
+passed c =
+    let a = c .before .before .before .before .before .before .args in
+    let q = c .before .before .settle in
+    ready (a .image .now) (a .shared) (pointOf (a .head) (a .table .now) (a .text .now)) (a .offset) (a .bytes .now) (sym (q .ensures .refusal) ∙ c .if1 .left)
+
+settle-requires : tie.Need-settle-requires
+settle-requires c κs = search needs
+
+returns : tie.Need-returns
+returns c =
+    let a = c .before .before .before .before .before .before .args in
+    let q = c .before .before .settle in
+    begin-refused (a .image .now) (a .shared) (pointOf (a .head) (a .table .now) (a .text .now)) (a .offset) (a .bytes .now) (q .result .reason) (q .ensures .refusal) (c .if1 .taken)
+
+catch-up-requires : tie.Need-catch-up-requires
+catch-up-requires c κs = search needs
+
+text-of-requires : tie.Need-text-of-requires
+text-of-requires c κs = passed (c .before .before) .fits .few-text
+
+cast-at : tie.Need-cast-at
+cast-at c = let r = passed (c .before .before .before) in record { fits = omega (arith, r .fits .ends-inside) }
+
+cast-size : tie.Need-cast-size
+cast-size c = let r = passed (c .before .before .before) in record { fits = omega (arith, r .fits .few-text) }
+
+span-requires : tie.Need-span-requires
+span-requires c κs = search needs
+
+take-requires : tie.Need-take-requires
+take-requires c κs = search needs
+
+begun-requires : tie.Need-begun-requires
+begun-requires c κs = search needs
+
+returns-2 : tie.Need-returns-2
+returns-2 c =
+    let a = c .before .before .before .before .before .before .before .before .before .before .before .before .args in
+    let q = c .before .before .before .before .before .before .before .before .settle in
+    let z = c .before .before .before .before .before .before .if1 .left in
+    let r = passed (c .before .before .before .before .before .before) in
+    begin-done (a .image .now) (a .shared) (pointOf (a .head) (a .table .now) (a .text .now)) (a .offset) (a .bytes .now) r _ _ _ _ _ _ _ _ (q .ensures .tail z) (q .ensures .found z) (c .before .before .before .before .catch-up .ensures (r .few) (r .sound))
+    (c .before .before .before .text-of .ensures) (c .begun .ensures) (c .before .before .span .ensures) (c .before .take .ensures)
+
+pub begin-lent-spec : {M : Type 1} → statement M
+begin-lent-spec =
+    tie.close
+    (tie.spec settle-requires returns catch-up-requires text-of-requires cast-at cast-size span-requires take-requires begun-requires returns-2)

@@ -1,0 +1,59 @@
+-- `points::leave::leave_lent` meets its contract: one law for the refusal, one for the leaving. Assumes nothing.
+use native.Mathlib.Omega.{arith}
+use mathlib.Core.Path.{_≡_, sym, _∙_}
+use borrow.Author.Needs.{needs}
+use Rattle.words.specs.Edition.{one}
+use Rattle.points.specs.Unfit.{unfit}
+use Rattle.points.specs.Plan.{pointOf}
+use Rattle.points.proofs.Leaves.{leave-refused, leave-done, joined-small}
+use Rattle.points.proofs.Unfit.{fit-joined}
+use Rattle.points.proofs.leave.leave_lent.Statement.{statement}
+use Rattle.points.proofs.leave.leave_lent.Tie as tie
+
+none : (c : tie.Else1) → let a = c .before .before .before .args in unfit one (a .image .now) (a .shared) (a .head) (a .table .now) ≡ 0
+none c = sym (c .before .unfit .ensures) ∙ c .if1 .left
+
+unfit-requires : tie.Need-unfit-requires
+unfit-requires c κs = search needs
+
+returns : tie.Need-returns
+returns c =
+    let a = c .before .before .before .args in
+    let u = c .before .unfit in
+    λ text. leave-refused (a .image .now) (a .shared) (pointOf (a .head) (a .table .now) text) (u .result) (u .ensures) (c .if1 .taken)
+
+slice-aggregate-free-held : tie.Need-slice-aggregate-free-held
+slice-aggregate-free-held c = search needs
+
+free-held-requires : tie.Need-free-held-requires
+free-held-requires c κs = search needs
+
+with-taken-requires : tie.Need-with-taken-requires
+with-taken-requires c κs = search needs
+
+without-point-requires : tie.Need-without-point-requires
+without-point-requires c κs =
+    let a = c .before .before .before .before .before .before .before .before .args in
+    joined-small (a .shared .joined) (a .head .number) (omega arith) (fit-joined (a .image .now) (a .shared) (a .head) (a .table .now) (none (c .before .before .before .before .before)))
+
+with-joined-requires : tie.Need-with-joined-requires
+with-joined-requires c κs = search needs
+
+returns-2 : tie.Need-returns-2
+returns-2 c =
+    let a = c .before .before .before .before .before .before .before .before .before .before .args in
+    λ text. leave-done (a .image .now) (a .shared) (pointOf (a .head) (a .table .now) text) (none (c .before .before .before .before .before .before .before)) _ _ _ _ (c .before .before .before .before .free-held .ensures) (c .before .before .with-taken .ensures)
+    (c .before .without-point .ensures) (c .with-joined .ensures)
+
+pub leave-lent-spec : {M : Type 1} → statement M
+leave-lent-spec =
+    tie.close
+    (tie.spec
+    unfit-requires
+    returns
+    slice-aggregate-free-held
+    free-held-requires
+    with-taken-requires
+    without-point-requires
+    with-joined-requires
+    returns-2)

@@ -1,0 +1,14 @@
+-- What the calls answer that are lent a record's arrays: the record is the head that they answer, with the arrays as they leave them.
+use Prim.Native.Nat.{ℕ}
+use mathlib.Core.List.{List}
+use Rattle.points.specs.declared.Begun.{Begun}
+use Rattle.points.specs.declared.Stepped.{Stepped}
+use Rattle.points.specs.declared.LentBegun.{LentBegun}
+use Rattle.points.specs.declared.LentStepped.{LentStepped}
+use Rattle.points.specs.Plan.{pointOf}
+
+abbrev pub begunOf : LentBegun → List ℕ → List ℕ → Begun
+begunOf left table text = record { reply = left .reply; shared = left .shared; point = pointOf (left .head) table text }
+
+abbrev pub steppedOf : LentStepped → List ℕ → List ℕ → Stepped
+steppedOf left table text = record { step = left .step; shared = left .shared; point = pointOf (left .head) table text }

@@ -1,0 +1,259 @@
+/* A session file for up to 32 points, in memory that survives loss of power eight bytes at a time.
+
+   The calls below are those of document 01, for C and C++ on x86-64; link with target/staticlib/libc_api.a, which `rt staticlib c_api` makes.
+
+   What is lent. Each call is lent memory of the caller: the image, and the records beside it. It keeps no pointer, allocates nothing, takes no
+   lock, and touches nothing outside what it is lent. The numbers in that memory, in image, records and arguments, may be anything: a number that
+   is wrong is refused. What a library can't test is the pointers themselves, so these four things are the caller's to keep:
+     - a pointer is not null and aligned for its type, also where the length beside it is 0;
+     - as many elements as the length says, or the one record, are there to be read, and written where the pointer is not to const;
+     - no two pointers of one call overlap;
+     - no other thread and no interrupt handler uses that memory while the call runs. Points share one image and one shared record, so one call at
+       a time for a file; between two calls anything may happen, loss of power included.
+
+   What is answered. A refusal is the number that document 01 lists for the first fault, by name below; 0 is no refusal. A call that is refused
+   leaves image and records as they were, save STORE_LOG_FULL and STORE_NO_LOG_BLOCK, which end the write. Only store_lay_out and store_step write
+   to the image, and store_step stores at most one word. */
+
+#ifndef STORE_H
+#define STORE_H
+
+#include <stddef.h>
+#include <stdint.h>
+
+#ifdef __cplusplus
+extern "C" {
+#endif
+
+/* Sizes. */
+enum {
+    STORE_BLOCK_WORDS = 64,    /* a block, 512 bytes */
+    STORE_BLOCKS_LEAST = 4,    /* an image has so many blocks at least */
+    STORE_BLOCKS_MOST = 1024,  /* and at most */
+    STORE_SCRATCH = 1024,      /* numbers of a scratch, at least */
+    STORE_VIRTUAL_BLOCKS = 256,
+    STORE_FILE_MOST = 131072,  /* bytes of a file */
+    STORE_TEXT_MOST = 1024,    /* bytes of one write */
+    STORE_POINTS = 32          /* points, numbered 0 to 31 */
+};
+
+/* Why a call is refused. */
+enum {
+    STORE_DONE = 0,
+    STORE_IMAGE_SIZE = 1,         /* no multiple of 64 words, or not 4 to 1,024 blocks */
+    STORE_SCRATCH_SHORT = 2,      /* the scratch is shorter than 1,024 numbers */
+    STORE_SUPERBLOCK_WRONG = 3,   /* a wrong mark, or a word after word 1 that is not 0 */
+    STORE_LOG_INDEX_OUTSIDE = 4,  /* the first log index is 0, or an index of the chain lies outside the image */
+    STORE_CHAIN_ENDLESS = 5,      /* the chain has not ended after 64 log blocks */
+    STORE_LOG_BLOCK_WRONG = 6,    /* word 1 not 0, an entry after an empty one, or a next index though not full */
+    STORE_ENTRY_WRONG = 7,        /* an entry breaks the entry's rules */
+    STORE_BLOCK_SHARED = 8,       /* two virtual blocks share a block, or one is a log block */
+    STORE_END_NOT_ZERO = 9,       /* a byte at or past the file's end in its last block is not 0 */
+    STORE_SHARED_UNFIT = 10,      /* the shared record's block count or next place does not fit the image */
+    STORE_RECORD_UNFIT = 11,      /* the point's record does not fit, or its phase is none */
+    STORE_NUMBER_ABOVE = 12,      /* the point number is above 31 */
+    STORE_ALREADY_JOINED = 13,
+    STORE_NOT_JOINED = 14,
+    STORE_WRONG_PHASE = 15,       /* beginning with a write under way, or stepping with none */
+    STORE_TEXT_SIZE = 16,         /* the text has 0 or more than 1,024 bytes */
+    STORE_PAST_END = 17,          /* the write ends past byte 131,072; the block is above 255 */
+    STORE_LOG_BROKEN = 18,        /* an entry or an index of the log, met while catching up, is wrong */
+    STORE_NO_RUN = 19,            /* no run of so many free blocks */
+    STORE_LOG_FULL = 20,          /* 64 log blocks are full; the write is ended */
+    STORE_NO_LOG_BLOCK = 21,      /* a log block is needed and none is free; the write is ended */
+    STORE_NOT_MAPPED = 22         /* nothing is mapped there */
+};
+
+/* What a step answers. */
+enum {
+    STORE_STORED = 1,     /* one word of the image was stored; step again */
+    STORE_MOVED = 2,      /* others have committed: the point has caught up; step again */
+    STORE_EXTENDING = 3,  /* a block was taken for the log; step again */
+    STORE_COMMITTED = 4,  /* the write is real; the value is how often it was moved */
+    STORE_REFUSED = 5     /* the value says why */
+};
+
+/* What a point is doing. */
+enum {
+    STORE_IDLE = 0,
+    STORE_FILLING = 1,
+    STORE_REFILL_FIRST = 2,
+    STORE_REFILL_LAST = 3,
+    STORE_REFILL_BOTH = 4,
+    STORE_ZEROING = 5
+};
+
+/* The shared record of an opened image: one for all points. Opening makes it; loss of power may take it. */
+typedef struct store_shared {
+    uint32_t blocks;     /* the image's blocks */
+    uint64_t taken[16];  /* a bit for each block that is taken */
+    uint32_t joined;     /* a bit for each point that is joined */
+    uint32_t next;       /* where the search for free blocks begins */
+} store_shared;
+
+/* The numbers of a point's record. */
+typedef struct store_head {
+    uint32_t number;               /* 0 to 31 */
+    uint32_t length;               /* the file's, as the point knows it */
+    uint32_t block, slot, passed;  /* where it stands in the log */
+    uint32_t offset, size;         /* its write: from which byte of the file, and how many */
+    uint32_t run;                  /* the first of the blocks that are being filled */
+    uint32_t phase, position;
+    uint32_t zeroing;              /* the log block being zeroed */
+    uint16_t retries;
+} store_head;
+
+/* A point's record: one for each point. Joining makes it; loss of power may take it. */
+typedef struct store_point {
+    store_head head;
+    uint16_t table[256];  /* the block of the image for each block of the file, 0 for none */
+    uint8_t text[1024];   /* of its write */
+} store_point;
+
+/* What opening answers: the refusal, the file's length, and the counts of log entries and of free blocks. */
+typedef struct store_opened {
+    uint32_t refused, length, entries, free;
+} store_opened;
+
+/* What a step answers: one of the five, and its value. */
+typedef struct store_answer {
+    uint32_t kind, value;
+} store_answer;
+
+/* What reading and locating answer. */
+typedef struct store_count {
+    uint32_t refused, count;
+} store_count;
+
+/* The exported functions. Records of numbers go in and come back by value, arrays are lent; the calls further down put the two together. */
+
+typedef struct store_lent_opened {
+    store_opened opened;
+    store_shared shared;
+} store_lent_opened;
+
+typedef struct store_lent_step {
+    store_answer answer;
+    store_shared shared;
+    store_head head;
+} store_lent_step;
+
+typedef struct store_lent_point {
+    uint32_t refused;
+    store_shared shared;
+    store_head head;
+} store_lent_point;
+
+typedef struct store_lent_left {
+    uint32_t refused;
+    store_shared shared;
+} store_lent_left;
+
+store_lent_opened store_lent_open(const uint64_t *image, size_t words, uint16_t *scratch, size_t places);
+store_lent_point store_lent_join(const uint64_t *image, size_t words, store_shared shared, uint32_t number,
+                                 uint16_t table[256], uint8_t text[1024]);
+store_lent_point store_lent_begin(const uint64_t *image, size_t words, store_shared shared, store_head head,
+                                  uint16_t table[256], uint8_t text[1024], size_t offset, const uint8_t *bytes, size_t size);
+store_lent_step store_lent_step_on(uint64_t *image, size_t words, store_shared shared, store_head head,
+                                   uint16_t table[256], uint8_t text[1024]);
+store_lent_left store_lent_leave(const uint64_t *image, size_t words, store_shared shared, store_head head,
+                                 const uint16_t table[256]);
+store_count store_lent_read(const uint64_t *image, size_t words, store_shared shared, store_head head,
+                            const uint16_t table[256], size_t offset, uint8_t *buffer, size_t room);
+store_count store_lent_locate(const uint64_t *image, size_t words, store_shared shared, store_head head,
+                              const uint16_t table[256], size_t block);
+
+/* ---- The calls. */
+
+/* Lays out an empty file: writes the superblock and empties block 1, and touches no other block. What the image held is no longer a file.
+   Lent: the image. Answers 0, or 1. */
+uint32_t store_lay_out(uint64_t *image, size_t words);
+
+/* Opens an image, for a first time or after loss of power: there is nothing to repair. No point is joined then.
+   Lent: the image, and a scratch of at least 1,024 numbers, which afterwards says of each block b what it is: 65,535 for the superblock and log
+   blocks, one more than its block of the file where it is the file's, else 0. Makes *shared; where it is refused, a record of zeros, which every
+   later call refuses. Refusals: 1 to 9. Refused by 1 to 7 it leaves the scratch as it was, by 8 and 9 zeros in its first 1,024 places. */
+static inline store_opened store_open(const uint64_t *image, size_t words, uint16_t *scratch, size_t places, store_shared *shared)
+{
+    store_lent_opened left = store_lent_open(image, words, scratch, places);
+    *shared = left.shared;
+    return left.opened;
+}
+
+/* Lists an image: opens it, and says for each of the file's 256 blocks which block of the image holds it, 0 for none and where it is refused.
+   Lent: the image, a scratch as for opening, and the rows. Refusals: 1 to 9. */
+store_opened store_list(const uint64_t *image, size_t words, uint16_t *scratch, size_t places, uint16_t rows[256]);
+
+/* Point `number` joins.
+   Lent: the image, the shared record, and memory for the point's record, which is made; where it is refused, a record of zeros.
+   Refusals: 10, 12, 13, 18. */
+static inline uint32_t store_join(const uint64_t *image, size_t words, store_shared *shared, uint32_t number, store_point *point)
+{
+    store_lent_point left = store_lent_join(image, words, *shared, number, point->table, point->text);
+    *shared = left.shared;
+    point->head = left.head;
+    return left.refused;
+}
+
+/* Begins a write of `size` bytes, 1 to 1,024, from byte `offset` of the file on. Nothing of it shows before a step answers STORE_COMMITTED.
+   Lent: the image, both records, and the bytes, which are copied into the record.
+   Refusals: 10, 11, 14, 15, 16, 17, 18, 19. */
+static inline uint32_t store_begin(const uint64_t *image, size_t words, store_shared *shared, store_point *point, size_t offset,
+                                   const uint8_t *bytes, size_t size)
+{
+    store_lent_point left = store_lent_begin(image, words, *shared, point->head, point->table, point->text, offset, bytes, size);
+    *shared = left.shared;
+    point->head = left.head;
+    return left.refused;
+}
+
+/* A step of the point's write: at most one word of the image is stored. Step on until STORE_COMMITTED or STORE_REFUSED; a point that steps alone
+   is done after at most 388 steps, and other points may take steps between.
+   Lent: the image and both records. Refusals, as value of STORE_REFUSED: 10, 11, 14, 15, 18, 20, 21; the last two end the write. */
+static inline store_answer store_step(uint64_t *image, size_t words, store_shared *shared, store_point *point)
+{
+    store_lent_step left = store_lent_step_on(image, words, *shared, point->head, point->table, point->text);
+    *shared = left.shared;
+    point->head = left.head;
+    return left.answer;
+}
+
+/* The point leaves; a write that was under way is given up, and its blocks become free.
+   Lent: the image, the shared record, and the point's record, which is of no use afterwards. Refusals: 10, 11, 14. */
+static inline uint32_t store_leave(const uint64_t *image, size_t words, store_shared *shared, const store_point *point)
+{
+    store_lent_left left = store_lent_leave(image, words, *shared, point->head, point->table);
+    *shared = left.shared;
+    return left.refused;
+}
+
+/* Reads the file from byte `offset` on into the buffer: as many bytes as fit and as the file has from there on; none at or past its end. All that
+   is committed is seen, by whichever point; the records stay as they are.
+   Lent: the image, both records, and the buffer. Answers the count of bytes; where it is refused, 0, and the buffer is untouched.
+   Refusals: 10, 11, 14, 18. */
+static inline store_count store_read(const uint64_t *image, size_t words, const store_shared *shared, const store_point *point, size_t offset,
+                                     uint8_t *buffer, size_t room)
+{
+    return store_lent_read(image, words, *shared, point->head, point->table, offset, buffer, room);
+}
+
+/* Says which block of the image holds block `block` of the file, 0 to 255.
+   Lent: the image and both records. Answers its number, 0 where it is refused. Refusals: 10, 11, 14, 17, 18, 22. */
+static inline store_count store_locate(const uint64_t *image, size_t words, const store_shared *shared, const store_point *point, size_t block)
+{
+    return store_lent_locate(image, words, *shared, point->head, point->table, block);
+}
+
+/* The 64 words of block `block` of the file where they lie in the image, or a null pointer exactly where locating is refused. They stay the
+   file's until a write over that block is committed. */
+static inline const uint64_t *store_view(const uint64_t *image, size_t words, const store_shared *shared, const store_point *point, size_t block)
+{
+    store_count found = store_locate(image, words, shared, point, block);
+    return found.refused ? (const uint64_t *)0 : image + (size_t)STORE_BLOCK_WORDS * found.count;
+}
+
+#ifdef __cplusplus
+}
+#endif
+
+#endif
