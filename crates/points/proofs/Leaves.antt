@@ -7,14 +7,14 @@ use mathlib.Core.Bool.{true, false}
 use mathlib.Core.List.{List}
 use Rattle.words.specs.Edition.{one}
 use Rattle.words.specs.Word.{bit}
-use Rattle.words.specs.BlockMap.{withBit, mark, markRun}
+use Rattle.words.specs.BlockMap.{withBit, mark}
 use Rattle.words.proofs.Choice.{choose-true, choose-false, chosen-zero}
 use Rattle.words.proofs.Tests.{no-true}
 use Rattle.log.specs.declared.Shared.{Shared}
 use Rattle.log.specs.declared.Reply.the-variants.{Done, Refused}
 use Rattle.points.specs.declared.Write.{Write}
 use Rattle.points.specs.declared.Point.{Point}
-use Rattle.points.specs.Record.{isIdle, isZeroing, span}
+use Rattle.points.specs.Record.{isIdle, isZeroing}
 use Rattle.points.specs.Search.{withJoined, withTaken}
 use Rattle.points.specs.Unfit.{unfit}
 use Rattle.points.specs.Calls.{leaveRefusal, withoutRun, withoutHeld, leaving}
@@ -28,14 +28,14 @@ module _ (map : List ℕ) (w : Write) where
   unfolding withoutHeld
   held-idle e = sym (choose-true (isIdle (w .phase)) map _ e)
 
-  module _ (busy : isIdle (w .phase) ≡ false) (n : ℕ) (size : n ≡ span one (w .offset) (w .size)) (freed : List ℕ) (run : freed ≡ markRun false map (w .run) n) where
+  module _ (busy : isIdle (w .phase) ≡ false) (freed : List ℕ) (run : freed ≡ withoutRun one map w) where
     pub held-run : isZeroing (w .phase) ≡ false → freed ≡ withoutHeld one map w
-    unfolding withoutHeld withoutRun
-    held-run e = rw size at run ∙ sym (choose-false (isIdle (w .phase)) map _ busy ∙ choose-false (isZeroing (w .phase)) _ _ e)
+    unfolding withoutHeld
+    held-run e = run ∙ sym (choose-false (isIdle (w .phase)) map _ busy ∙ choose-false (isZeroing (w .phase)) _ _ e)
 
     pub held-both : (left : List ℕ) → isZeroing (w .phase) ≡ true → left ≡ mark false freed (w .zeroing) → left ≡ withoutHeld one map w
-    unfolding withoutHeld withoutRun
-    held-both left e l = l ∙ rw (run, size) (sym (choose-false (isIdle (w .phase)) map _ busy ∙ choose-true (isZeroing (w .phase)) _ _ e))
+    unfolding withoutHeld
+    held-both left e l = l ∙ rw run (sym (choose-false (isIdle (w .phase)) map _ busy ∙ choose-true (isZeroing (w .phase)) _ _ e))
 
 -- a point whose bit is set is one of 32
 pub joined-small : (joined number : ℕ) → joined < 2 ^ 32 → bit joined number ≡ true → number < 32

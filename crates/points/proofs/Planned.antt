@@ -9,7 +9,6 @@ use mathlib.Core.List.{List, [], _∷_}
 use Rattle.words.specs.Edition.{one}
 use Rattle.words.specs.Logic.{isZero, first, _when_}
 use Rattle.words.specs.Memory.{Memory, put}
-use Rattle.words.specs.BlockMap.{mark, markRun, markAll}
 use borrow.Author.Tests.{le-leb, lt-leb, leb-true, not-true}
 use Rattle.words.proofs.Logic.{all-every, every-all}
 use Rattle.words.proofs.Tests.{not-no, is-zero, not-zero}
@@ -23,77 +22,77 @@ use Rattle.log.specs.Look.{seenBy}
 use Rattle.points.specs.declared.Phase.the-variants.{Zeroing}
 use Rattle.points.specs.declared.Head.{Head}
 use Rattle.points.specs.declared.Point.{Point}
+use Rattle.points.specs.declared.Numbers.{Numbers}
+use Rattle.points.specs.declared.Stepped.{Stepped}
 use Rattle.points.specs.declared.StepAnswer.the-variants.{Stored, Moved, Extending, Committed, Refused}
-use Rattle.points.specs.declared.plan.Change.the-variants.{Keep, Clear, TakeIn, CatchUp}
+use Rattle.points.specs.declared.plan.Change.the-variants.{Keep, Clear, TakeIn, CatchUp, Take, GiveBack}
 use Rattle.points.specs.declared.plan.Plan.{Plan}
 use Rattle.points.specs.Record.{runFirst, runBlocks, firstEdge, lastEdge, noWrite, writing, fileAt, caughtUp}
-use Rattle.points.specs.Search.{search, taking, withTaken}
-use Rattle.points.specs.Calls.{withoutRun}
+use Rattle.points.specs.Search.{search, taking}
 use Rattle.points.specs.Fill.{newWord}
-use Rattle.points.specs.Stepping.{Outcome, answered, refused, turned, toCommit, retried, fill, entryFor, replaced, committedHead, commit, giveUp, extend, atEnd, refill, refillAfter, moveOn, linkedHead, link, giveBack, zero-out}
-use Rattle.points.specs.Plan.{outcomeOf, fileAfter, textAfter, allowed, pointOf, storing, resting, placed, storeOf, lengthened, Settles}
+use Rattle.points.specs.Stepping.{Outcome, answered, refused, turned, toCommit, retried, fill, entryFor, committedHead, commit, giveUp, extend, atEnd, refill, refillAfter, moveOn, linkedHead, link, giveBack, zero-out}
+use Rattle.points.specs.Plan.{outcomeOf, fileAfter, textAfter, takenAfter, nextPlace, sharedAfter, allowed, reaches, pointOf, sharedOf, storing, resting, placed, storeOf, lengthened, Settles}
+use Rattle.points.specs.Lent.{steppedOf}
 use Rattle.points.proofs.Ways.{endReasons, give-on, extend-on, stop-on, go-on}
 use Rattle.points.proofs.Unfit.{first-settled, first-goes-on}
 
 module _ (m : Memory) (s : Shared) (h : Head) (table text : List ℕ) where
-  pub refused-settles : (n : ℕ) → Settles one m (resting (Refused n) s h Keep) (pointOf h table text) (refused n s (pointOf h table text))
-  unfolding outcomeOf fileAfter textAfter allowed
-  refused-settles n = record { outcome = refl; change = refl }
+  pub refused-settles : (n : ℕ) → Settles one m s (resting (Refused n) h Keep) (pointOf h table text) (refused n s (pointOf h table text))
+  unfolding outcomeOf fileAfter allowed
+  refused-settles n = record { outcome = refl; change = refl; claim = refl }
 
   pub fill-settles :
       (k : ℕ)
-      → Settles one m
-      (storing Stored s (writing h (turned (h .write) (h .write .phase) (k + 1) (h .write .zeroing) (h .write .retries))) Keep (h .write .run) k (newWord one m h table text k))
+      → Settles one m s
+      (storing Stored (writing h (turned (h .write) (h .write .phase) (k + 1) (h .write .zeroing) (h .write .retries))) Keep (h .write .run) k (newWord one m h table text k))
       (pointOf h table text) (fill one m s (pointOf h table text) k)
-  unfolding outcomeOf fileAfter textAfter allowed fill
-  fill-settles k = record { outcome = rw add-one; change = refl }
+  unfolding outcomeOf fileAfter allowed fill
+  fill-settles k = record { outcome = rw add-one; change = refl; claim = refl }
 
   pub zero-settles :
       h .write .position < 64
-      → Settles one m
-      (storing Stored s (writing h (turned (h .write) Zeroing (h .write .position + 1) (h .write .zeroing) (h .write .retries))) Keep (h .write .zeroing) (h .write .position) 0)
+      → Settles one m s
+      (storing Stored (writing h (turned (h .write) Zeroing (h .write .position + 1) (h .write .zeroing) (h .write .retries))) Keep (h .write .zeroing) (h .write .position) 0)
       (pointOf h table text) (zero-out s (pointOf h table text))
-  unfolding outcomeOf fileAfter textAfter allowed zero-out
+  unfolding outcomeOf fileAfter allowed zero-out
   zero-settles l =
       let b : h .write .zeroing + h .write .position / 64 ≡ h .write .zeroing = omega arith in
       let i : h .write .position % 64 ≡ h .write .position = omega arith in
-      record { outcome = rw (b, i, add-one); change = refl }
+      record { outcome = rw (b, i, add-one); change = refl; claim = refl }
 
   pub link-settles :
-      Settles one m (storing Stored s (linkedHead one h) Keep (h .place .block) 0 (h .write .zeroing)) (pointOf h table text) (link one s (pointOf h table text))
-  unfolding outcomeOf fileAfter textAfter allowed link
+      Settles one m s (storing Stored (linkedHead one h) Keep (h .place .block) 0 (h .write .zeroing)) (pointOf h table text) (link one s (pointOf h table text))
+  unfolding outcomeOf fileAfter allowed link
   link-settles =
       let b : h .place .block + 0 ≡ h .place .block = omega arith in
-      record { outcome = rw b; change = refl }
+      record { outcome = rw b; change = refl; claim = refl }
 
   pub give-back-settles :
-      (map : List ℕ) → map ≡ mark false (s .taken) (h .write .zeroing)
-      → Settles one m (resting Moved (withTaken s map) (writing h (toCommit one (h .write) (retried (h .write)))) Keep) (pointOf h table text) (giveBack one s (pointOf h table text))
-  unfolding outcomeOf fileAfter textAfter allowed giveBack
-  give-back-settles map e = record { outcome = rw e; change = refl }
+      Settles one m s (resting Moved (writing h (toCommit one (h .write) (retried (h .write)))) GiveBack) (pointOf h table text) (giveBack one s (pointOf h table text))
+  unfolding outcomeOf fileAfter allowed giveBack
+  give-back-settles = record { outcome = refl; change = refl; claim = refl }
 
   pub give-up-settles :
-      (n : ℕ) (map : List ℕ) → map ≡ markRun false (s .taken) (h .write .run) (runBlocks one (h .write))
-      → Settles one m (resting (Refused n) (withTaken s map) (writing h noWrite) Clear) (pointOf h table text) (giveUp one n s (pointOf h table text))
-  unfolding outcomeOf fileAfter textAfter allowed giveUp withoutRun
-  give-up-settles n map e = record { outcome = rw e; change = refl }
+      (n : ℕ) → Settles one m s (resting (Refused n) (writing h noWrite) Clear) (pointOf h table text) (giveUp one n s (pointOf h table text))
+  unfolding outcomeOf fileAfter allowed giveUp
+  give-up-settles n = record { outcome = refl; change = refl; claim = refl }
 
   pub extend-settles :
       (b : ℕ) → b ≡ search s 1
-      → Settles one m (resting Extending (taking s b 1) (writing h (turned (h .write) Zeroing 0 b (h .write .retries))) Keep) (pointOf h table text) (extend one s (pointOf h table text))
-  unfolding outcomeOf fileAfter textAfter allowed extend
-  extend-settles b e = record { outcome = rw e; change = refl }
+      → Settles one m s (resting Extending (writing h (turned (h .write) Zeroing 0 b (h .write .retries))) Take) (pointOf h table text) (extend one s (pointOf h table text))
+  unfolding outcomeOf fileAfter allowed extend taking
+  extend-settles b e = record { outcome = rw e; change = refl; claim = refl }
 
   pub commit-settles :
-      (map : List ℕ) → map ≡ markAll false (s .taken) (replaced one (h .write) table) → h .place .slot < 64 → s .blocks ≤ 1024 → legal one (s .blocks) (entryFor one h) ≡ true
-      → Settles one m
-      (storing (Committed (h .write .retries)) (withTaken s map) (committedHead h (h .length)) TakeIn (h .place .block) (h .place .slot) (entryFor one h))
+      h .place .slot < 64 → s .blocks ≤ 1024 → legal one (s .blocks) (entryFor one h) ≡ true → runFirst one (h .write) + runBlocks one (h .write) ≤ 256
+      → Settles one m s
+      (storing (Committed (h .write .retries)) (committedHead h (h .length)) TakeIn (h .place .block) (h .place .slot) (entryFor one h))
       (pointOf h table text) (commit one s (pointOf h table text))
-  unfolding outcomeOf fileAfter textAfter allowed commit
-  commit-settles map e l few g =
+  unfolding outcomeOf fileAfter allowed commit
+  commit-settles l few g w =
       let b : h .place .block + h .place .slot / 64 ≡ h .place .block = omega arith in
       let i : h .place .slot % 64 ≡ h .place .slot = omega arith in
-      record { outcome = rw (e, b, i); change = all-every _ (le-leb _ _ few, (g, tt)) }
+      record { outcome = rw (b, i); change = all-every _ (le-leb _ _ few, (g, tt)); claim = le-leb _ _ w }
 
   -- ---- moving on
 
@@ -103,24 +102,24 @@ module _ (m : Memory) (s : Shared) (h : Head) (table text : List ℕ) where
   abbrev pub seenNow : Seen
   seenNow = seenBy one (s .blocks) (runFirst one (h .write)) (runFirst one (h .write) + runBlocks one (h .write) - 1) walk
 
-  pub stop-settles : (plan : Plan) → seenNow .broken ≡ true → Settles one m plan (pointOf h table text) (refused 18 s (pointOf h table text)) → Settles one m plan (pointOf h table text) (moveOn one (s .blocks) walk s (pointOf h table text))
+  pub stop-settles : (plan : Plan) → seenNow .broken ≡ true → Settles one m s plan (pointOf h table text) (refused 18 s (pointOf h table text)) → Settles one m s plan (pointOf h table text) (moveOn one (s .blocks) walk s (pointOf h table text))
   unfolding seenBy
-  stop-settles plan e f = record { outcome = f .outcome ∙ sym (stop-on m s (pointOf h table text) e); change = f .change }
+  stop-settles plan e f = record { outcome = f .outcome ∙ sym (stop-on m s (pointOf h table text) e); change = f .change; claim = f .claim }
 
   pub move-settles :
       s .blocks ≤ 1024 → seenNow .broken ≡ false
-      → Settles one m
-      (resting Moved s
+      → Settles one m s
+      (resting Moved
       (record { number = h .number; length = h .length; place = seenNow .place; write = refill (firstEdge one (h .write) && seenNow .first) (lastEdge one (h .write) && seenNow .last) one (h .write) })
       CatchUp)
       (pointOf h table text) (moveOn one (s .blocks) walk s (pointOf h table text))
-  unfolding outcomeOf fileAfter textAfter allowed seenBy caughtUp refillAfter
-  move-settles few e = record { outcome = sym (go-on m s (pointOf h table text) e); change = all-every _ (le-leb _ _ few, (not-no _ e, tt)) }
+  unfolding outcomeOf fileAfter allowed seenBy caughtUp refillAfter
+  move-settles few e = record { outcome = sym (go-on m s (pointOf h table text) e); change = all-every _ (le-leb _ _ few, (not-no _ e, tt)); claim = refl }
 
 -- ---- which definition a plan stands for, by the tests on the way
 
-pub settles-as : {m : Memory} {plan : Plan} {p : Point} {o q : Outcome} → Settles one m plan p o → q ≡ o → Settles one m plan p q
-settles-as f e = record { outcome = f .outcome ∙ sym e; change = f .change }
+pub settles-as : {m : Memory} {s : Shared} {plan : Plan} {p : Point} {o q : Outcome} → Settles one m s plan p o → q ≡ o → Settles one m s plan p q
+settles-as f e = record { outcome = f .outcome ∙ sym e; change = f .change; claim = f .claim }
 
 module _ (m : Memory) (s : Shared) (p : Point) where
   pub end-full : 64 ≤ p .head .place .passed → atEnd one s p ≡ giveUp one 20 s p
@@ -157,14 +156,22 @@ placed-put words b i value =
 -- ---- the step's answer: the plan's records, with the table and the text as they are left
 
 pub answers :
-    (m : Memory) (plan : Plan) (p : Point) (h : Head) (table text : List ℕ) (length : ℕ)
-    → record { table = table; size = length } ≡ fileAfter (plan .change) one m (plan .shared .blocks) (p .head .place) (plan .value) (fileAt (p .head) (p .table))
+    (m : Memory) (n : Numbers) (taken : List ℕ) (plan : Plan) (p : Point) (h : Head) (taken′ table text : List ℕ) (next length : ℕ)
+    → taken′ ≡ takenAfter (plan .change) one taken (p .head .write) (p .table) (plan .head .write .zeroing) → next ≡ nextPlace (plan .change) n (plan .head .write .zeroing)
+    → record { table = table; size = length } ≡ fileAfter (plan .change) one m (n .blocks) (p .head .place) (plan .value) (fileAt (p .head) (p .table))
     → text ≡ textAfter (plan .change) (p .text) → h ≡ lengthened (plan .head) length
-    → record { step = plan .step; shared = plan .shared; point = pointOf h table text } ≡ answered (outcomeOf one m plan p)
+    → steppedOf n (record { step = plan .step; next = next; head = h }) taken′ table text ≡ answered (outcomeOf one m (sharedOf n taken) plan p)
 unfolding outcomeOf
-answers m plan p h table text length f t e =
-    rw (e, t) (ap (λ (x : Mapped). record { step = plan .step; shared = plan .shared; point = pointOf (lengthened (plan .head) (x .size)) (x .table) (textAfter (plan .change) (p .text)) }) f)
+answers m n taken plan p h taken′ table text next length k x f t e = rw (e, t, k, x) (ap left-by f)
+  where
+    left-by : Mapped → Stepped
+    left-by g =
+        record {
+          step = plan .step;
+          shared = sharedAfter (plan .change) one (sharedOf n taken) (p .head .write) (p .table) (plan .head .write .zeroing);
+          point = pointOf (lengthened (plan .head) (g .size)) (g .table) (textAfter (plan .change) (p .text));
+        }
 
-pub stored-by : (m : Memory) (plan : Plan) (p : Point) → outcomeOf one m plan p .store ≡ storeOf one plan
+pub stored-by : (m : Memory) (s : Shared) (plan : Plan) (p : Point) → outcomeOf one m s plan p .store ≡ storeOf one plan
 unfolding outcomeOf
-stored-by m plan p = refl
+stored-by m s plan p = refl

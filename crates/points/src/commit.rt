@@ -1,24 +1,22 @@
 // Committing: the entry is stored, or the log place moves on, or the chain is extended.
 ghost use mathlib.Core.Path.{_≡_};
-ghost use mathlib.Core.Bool.{false};
-ghost use mathlib.Core.List.{List, [], _∷_};
+ghost use mathlib.Core.List.{List};
 ghost use Prim.Native.Nat.{ℕ, _+_, _≤_, _<_};
-ghost use lib.ListN.{take, drop};
 ghost use Rattle.words.specs.Edition.{one};
 ghost use Rattle.words.specs.Memory.{Memory, memory};
-ghost use Rattle.words.specs.BlockMap.{markAll};
+ghost use Rattle.log.specs.declared.Shared.{Shared};
 ghost use Rattle.log.specs.CatchUp.{ahead};
 ghost use Rattle.points.specs.Record.{runBlocks, firstEdge, lastEdge};
 ghost use Rattle.points.specs.Search.{search};
 ghost use Rattle.points.specs.Stepping.{refill, entryFor, commit, giveUp, extend, atEnd, moveOn, committing, stepRefusal};
-ghost use Rattle.points.specs.Plan.{pointOf, Settles};
+ghost use Rattle.points.specs.Plan.{pointOf, sharedOf, Settles};
 use crate::Head;
+use crate::Numbers;
 use crate::Phase;
 use crate::StepAnswer;
 use crate::Write;
 use crate::plan::Change;
 use crate::plan::Plan;
-use log::Shared;
 
 // Whether the run's first block holds copied bytes.
 fn first_edge(write: Write) -> bool
@@ -62,17 +60,17 @@ fn refill(first: bool, last: bool, write: Write) -> Write
 }
 
 // The record catches up, and what new entries cover is filled again. Refused where the log is broken.
-fn move_on(image: &[u64], shared: Shared, head: Head) -> Plan
-    requires { ⌜ shared .blocks ≤ 1024 ⌝ }
-    ensures { λ r. ⌜ ((table text : List ℕ) → Settles one (memory one (now (image .entry))) r (pointOf head table text)
-        (moveOn one (shared .blocks) (ahead one (memory one (now (image .entry))) (shared .blocks) (head .place)) shared (pointOf head table text))) ⌝ }
+fn move_on(image: &[u64], numbers: Numbers, head: Head) -> Plan
+    requires { ⌜ numbers .blocks ≤ 1024 ⌝ }
+    ensures { λ r. ⌜ ((taken table text : List ℕ) → Settles one (memory one (now (image .entry))) (sharedOf numbers taken) r (pointOf head table text)
+        (moveOn one (numbers .blocks) (ahead one (memory one (now (image .entry))) (numbers .blocks) (head .place)) (sharedOf numbers taken) (pointOf head table text))) ⌝ }
 {
     let write = head.write;
     let v = write.offset / 512;
     let last = v + crate::record::span(write.offset, write.size) - 1;
-    let seen = log::ahead::look(image, shared.blocks, head.place, v, last);
+    let seen = log::ahead::look(image, numbers.blocks, head.place, v, last);
     if seen.broken {
-        return crate::plan::refused(log::LOG_BROKEN, shared, head);
+        return crate::plan::refused(log::LOG_BROKEN, head);
     }
     let later = refill(
         first_edge(write) & seen.first,
@@ -86,7 +84,7 @@ fn move_on(image: &[u64], shared: Shared, head: Head) -> Plan
         place,
         write: later,
     };
-    crate::plan::resting(StepAnswer::Moved, shared, caught, Change::CatchUp)
+    crate::plan::resting(StepAnswer::Moved, caught, Change::CatchUp)
 }
 
 // The entry of the write.
@@ -107,43 +105,16 @@ fn entry_for(head: Head) -> u64
     )
 }
 
-// A block that was mapped becomes free; 0 stands for none.
-fn free_mapped(map: &mut [u64], b: u16)
-    ensures { λ _. ⌜ now (map .exit) ≡ markAll false (now (map .entry)) (b ∷ []) ⌝ }
-{
-    if b != 0 {
-        words::map::free_block(map, b as usize);
-    }
-}
-
-// The blocks mapped at n virtual blocks from v on become free.
-fn free_replaced(map: &mut [u64], table: &[u16; 256], v: usize, n: usize)
-    requires { ⌜ v + n ≤ 256 ⌝ }
-    ensures { λ _. ⌜ now (map .exit) ≡ markAll false (now (map .entry)) (take n (drop v (now (table .entry)))) ⌝ }
-{
-    let mut at = v;
-    let mut left = n;
-    while 0 < left {
-        free_mapped(map, table[at]);
-        at += 1;
-        left -= 1;
-    }
-}
-
 // The entry is stored and taken in, the blocks that it replaces become free, and the point is idle.
-fn commit(shared: Shared, head: Head, table: &[u16; 256]) -> Plan
+fn commit(numbers: Numbers, head: Head) -> Plan
     requires { ⌜ (1 ≤ head .write .size) × (head .write .size ≤ 1024) × (head .write .offset + head .write .size ≤ 131072) × (1 ≤ head .write .run)
-        × (head .write .run + runBlocks one (head .write) ≤ shared .blocks) × (shared .blocks ≤ 1024) × (head .number < 32) × (head .place .slot < 64) ⌝ }
-    ensures { λ r. ⌜ ((m : Memory) (text : List ℕ) → Settles one m r (pointOf head (now (table .entry)) text) (commit one shared (pointOf head (now (table .entry)) text))) ⌝ }
+        × (head .write .run + runBlocks one (head .write) ≤ numbers .blocks) × (numbers .blocks ≤ 1024) × (head .number < 32) × (head .place .slot < 64) ⌝ }
+    ensures { λ r. ⌜ ((m : Memory) (taken table text : List ℕ) → Settles one m (sharedOf numbers taken) r (pointOf head table text) (commit one (sharedOf numbers taken) (pointOf head table text))) ⌝ }
 {
-    let write = head.write;
     let entry = entry_for(head);
-    let mut map = shared.taken;
-    let n = crate::record::span(write.offset, write.size);
-    free_replaced(&mut map, table, (write.offset / 512) as usize, n as usize);
+    let retries = head.write.retries;
     crate::plan::storing(
-        StepAnswer::Committed(write.retries),
-        crate::shared::with_taken(shared, map),
+        StepAnswer::Committed(retries),
         crate::plan::committed_head(head),
         Change::TakeIn,
         head.place.block,
@@ -153,66 +124,65 @@ fn commit(shared: Shared, head: Head, table: &[u16; 256]) -> Plan
 }
 
 // The write ends by 20 or 21: its run becomes free, and the point is idle.
-fn give_up(number: u32, shared: Shared, head: Head) -> Plan
-    ensures { λ r. ⌜ ((m : Memory) (table text : List ℕ) → Settles one m r (pointOf head table text) (giveUp one number shared (pointOf head table text))) ⌝ }
+fn give_up(number: u32, head: Head) -> Plan
+    ensures { λ r. ⌜ ((m : Memory) (s : Shared) (table text : List ℕ) → Settles one m s r (pointOf head table text) (giveUp one number s (pointOf head table text))) ⌝ }
 {
-    let write = head.write;
-    let mut map = shared.taken;
-    let n = crate::record::span(write.offset, write.size);
-    words::map::free_run(&mut map, write.run as usize, n as usize);
     crate::plan::resting(
         StepAnswer::Refused(number),
-        crate::shared::with_taken(shared, map),
         crate::plan::writing(head, crate::plan::no_write()),
         Change::Clear,
     )
 }
 
 // A free block is taken, to be zeroed and linked.
-fn extend(shared: Shared, head: Head, b: u32) -> Plan
-    requires { ⌜ b ≡ search shared 1 ⌝ }
-    ensures { λ r. ⌜ ((m : Memory) (table text : List ℕ) → Settles one m r (pointOf head table text) (extend one shared (pointOf head table text))) ⌝ }
+fn extend(head: Head, b: u32) -> Plan
+    ensures { λ r. ⌜ ((m : Memory) (s : Shared) (table text : List ℕ) → b ≡ search s 1 → Settles one m s r (pointOf head table text) (extend one s (pointOf head table text))) ⌝ }
 {
     let write = head.write;
     let zeroing = crate::plan::turned(write, Phase::Zeroing, 0, b, write.retries);
     crate::plan::resting(
         StepAnswer::Extending,
-        crate::shared::take(shared, b, 1),
         crate::plan::writing(head, zeroing),
-        Change::Keep,
+        Change::Take,
     )
 }
 
 // The log place is at slot 64 with no next index: the chain is extended, or the write ends by 20 or 21.
-fn at_end(shared: Shared, head: Head) -> Plan
-    ensures { λ r. ⌜ ((m : Memory) (table text : List ℕ) → Settles one m r (pointOf head table text) (atEnd one shared (pointOf head table text))) ⌝ }
+fn at_end(numbers: Numbers, taken: &[u64; 16], head: Head) -> Plan
+    ensures { λ r. ⌜ ((m : Memory) (table text : List ℕ) → Settles one m (sharedOf numbers (now (taken .entry))) r (pointOf head table text) (atEnd one (sharedOf numbers (now (taken .entry))) (pointOf head table text))) ⌝ }
 {
     if 64 <= head.place.passed {
-        return give_up(crate::LOG_FULL, shared, head);
+        return give_up(crate::LOG_FULL, head);
     }
-    let b = crate::shared::search(shared, 1);
+    let b = crate::shared::search_lent(numbers, taken, 1);
     if b == 0 {
-        return give_up(crate::NO_LOG_BLOCK, shared, head);
+        return give_up(crate::NO_LOG_BLOCK, head);
     }
-    extend(shared, head, b)
+    extend(head, b)
 }
 
 // With no word left to fill: the entry is stored where the word at the log place is empty; at the end of the chain it is extended; otherwise the record catches up.
-pub(crate) fn committing(image: &[u64], shared: Shared, head: Head, table: &[u16; 256]) -> Plan
-    requires { ⌜ stepRefusal one (now image) shared head (now table) ≡ 0 ⌝ }
-    ensures { λ r. ⌜ ((text : List ℕ) → Settles one (memory one (now (image .entry))) r (pointOf head (now (table .entry)) text)
-        (committing one (memory one (now (image .entry))) shared (pointOf head (now (table .entry)) text))) ⌝ }
+pub(crate) fn committing<'a>(
+    image: &[u64],
+    numbers: Numbers,
+    taken: &'a [u64; 16],
+    head: Head,
+    table: &'a [u16; 256],
+) -> Plan
+    requires { ⌜ stepRefusal one (now image) (sharedOf numbers (now taken)) head (now table) ≡ 0 ⌝ }
+    ensures { λ r. ⌜ ((text : List ℕ) → Settles one (memory one (now (image .entry))) (sharedOf numbers (now (taken .entry))) r (pointOf head (now (table .entry)) text)
+        (committing one (memory one (now (image .entry))) (sharedOf numbers (now (taken .entry))) (pointOf head (now (table .entry)) text))) ⌝ }
 {
     let slot = head.place.slot as usize;
     let part = words::image::block(image, head.place.block as usize);
     if slot < 64 {
         if words::image::word(part, slot) == 0 {
-            return commit(shared, head, table);
+            return commit(numbers, head);
         }
-        return move_on(image, shared, head);
+        return move_on(image, numbers, head);
     }
     if words::image::word(part, 0) == 0 {
-        return at_end(shared, head);
+        return at_end(numbers, taken, head);
     }
-    move_on(image, shared, head)
+    move_on(image, numbers, head)
 }

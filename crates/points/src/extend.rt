@@ -3,6 +3,7 @@ ghost use mathlib.Core.List.{List};
 ghost use Prim.Native.Nat.{ℕ, _<_};
 ghost use Rattle.words.specs.Edition.{one};
 ghost use Rattle.words.specs.Memory.{Memory, memory};
+ghost use Rattle.log.specs.declared.Shared.{Shared};
 ghost use Rattle.points.specs.Stepping.{zero-out, link, giveBack, extending};
 ghost use Rattle.points.specs.Plan.{pointOf, Settles};
 use crate::Head;
@@ -10,12 +11,11 @@ use crate::Phase;
 use crate::StepAnswer;
 use crate::plan::Change;
 use crate::plan::Plan;
-use log::Shared;
 
 // A word of the log block to come becomes 0.
-fn zero_out(shared: Shared, head: Head) -> Plan
+fn zero_out(head: Head) -> Plan
     requires { ⌜ head .write .position < 64 ⌝ }
-    ensures { λ r. ⌜ ((m : Memory) (table text : List ℕ) → Settles one m r (pointOf head table text) (zero-out shared (pointOf head table text))) ⌝ }
+    ensures { λ r. ⌜ ((m : Memory) (s : Shared) (table text : List ℕ) → Settles one m s r (pointOf head table text) (zero-out s (pointOf head table text))) ⌝ }
 {
     let write = head.write;
     let position = write.position;
@@ -28,7 +28,6 @@ fn zero_out(shared: Shared, head: Head) -> Plan
     );
     crate::plan::storing(
         StepAnswer::Stored,
-        shared,
         crate::plan::writing(head, zeroed),
         Change::Keep,
         write.zeroing,
@@ -38,14 +37,13 @@ fn zero_out(shared: Shared, head: Head) -> Plan
 }
 
 // The zeroed block is the next log block from now on.
-fn link(shared: Shared, head: Head) -> Plan
+fn link(head: Head) -> Plan
     requires { ⌜ head .place .passed < 64 ⌝ }
-    ensures { λ r. ⌜ ((m : Memory) (table text : List ℕ) → Settles one m r (pointOf head table text) (link one shared (pointOf head table text))) ⌝ }
+    ensures { λ r. ⌜ ((m : Memory) (s : Shared) (table text : List ℕ) → Settles one m s r (pointOf head table text) (link one s (pointOf head table text))) ⌝ }
 {
     let zeroing = head.write.zeroing as u64;
     crate::plan::storing(
         StepAnswer::Stored,
-        shared,
         crate::plan::linked_head(head),
         Change::Keep,
         head.place.block,
@@ -55,31 +53,28 @@ fn link(shared: Shared, head: Head) -> Plan
 }
 
 // A next index is there by now: the zeroed block is given back.
-fn give_back(shared: Shared, head: Head) -> Plan
-    ensures { λ r. ⌜ ((m : Memory) (table text : List ℕ) → Settles one m r (pointOf head table text) (giveBack one shared (pointOf head table text))) ⌝ }
+fn give_back(head: Head) -> Plan
+    ensures { λ r. ⌜ ((m : Memory) (s : Shared) (table text : List ℕ) → Settles one m s r (pointOf head table text) (giveBack one s (pointOf head table text))) ⌝ }
 {
     let write = head.write;
-    let mut map = shared.taken;
-    words::map::free_block(&mut map, write.zeroing as usize);
     let later = crate::plan::to_commit(write, crate::plan::retried(write));
     crate::plan::resting(
         StepAnswer::Moved,
-        crate::shared::with_taken(shared, map),
         crate::plan::writing(head, later),
-        Change::Keep,
+        Change::GiveBack,
     )
 }
 
 // 64 steps zero the block; the one after looks at the next index.
-pub(crate) fn extending(image: &[u64], shared: Shared, head: Head) -> Plan
+pub(crate) fn extending(image: &[u64], head: Head) -> Plan
     requires { ⌜ head .place .passed < 64 ⌝ }
-    ensures { λ r. ⌜ ((table text : List ℕ) → Settles one (memory one (now (image .entry))) r (pointOf head table text) (extending one (memory one (now (image .entry))) shared (pointOf head table text))) ⌝ }
+    ensures { λ r. ⌜ ((s : Shared) (table text : List ℕ) → Settles one (memory one (now (image .entry))) s r (pointOf head table text) (extending one (memory one (now (image .entry))) s (pointOf head table text))) ⌝ }
 {
     if head.write.position < 64 {
-        return zero_out(shared, head);
+        return zero_out(head);
     }
     if log::links::next_index(image, head.place.block as u64) == 0 {
-        return link(shared, head);
+        return link(head);
     }
-    give_back(shared, head)
+    give_back(head)
 }

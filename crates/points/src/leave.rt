@@ -20,11 +20,7 @@ fn free_held(map: &mut [u64], write: Write)
     if crate::record::is_idle(phase) {
         return;
     }
-    words::map::free_run(
-        map,
-        write.run as usize,
-        crate::record::span(write.offset, write.size) as usize,
-    );
+    crate::claim::free_run(map, write);
     if crate::record::is_zeroing(phase) {
         words::map::free_block(map, write.zeroing as usize);
     }

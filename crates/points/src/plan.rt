@@ -1,10 +1,11 @@
-// What a step settles before it stores: the answer, the records, what becomes of the record's table and text, and at most one store.
+// What a step settles before it stores: the answer, the head, what becomes of table, text and shared record, and at most one store.
 ghost use mathlib.Core.Path.{_≡_};
 ghost use mathlib.Core.Bool.{true, false};
 ghost use mathlib.Core.List.{List};
 ghost use Prim.Native.Nat.{ℕ, _<_};
 ghost use Rattle.words.specs.Edition.{one};
 ghost use Rattle.words.specs.Memory.{Memory};
+ghost use Rattle.log.specs.declared.Shared.{Shared};
 ghost use Rattle.points.specs.Record.{runWords, noWrite, writing};
 ghost use Rattle.points.specs.Plan.{pointOf, storing, resting, Settles};
 ghost use Rattle.points.specs.Stepping.{refused, turned, toCommit, retried, committedHead, linkedHead};
@@ -13,20 +14,22 @@ use crate::Phase;
 use crate::StepAnswer;
 use crate::Write;
 use log::Place;
-use log::Shared;
 
-// What becomes of the record's table and text: both stay; the text is cleared; the entry stored is taken in and the text cleared; all entries ahead are taken in.
+// What becomes of table, text and shared record. Keep: all stay. Clear: the write ends, its text is cleared and its run becomes free. TakeIn: the entry
+// stored is taken in, the text is cleared and what the entry replaces becomes free. CatchUp: all entries ahead are taken in. Take: the block to be
+// zeroed is taken. GiveBack: the block that was zeroed becomes free.
 pub enum Change {
     Keep,
     Clear,
     TakeIn,
     CatchUp,
+    Take,
+    GiveBack,
 }
 
 // Where `stores` holds, word `word` from the first word of block `block` on gets `value`.
 pub struct Plan {
     pub step: StepAnswer,
-    pub shared: Shared,
     pub head: Head,
     pub change: Change,
     pub stores: bool,
@@ -38,18 +41,16 @@ pub struct Plan {
 // A plan that stores a word.
 pub(crate) fn storing(
     step: StepAnswer,
-    shared: Shared,
     head: Head,
     change: Change,
     block: u32,
     word: u32,
     value: u64,
 ) -> Plan
-    ensures { λ r. ⌜ r ≡ storing step shared head change block word value ⌝ }
+    ensures { λ r. ⌜ r ≡ storing step head change block word value ⌝ }
 {
     Plan {
         step,
-        shared,
         head,
         change,
         stores: true,
@@ -60,12 +61,11 @@ pub(crate) fn storing(
 }
 
 // A plan that stores nothing.
-pub(crate) fn resting(step: StepAnswer, shared: Shared, head: Head, change: Change) -> Plan
-    ensures { λ r. ⌜ r ≡ resting step shared head change ⌝ }
+pub(crate) fn resting(step: StepAnswer, head: Head, change: Change) -> Plan
+    ensures { λ r. ⌜ r ≡ resting step head change ⌝ }
 {
     Plan {
         step,
-        shared,
         head,
         change,
         stores: false,
@@ -76,10 +76,10 @@ pub(crate) fn resting(step: StepAnswer, shared: Shared, head: Head, change: Chan
 }
 
 // A step that is refused changes nothing.
-pub(crate) fn refused(number: u32, shared: Shared, head: Head) -> Plan
-    ensures { λ r. ⌜ ((m : Memory) (table text : List ℕ) → Settles one m r (pointOf head table text) (refused number shared (pointOf head table text))) ⌝ }
+pub(crate) fn refused(number: u32, head: Head) -> Plan
+    ensures { λ r. ⌜ ((m : Memory) (s : Shared) (table text : List ℕ) → Settles one m s r (pointOf head table text) (refused number s (pointOf head table text))) ⌝ }
 {
-    resting(StepAnswer::Refused(number), shared, head, Change::Keep)
+    resting(StepAnswer::Refused(number), head, Change::Keep)
 }
 
 // The write at another phase and position.

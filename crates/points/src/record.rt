@@ -1,11 +1,15 @@
 // The tests that every later call begins with, reasons 10, 11 and 14, and how many blocks a write spans: each is total.
 ghost use mathlib.Core.Path.{_≡_};
+ghost use mathlib.Core.List.{List};
+ghost use Prim.Native.Nat.{ℕ};
 ghost use Rattle.words.specs.Edition.{one};
 ghost use Rattle.words.specs.Logic.{between};
 ghost use Rattle.words.specs.Word.{bit};
 ghost use Rattle.points.specs.Record.{noText, isIdle, isZeroing, badShared, badText, pastEnd, inside, placeFits, zeroingFits, writeFits, headFits, tableFits, span, fits};
 ghost use Rattle.points.specs.Unfit.{unfit};
+ghost use Rattle.points.specs.Plan.{sharedOf};
 use crate::Head;
+use crate::Numbers;
 use crate::Phase;
 use crate::Write;
 use log::Place;
@@ -33,12 +37,19 @@ fn inside(blocks: u32, b: u32, n: u32) -> bool
 }
 
 // 10. The shared record's block count is not 4 to 1,024, 64 times it is not the image's length, or the next place is not a block from 1 on.
+pub fn bad_numbers(image: &[u64], numbers: Numbers) -> bool
+    ensures { λ r. ⌜ ((taken : List ℕ) → r ≡ badShared one (now (image .entry)) (sharedOf numbers taken)) ⌝ }
+{
+    !between(4, numbers.blocks, 1024)
+        | (64 * numbers.blocks as usize != image.len())
+        | !((1 <= numbers.next) & (numbers.next < numbers.blocks))
+}
+
+// The same of a whole shared record.
 pub fn bad_shared(image: &[u64], shared: Shared) -> bool
     ensures { λ r. ⌜ r ≡ badShared one (now (image .entry)) shared ⌝ }
 {
-    !between(4, shared.blocks, 1024)
-        | (64 * shared.blocks as usize != image.len())
-        | !((1 <= shared.next) & (shared.next < shared.blocks))
+    bad_numbers(image, crate::shared::numbers(shared))
 }
 
 // 14. Whether a point is joined: its bit. No point from 32 on is.
@@ -190,17 +201,24 @@ pub fn fits(blocks: u32, head: Head, table: &[u16; 256]) -> bool
 }
 
 // The first of 10, 11 and 14 that holds, 0 for none.
-pub fn unfit(image: &[u64], shared: Shared, head: Head, table: &[u16; 256]) -> u32
-    ensures { λ r. ⌜ r ≡ unfit one (now (image .entry)) shared head (now (table .entry)) ⌝ }
+pub fn unfit_numbers(image: &[u64], numbers: Numbers, head: Head, table: &[u16; 256]) -> u32
+    ensures { λ r. ⌜ ((taken : List ℕ) → r ≡ unfit one (now (image .entry)) (sharedOf numbers taken) head (now (table .entry))) ⌝ }
 {
-    if bad_shared(image, shared) {
+    if bad_numbers(image, numbers) {
         return crate::SHARED_UNFIT;
     }
-    if !fits(shared.blocks, head, table) {
+    if !fits(numbers.blocks, head, table) {
         return crate::RECORD_UNFIT;
     }
-    if !is_joined(shared.joined, head.number) {
+    if !is_joined(numbers.joined, head.number) {
         return crate::NOT_JOINED;
     }
     0
+}
+
+// The same with a whole shared record.
+pub fn unfit(image: &[u64], shared: Shared, head: Head, table: &[u16; 256]) -> u32
+    ensures { λ r. ⌜ r ≡ unfit one (now (image .entry)) shared head (now (table .entry)) ⌝ }
+{
+    unfit_numbers(image, crate::shared::numbers(shared), head, table)
 }

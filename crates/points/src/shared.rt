@@ -4,6 +4,8 @@ ghost use mathlib.Core.Bool.{true, false};
 ghost use Prim.Native.Nat.{_<_};
 ghost use Rattle.words.specs.BlockMap.{withBit};
 ghost use Rattle.points.specs.Search.{search, nextAfter, taking, withJoined, withTaken};
+ghost use Rattle.points.specs.Plan.{numbersOf, sharedOf};
+use crate::Numbers;
 use log::Shared;
 
 // The shared record with other joined points.
@@ -40,20 +42,38 @@ pub(crate) fn without_point(joined: u32, number: u32) -> u32
     joined & !(1u32 << number)
 }
 
+// The numbers of a shared record.
+pub fn numbers(shared: Shared) -> Numbers
+    ensures { λ r. ⌜ r ≡ numbersOf shared ⌝ }
+{
+    Numbers {
+        blocks: shared.blocks,
+        joined: shared.joined,
+        next: shared.next,
+    }
+}
+
 // A run of n free blocks: its first block, 0 where there is none.
-pub(crate) fn search(shared: Shared, n: u32) -> u32
-    ensures { λ r. ⌜ r ≡ search shared n ⌝ }
+pub(crate) fn search_lent(numbers: Numbers, taken: &[u64; 16], n: u32) -> u32
+    ensures { λ r. ⌜ r ≡ search (sharedOf numbers (now (taken .entry))) n ⌝ }
 {
     words::map::search(
-        &shared.taken,
-        shared.blocks as usize,
-        shared.next as usize,
+        taken,
+        numbers.blocks as usize,
+        numbers.next as usize,
         n as usize,
     ) as u32
 }
 
+// The same in a whole shared record.
+pub(crate) fn search(shared: Shared, n: u32) -> u32
+    ensures { λ r. ⌜ r ≡ search shared n ⌝ }
+{
+    search_lent(numbers(shared), &shared.taken, n)
+}
+
 // The next place: a block, or 1 past the end.
-fn next_after(blocks: u32, b: u64) -> u32
+pub(crate) fn next_after(blocks: u32, b: u64) -> u32
     ensures { λ r. ⌜ r ≡ nextAfter blocks b ⌝ }
 {
     if b < blocks as u64 {

@@ -5,12 +5,14 @@ ghost use mathlib.Core.Option.{none, some};
 ghost use Prim.Native.Nat.{_+_, _≤_, _<_};
 ghost use Rattle.words.specs.Edition.{one};
 ghost use Rattle.words.specs.Memory.{memory, after};
+ghost use Rattle.log.specs.declared.Shared.{Shared};
 ghost use Rattle.points.specs.Record.{runWords, isZeroing, fileAt};
 ghost use Rattle.points.specs.Stepping.{answered, fill, filling, writeOn, stepRefusal, stepping};
-ghost use Rattle.points.specs.Plan.{pointOf, Settles, allowed, fileAfter, textAfter, placed, lengthened};
+ghost use Rattle.points.specs.Plan.{pointOf, sharedOf, Settles, allowed, fileAfter, textAfter, placed, lengthened};
 ghost use Rattle.points.specs.Lent.{steppedOf};
 use crate::Head;
 use crate::LentStepped;
+use crate::Numbers;
 use crate::Point;
 use crate::StepAnswer;
 use crate::Stepped;
@@ -19,17 +21,10 @@ use crate::plan::Plan;
 use log::Shared;
 
 // Word k of the run is filled.
-fn fill<'a>(
-    image: &[u64],
-    shared: Shared,
-    head: Head,
-    table: &'a [u16; 256],
-    text: &'a [u8; 1024],
-    k: u32,
-) -> Plan
+fn fill<'a>(image: &[u64], head: Head, table: &'a [u16; 256], text: &'a [u8; 1024], k: u32) -> Plan
     requires { ⌜ (1 ≤ head .write .size) × (head .write .size ≤ 1024) × (head .write .offset + head .write .size ≤ 131072) × (k < runWords one (head .write)) ⌝ }
-    ensures { λ r. ⌜ Settles one (memory one (now (image .entry))) r (pointOf head (now (table .entry)) (now (text .entry)))
-        (fill one (memory one (now (image .entry))) shared (pointOf head (now (table .entry)) (now (text .entry))) k) ⌝ }
+    ensures { λ r. ⌜ ((s : Shared) → Settles one (memory one (now (image .entry))) s r (pointOf head (now (table .entry)) (now (text .entry)))
+        (fill one (memory one (now (image .entry))) s (pointOf head (now (table .entry)) (now (text .entry))) k)) ⌝ }
 {
     let write = head.write;
     let phase = write.phase;
@@ -37,7 +32,6 @@ fn fill<'a>(
     let filled = crate::plan::turned(write, phase, k + 1, write.zeroing, write.retries);
     crate::plan::storing(
         StepAnswer::Stored,
-        shared,
         crate::plan::writing(head, filled),
         Change::Keep,
         write.run,
@@ -49,64 +43,67 @@ fn fill<'a>(
 // The next word of the run is filled; where none is left, the step commits.
 fn filling<'a>(
     image: &[u64],
-    shared: Shared,
+    numbers: Numbers,
+    taken: &'a [u64; 16],
     head: Head,
     table: &'a [u16; 256],
     text: &'a [u8; 1024],
 ) -> Plan
-    requires { ⌜ (stepRefusal one (now image) shared head (now table) ≡ 0) × (isZeroing (head .write .phase) ≡ false) ⌝ }
-    ensures { λ r. ⌜ Settles one (memory one (now (image .entry))) r (pointOf head (now (table .entry)) (now (text .entry)))
-        (filling one (memory one (now (image .entry))) shared (pointOf head (now (table .entry)) (now (text .entry)))) ⌝ }
+    requires { ⌜ (stepRefusal one (now image) (sharedOf numbers (now taken)) head (now table) ≡ 0) × (isZeroing (head .write .phase) ≡ false) ⌝ }
+    ensures { λ r. ⌜ Settles one (memory one (now (image .entry))) (sharedOf numbers (now (taken .entry))) r (pointOf head (now (table .entry)) (now (text .entry)))
+        (filling one (memory one (now (image .entry))) (sharedOf numbers (now (taken .entry))) (pointOf head (now (table .entry)) (now (text .entry)))) ⌝ }
 {
     let words = crate::plan::run_words(head.write);
     let k = crate::fill::next_word(head.write, words);
     if k < words {
-        return fill(image, shared, head, table, text, k);
+        return fill(image, head, table, text, k);
     }
-    crate::commit::committing(image, shared, head, table)
+    crate::commit::committing(image, numbers, taken, head, table)
 }
 
 // What a step does that is not refused.
 fn write_on<'a>(
     image: &[u64],
-    shared: Shared,
+    numbers: Numbers,
+    taken: &'a [u64; 16],
     head: Head,
     table: &'a [u16; 256],
     text: &'a [u8; 1024],
 ) -> Plan
-    requires { ⌜ stepRefusal one (now image) shared head (now table) ≡ 0 ⌝ }
-    ensures { λ r. ⌜ Settles one (memory one (now (image .entry))) r (pointOf head (now (table .entry)) (now (text .entry)))
-        (writeOn one (memory one (now (image .entry))) shared (pointOf head (now (table .entry)) (now (text .entry)))) ⌝ }
+    requires { ⌜ stepRefusal one (now image) (sharedOf numbers (now taken)) head (now table) ≡ 0 ⌝ }
+    ensures { λ r. ⌜ Settles one (memory one (now (image .entry))) (sharedOf numbers (now (taken .entry))) r (pointOf head (now (table .entry)) (now (text .entry)))
+        (writeOn one (memory one (now (image .entry))) (sharedOf numbers (now (taken .entry))) (pointOf head (now (table .entry)) (now (text .entry)))) ⌝ }
 {
     let write = head.write;
     let phase = write.phase;
     if crate::record::is_zeroing(phase) {
-        return crate::extend::extending(image, shared, head);
+        return crate::extend::extending(image, head);
     }
-    filling(image, shared, head, table, text)
+    filling(image, numbers, taken, head, table, text)
 }
 
 // The plan of a step.
 fn settle<'a>(
     image: &[u64],
-    shared: Shared,
+    numbers: Numbers,
+    taken: &'a [u64; 16],
     head: Head,
     table: &'a [u16; 256],
     text: &'a [u8; 1024],
 ) -> Plan
-    ensures { λ r. ⌜ Settles one (memory one (now (image .entry))) r (pointOf head (now (table .entry)) (now (text .entry)))
-        (stepping one (now (image .entry)) shared (pointOf head (now (table .entry)) (now (text .entry)))) ⌝ }
+    ensures { λ r. ⌜ Settles one (memory one (now (image .entry))) (sharedOf numbers (now (taken .entry))) r (pointOf head (now (table .entry)) (now (text .entry)))
+        (stepping one (now (image .entry)) (sharedOf numbers (now (taken .entry))) (pointOf head (now (table .entry)) (now (text .entry)))) ⌝ }
 {
-    let reason = crate::record::unfit(image, shared, head, table);
+    let reason = crate::record::unfit_numbers(image, numbers, head, table);
     if reason != 0 {
-        return crate::plan::refused(reason, shared, head);
+        return crate::plan::refused(reason, head);
     }
     let write = head.write;
     let phase = write.phase;
     if crate::record::is_idle(phase) {
-        return crate::plan::refused(crate::WRONG_PHASE, shared, head);
+        return crate::plan::refused(crate::WRONG_PHASE, head);
     }
-    write_on(image, shared, head, table, text)
+    write_on(image, numbers, taken, head, table, text)
 }
 
 // The table takes in what the plan says: nothing, the entry stored, or all entries ahead. Answers the length that the record has then.
@@ -126,6 +123,8 @@ fn take_in(
         Change::Clear => head.length,
         Change::TakeIn => log::ahead::take_entry(entry, blocks, table, head.length),
         Change::CatchUp => log::ahead::catch_up(image, blocks, head.place, table, head.length),
+        Change::Take => head.length,
+        Change::GiveBack => head.length,
     }
 }
 
@@ -138,6 +137,8 @@ fn keep_text(text: &mut [u8; 1024], change: Change)
         Change::Clear => *text = crate::record::no_text(),
         Change::TakeIn => *text = crate::record::no_text(),
         Change::CatchUp => {}
+        Change::Take => {}
+        Change::GiveBack => {}
     }
 }
 
@@ -159,28 +160,31 @@ fn lengthened(head: Head, length: u32) -> Head
     h
 }
 
-// A step of a write whose table and text are lent.
+// A step of a write, with the shared record's map and the record's table and text lent.
 pub fn step_lent(
     image: &mut [u64],
-    shared: Shared,
+    numbers: Numbers,
+    taken: &mut [u64; 16],
     head: Head,
     table: &mut [u16; 256],
     text: &mut [u8; 1024],
 ) -> LentStepped
-    ensures { λ r. ⌜ (steppedOf r (now (table .exit)) (now (text .exit)) ≡ answered (stepping one (now (image .entry)) shared (pointOf head (now (table .entry)) (now (text .entry)))))
-        × (now (image .exit) ≡ after one (now (image .entry)) (stepping one (now (image .entry)) shared (pointOf head (now (table .entry)) (now (text .entry))) .store)) ⌝ }
+    ensures { λ r. ⌜ (steppedOf numbers r (now (taken .exit)) (now (table .exit)) (now (text .exit)) ≡ answered (stepping one (now (image .entry)) (sharedOf numbers (now (taken .entry))) (pointOf head (now (table .entry)) (now (text .entry)))))
+        × (now (image .exit) ≡ after one (now (image .entry)) (stepping one (now (image .entry)) (sharedOf numbers (now (taken .entry))) (pointOf head (now (table .entry)) (now (text .entry))) .store)) ⌝ }
 {
-    let plan = settle(image, shared, head, table, text);
+    let plan = settle(image, numbers, taken, head, table, text);
     let change = plan.change;
-    let length = take_in(image, plan.shared.blocks, head, table, change, plan.value);
+    let block = plan.head.write.zeroing;
+    crate::claim::claim(taken, change, head.write, table, block);
+    let next = crate::claim::next_place(change, numbers, block);
+    let length = take_in(image, numbers.blocks, head, table, change, plan.value);
     keep_text(text, change);
     store(image, plan.stores, plan.block, plan.word, plan.value);
     let left = lengthened(plan.head, length);
-    let kept = plan.shared;
     let answer = plan.step;
     LentStepped {
         step: answer,
-        shared: kept,
+        next,
         head: left,
     }
 }
@@ -189,16 +193,22 @@ pub fn step_lent(
 pub fn step(image: &mut [u64], shared: Shared, point: Point) -> Stepped
     ensures { λ r. ⌜ (r ≡ answered (stepping one (now (image .entry)) shared point)) × (now (image .exit) ≡ after one (now (image .entry)) (stepping one (now (image .entry)) shared point .store)) ⌝ }
 {
+    let numbers = crate::shared::numbers(shared);
+    let mut taken = shared.taken;
     let head = point.head;
     let mut table = point.table;
     let mut text = point.text;
-    let left = step_lent(image, shared, head, &mut table, &mut text);
+    let left = step_lent(image, numbers, &mut taken, head, &mut table, &mut text);
     let answer = left.step;
-    let kept = left.shared;
     let head = left.head;
     Stepped {
         step: answer,
-        shared: kept,
+        shared: Shared {
+            blocks: numbers.blocks,
+            taken,
+            joined: numbers.joined,
+            next: left.next,
+        },
         point: Point { head, table, text },
     }
 }

@@ -1,6 +1,6 @@
 -- `points::commit::at_end`: 20, 21 or a block to zero, in the order of the reasons.
 use mathlib.Core.Path.{sym, _∙_}
-use Rattle.points.specs.Plan.{pointOf}
+use Rattle.points.specs.Plan.{pointOf, sharedOf}
 use Rattle.points.proofs.Planned.{settles-as, end-full, end-none, end-free}
 use borrow.Author.Needs.{needs}
 use Rattle.points.proofs.commit.at_end.Statement.{statement}
@@ -11,10 +11,10 @@ give-up-requires c κs = search needs
 
 returns : tie.Need-returns
 returns c m table text = let a = c .before .before .before .args in
-    settles-as (c .give-up .ensures m table text) (end-full m (a .shared) (pointOf (a .head) table text) (c .before .if1 .taken))
+    settles-as (c .give-up .ensures m (sharedOf (a .numbers) (a .taken .now)) table text) (end-full m (sharedOf (a .numbers) (a .taken .now)) (pointOf (a .head) table text) (c .before .if1 .taken))
 
-search-requires : tie.Need-search-requires
-search-requires c κs = search needs
+search-lent-requires : tie.Need-search-lent-requires
+search-lent-requires c κs = search needs
 
 give-up-requires-2 : tie.Need-give-up-requires-2
 give-up-requires-2 c κs = search needs
@@ -22,19 +22,19 @@ give-up-requires-2 c κs = search needs
 returns-2 : tie.Need-returns-2
 returns-2 c m table text =
     let if1 = c .before .before .before .if1 in
-    let search = c .before .before .search in
+    let search = c .before .before .search-lent in
     let a = c .before .before .before .before .before .args in
-    settles-as (c .give-up2 .ensures m table text) (end-none m (a .shared) (pointOf (a .head) table text) (if1 .left) (sym (search .ensures) ∙ c .before .if2 .taken))
+    settles-as (c .give-up2 .ensures m (sharedOf (a .numbers) (a .taken .now)) table text) (end-none m (sharedOf (a .numbers) (a .taken .now)) (pointOf (a .head) table text) (if1 .left) (sym (search .ensures) ∙ c .before .if2 .taken))
 
 extend-requires : tie.Need-extend-requires
-extend-requires c κs = c .before .search .ensures
+extend-requires c κs = search needs
 
 returns-3 : tie.Need-returns-3
 returns-3 c m table text =
     let if1 = c .before .before .before .if1 in
-    let search = c .before .before .search in
+    let search = c .before .before .search-lent in
     let a = c .before .before .before .before .before .args in
-    settles-as (c .extend .ensures m table text) (end-free m (a .shared) (pointOf (a .head) table text) (if1 .left) (λ e. c .before .if2 .left (search .ensures ∙ e)))
+    settles-as (c .extend .ensures m (sharedOf (a .numbers) (a .taken .now)) table text (search .ensures)) (end-free m (sharedOf (a .numbers) (a .taken .now)) (pointOf (a .head) table text) (if1 .left) (λ e. c .before .if2 .left (search .ensures ∙ e)))
 
 pub at-end-spec : {M : Type 1} → statement M
 at-end-spec =
@@ -42,7 +42,7 @@ at-end-spec =
     (tie.spec
     give-up-requires
     returns
-    search-requires
+    search-lent-requires
     give-up-requires-2
     returns-2
     extend-requires

@@ -3,6 +3,7 @@ use mathlib.Core.Path.{_≡_, sym, ap, _∙_}
 use Rattle.words.specs.Edition.{one}
 use Rattle.words.specs.Memory.{memory}
 use Rattle.log.specs.declared.Seen.{Seen}
+use Rattle.points.specs.Plan.{sharedOf}
 use Rattle.points.proofs.Planned.{seenNow, stop-settles, move-settles}
 use borrow.Author.Needs.{needs}
 use Rattle.points.proofs.commit.move_on.Statement.{statement}
@@ -24,13 +25,13 @@ refused-requires : tie.Need-refused-requires
 refused-requires c κs = search needs
 
 returns : tie.Need-returns
-returns c table text =
+returns c taken table text =
     let span = c .before .before .before .span in
     let a = c .before .before .before .before .before .before .before .args in
     let w = c .before .before .look in
     let m = memory one (a .image .now) in
-    let e : w .result ≡ seenNow m (a .shared) (a .head) table text = rw (span .ensures) at (w .ensures) in
-    stop-settles m (a .shared) (a .head) table text (c .refused .result) (sym (ap (λ (s : Seen). s .broken) e) ∙ c .before .if1 .taken) (c .refused .ensures m table text)
+    let e : w .result ≡ seenNow m (sharedOf (a .numbers) taken) (a .head) table text = rw (span .ensures) at (w .ensures) in
+    stop-settles m (sharedOf (a .numbers) taken) (a .head) table text (c .refused .result) (sym (ap (λ (s : Seen). s .broken) e) ∙ c .before .if1 .taken) (c .refused .ensures m (sharedOf (a .numbers) taken) table text)
 
 first-edge-requires : tie.Need-first-edge-requires
 first-edge-requires c κs = search needs
@@ -45,7 +46,7 @@ resting-requires : tie.Need-resting-requires
 resting-requires c κs = search needs
 
 returns-2 : tie.Need-returns-2
-returns-2 c table text =
+returns-2 c taken table text =
     let pre = c .before .before .before .before .before .before .before .before .before .before .before .before .before .pre in
     let span = c .before .before .before .before .before .before .before .before .before .span in
     let if1 = c .before .before .before .before .before .before .before .if1 in
@@ -55,9 +56,9 @@ returns-2 c table text =
     let a = c .before .before .before .before .before .before .before .before .before .before .before .before .before .args in
     let w = c .before .before .before .before .before .before .before .before .look in
     let m = memory one (a .image .now) in
-    let e : w .result ≡ seenNow m (a .shared) (a .head) table text = rw (span .ensures) at (w .ensures) in
+    let e : w .result ≡ seenNow m (sharedOf (a .numbers) taken) (a .head) table text = rw (span .ensures) at (w .ensures) in
     rw (c .resting .ensures, refill .ensures, first-edge .ensures, last-edge .ensures, e)
-    (move-settles m (a .shared) (a .head) table text pre (sym (ap (λ (s : Seen). s .broken) e) ∙ if1 .left))
+    (move-settles m (sharedOf (a .numbers) taken) (a .head) table text pre (sym (ap (λ (s : Seen). s .broken) e) ∙ if1 .left))
 
 pub move-on-spec : {M : Type 1} → statement M
 move-on-spec =

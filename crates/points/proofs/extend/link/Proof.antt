@@ -14,8 +14,8 @@ storing-requires : tie.Need-storing-requires
 storing-requires c κs = search needs
 
 returns : tie.Need-returns
-returns c m table text = let a = c .before .before .before .args in
-    rw (c .storing .ensures, c .before .linked-head .ensures) (link-settles m (a .shared) (a .head) table text)
+returns c m s table text = let a = c .before .before .before .args in
+    rw (c .storing .ensures, c .before .linked-head .ensures) (link-settles m s (a .head) table text)
 
 pub link-spec : {M : Type 1} → statement M
 link-spec = tie.close (tie.spec cast-zeroing linked-head-requires storing-requires returns)

@@ -18,10 +18,10 @@ storing-requires : tie.Need-storing-requires
 storing-requires c κs = search needs
 
 returns : tie.Need-returns
-returns c m table text =
+returns c m s table text =
     let turned = c .before .before .turned in
     let a = c .before .before .before .before .args in
-    rw (c .storing .ensures, c .before .writing .ensures, turned .ensures) (zero-settles m (a .shared) (a .head) table text (omega arith))
+    rw (c .storing .ensures, c .before .writing .ensures, turned .ensures) (zero-settles m s (a .head) table text (omega arith))
 
 pub zero-out-spec : {M : Type 1} → statement M
 zero-out-spec =

@@ -16,15 +16,6 @@ is-idle-requires c κs = search needs
 returns : tie.Need-returns
 returns c = let a = c .before .before .before .args in held-idle (a .map .now) (a .write) (sym (c .before .is-idle .ensures) ∙ c .if1 .taken)
 
-cast-free-run : tie.Need-cast-free-run
-cast-free-run c = search needs
-
-span-requires : tie.Need-span-requires
-span-requires c κs = search needs
-
-cast-free-run-2 : tie.Need-cast-free-run-2
-cast-free-run-2 c = search needs
-
 free-run-requires : tie.Need-free-run-requires
 free-run-requires c κs = search needs
 
@@ -43,8 +34,8 @@ same-length c = search needs
 returns-2 : tie.Need-returns-2
 returns-2 c =
     let f = c .before .before .before .before .before .before .before .before .before in
-    let a = f .before .before .before .before .before .before .before .args in
-    held-both (a .map .now) (a .write) (busy (f .before .before .before .before)) _ (f .before .span .ensures) _ (f .free-run .ensures) _
+    let a = f .before .before .before .before .before .args in
+    held-both (a .map .now) (a .write) (busy (f .before .before)) _ (f .free-run .ensures) _
     (sym (c .before .before .before .before .before .before .is-zeroing .ensures) ∙ c .before .before .before .before .before .if2 .taken) (c .before .before .free-block .ensures)
 
 same-length-2 : tie.Need-same-length-2
@@ -53,8 +44,8 @@ same-length-2 c = search needs
 returns-3 : tie.Need-returns-3
 returns-3 c =
     let f = c .before .before .before .before in
-    let a = f .before .before .before .before .before .before .before .args in
-    held-run (a .map .now) (a .write) (busy (f .before .before .before .before)) _ (f .before .span .ensures) _ (f .free-run .ensures)
+    let a = f .before .before .before .before .before .args in
+    held-run (a .map .now) (a .write) (busy (f .before .before)) _ (f .free-run .ensures)
     (sym (c .before .is-zeroing .ensures) ∙ c .if2 .left)
 
 pub free-held-spec : {M : Type 1} → statement M
@@ -63,9 +54,6 @@ free-held-spec =
     (tie.spec
     is-idle-requires
     returns
-    cast-free-run
-    span-requires
-    cast-free-run-2
     free-run-requires
     is-zeroing-requires
     cast-free-block

@@ -8,8 +8,8 @@ resting-requires : tie.Need-resting-requires
 resting-requires c κs = search needs
 
 returns : tie.Need-returns
-returns c m table text = let a = c .before .args in
-    rw (c .resting .ensures) (refused-settles m (a .shared) (a .head) table text (a .number))
+returns c m s table text = let a = c .before .args in
+    rw (c .resting .ensures) (refused-settles m s (a .head) table text (a .number))
 
 pub refused-spec : {M : Type 1} → statement M
 refused-spec = tie.close (tie.spec resting-requires returns)

@@ -1,20 +1,23 @@
--- `points::record::bad_shared` meets its contract: its tests are those of the list, from the first on. Assumes nothing.
+-- `points::record::bad_shared`: by its numbers. Assumes nothing.
+use mathlib.Core.Path.{_∙_, ap}
+use Rattle.words.specs.Edition.{one}
+use Rattle.points.specs.declared.Numbers.{Numbers}
+use Rattle.points.specs.Record.{badShared}
+use Rattle.points.specs.Plan.{sharedOf}
 use borrow.Author.Needs.{needs}
-use Rattle.points.proofs.Fits.{shared-tests}
 use Rattle.points.proofs.record.bad_shared.Statement.{statement}
 use Rattle.points.proofs.record.bad_shared.Tie as tie
 
-between-requires : tie.Need-between-requires
-between-requires c κs = search needs
+numbers-requires : tie.Need-numbers-requires
+numbers-requires c κs = search needs
 
-cast-result : tie.Need-cast-result
-cast-result c = search needs
-
-mul-result : tie.Need-mul-result
-mul-result c = search needs
+bad-numbers-requires : tie.Need-bad-numbers-requires
+bad-numbers-requires c κs = search needs
 
 returns : tie.Need-returns
-returns c = let a = c .before .before .before .before .before .args in cc (shared-tests (a .image .now) (a .shared))
+returns c =
+    let a = c .before .before .before .args in
+    c .bad-numbers .ensures (a .shared .taken) ∙ ap (λ (n : Numbers). badShared one (a .image .now) (sharedOf n (a .shared .taken))) (c .before .numbers .ensures)
 
 pub bad-shared-spec : {M : Type 1} → statement M
-bad-shared-spec = tie.close (tie.spec between-requires cast-result mul-result returns)
+bad-shared-spec = tie.close (tie.spec numbers-requires bad-numbers-requires returns)

@@ -1,44 +1,23 @@
--- `points::record::unfit` meets its contract: each reason is asked where the ones before it failed. Assumes nothing.
-use mathlib.Core.Path.{_≡_, sym, _∙_}
-use mathlib.Core.Bool.{true, false}
-use borrow.Author.Needs.{needs}
-use borrow.Author.Tests.{not-true, not-false}
+-- `points::record::unfit`: by the shared record's numbers. Assumes nothing.
+use mathlib.Core.Path.{_∙_, ap}
 use Rattle.words.specs.Edition.{one}
-use Rattle.points.specs.Record.{badShared, fits}
+use Rattle.points.specs.declared.Numbers.{Numbers}
 use Rattle.points.specs.Unfit.{unfit}
+use Rattle.points.specs.Plan.{sharedOf}
+use borrow.Author.Needs.{needs}
 use Rattle.points.proofs.record.unfit.Statement.{statement}
 use Rattle.points.proofs.record.unfit.Tie as tie
 
-not-10 : (c : tie.Else1) → let a = c .before .before .before .args in badShared one (a .image .now) (a .shared) ≡ false
-not-10 c = sym (c .before .bad-shared .ensures) ∙ c .if1 .left
+numbers-requires : tie.Need-numbers-requires
+numbers-requires c κs = search needs
 
-not-11 : (c : tie.Else2) → let a = c .before .before .before .before .before .args in fits one (a .shared .blocks) (a .head) (a .table .now) ≡ true
-not-11 c = sym (c .before .fits2 .ensures) ∙ not-false _ (c .if2 .left)
-
-bad-shared-requires : tie.Need-bad-shared-requires
-bad-shared-requires c κs = search needs
+unfit-numbers-requires : tie.Need-unfit-numbers-requires
+unfit-numbers-requires c κs = search needs
 
 returns : tie.Need-returns
-unfolding unfit
-returns c = rw (sym (c .before .bad-shared .ensures) ∙ c .if1 .taken)
-
-fits-requires : tie.Need-fits-requires
-fits-requires c κs = search needs
-
-returns-2 : tie.Need-returns-2
-unfolding unfit
-returns-2 c = rw (not-10 (c .before .before), sym (c .before .fits2 .ensures) ∙ not-true _ (c .if2 .taken))
-
-is-joined-requires : tie.Need-is-joined-requires
-is-joined-requires c κs = search needs
-
-returns-3 : tie.Need-returns-3
-unfolding unfit
-returns-3 c = rw (not-10 (c .before .before .before .before), not-11 (c .before .before), sym (c .before .is-joined .ensures) ∙ not-true _ (c .if3 .taken))
-
-returns-4 : tie.Need-returns-4
-unfolding unfit
-returns-4 c = rw (not-10 (c .before .before .before .before), not-11 (c .before .before), sym (c .before .is-joined .ensures) ∙ not-false _ (c .if3 .left))
+returns c =
+    let a = c .before .before .before .args in
+    c .unfit-numbers .ensures (a .shared .taken) ∙ ap (λ (n : Numbers). unfit one (a .image .now) (sharedOf n (a .shared .taken)) (a .head) (a .table .now)) (c .before .numbers .ensures)
 
 pub unfit-spec : {M : Type 1} → statement M
-unfit-spec = tie.close (tie.spec bad-shared-requires returns fits-requires returns-2 is-joined-requires returns-3 returns-4)
+unfit-spec = tie.close (tie.spec numbers-requires unfit-numbers-requires returns)

@@ -1,25 +1,22 @@
--- `points::shared::search` meets its contract: the search on the map is the definition's, and what it finds lies within the block count. Assumes nothing.
-use native.Mathlib.Omega.{arith}
-use mathlib.Core.Path.{_∙_}
+-- `points::shared::search`: in its map, by its numbers. Assumes nothing.
+use mathlib.Core.Path.{_∙_, ap}
+use Rattle.points.specs.declared.Numbers.{Numbers}
+use Rattle.points.specs.Search as search
+use Rattle.points.specs.Plan.{sharedOf}
 use borrow.Author.Needs.{needs}
-use Rattle.points.proofs.Takes.{search-is, search-le}
 use Rattle.points.proofs.shared.search.Statement.{statement}
 use Rattle.points.proofs.shared.search.Tie as tie
 
-cast-search : tie.Need-cast-search
-cast-search c = search needs
+numbers-requires : tie.Need-numbers-requires
+numbers-requires c κs = search needs
 
-cast-search-2 : tie.Need-cast-search-2
-cast-search-2 c = search needs
-
-search-requires : tie.Need-search-requires
-search-requires c κs = search needs
-
-cast-result : tie.Need-cast-result
-cast-result c = let a = c .before .before .before .before .args in record { fits = omega (arith, c .search .ensures, search-is (a .t1) (a .n), search-le (a .t1) (a .n)) }
+search-lent-requires : tie.Need-search-lent-requires
+search-lent-requires c κs = search needs
 
 returns : tie.Need-returns
-returns c = let a = c .before .before .before .before .args in c .search .ensures ∙ search-is (a .t1) (a .n)
+returns c =
+    let a = c .before .before .before .before .args in
+    c .search-lent .ensures ∙ ap (λ (n : Numbers). search.search (sharedOf n (a .t1 .taken)) (a .n)) (c .before .before .before .numbers .ensures)
 
 pub search-spec : {M : Type 1} → statement M
-search-spec = tie.close (tie.spec cast-search cast-search-2 search-requires cast-result returns)
+search-spec = tie.close (tie.spec numbers-requires search-lent-requires returns)

@@ -22,12 +22,12 @@ storing-requires : tie.Need-storing-requires
 storing-requires c κs = search needs
 
 returns : tie.Need-returns
-returns c =
+returns c s =
     let new-word = c .before .before .before .new-word in
     let turned = c .before .before .turned in
     let a = c .before .before .before .before .before .before .args in
     rw (c .storing .ensures, c .before .writing .ensures, turned .ensures, new-word .ensures)
-    (fill-settles (memory one (a .image .now)) (a .shared) (a .head) (a .table .now) (a .text .now) (a .k))
+    (fill-settles (memory one (a .image .now)) s (a .head) (a .table .now) (a .text .now) (a .k))
 
 pub fill-spec : {M : Type 1} → statement M
 fill-spec =

@@ -2,25 +2,25 @@
 use mathlib.Core.Path.{sym, _∙_}
 use Rattle.words.specs.Edition.{one}
 use Rattle.words.specs.Memory.{memory}
-use Rattle.points.specs.Plan.{pointOf}
+use Rattle.points.specs.Plan.{pointOf, sharedOf}
 use Rattle.points.proofs.Planned.{settles-as}
 use Rattle.points.proofs.Ready.{turned-down, none-under-way, under-way, goes-on}
 use borrow.Author.Needs.{needs}
 use Rattle.points.proofs.step.settle.Statement.{statement}
 use Rattle.points.proofs.step.settle.Tie as tie
 
-unfit-requires : tie.Need-unfit-requires
-unfit-requires c κs = search needs
+unfit-numbers-requires : tie.Need-unfit-numbers-requires
+unfit-numbers-requires c κs = search needs
 
 refused-requires : tie.Need-refused-requires
 refused-requires c κs = search needs
 
 returns : tie.Need-returns
 returns c =
-    let unfit = c .before .before .unfit in
+    let unfit = c .before .before .unfit-numbers in
     let a = c .before .before .before .before .args in
     let m = memory one (a .image .now) in
-    settles-as (c .refused .ensures m (a .table .now) (a .text .now)) (turned-down (a .image .now) (a .shared) (pointOf (a .head) (a .table .now) (a .text .now)) (unfit .result) (unfit .ensures) (c .before .if1 .taken))
+    settles-as (c .refused .ensures m (sharedOf (a .numbers) (a .taken .now)) (a .table .now) (a .text .now)) (turned-down (a .image .now) (sharedOf (a .numbers) (a .taken .now)) (pointOf (a .head) (a .table .now) (a .text .now)) (unfit .result) (unfit .ensures (a .taken .now)) (c .before .if1 .taken))
 
 is-idle-requires : tie.Need-is-idle-requires
 is-idle-requires c κs = search needs
@@ -30,33 +30,33 @@ refused-requires-2 c κs = search needs
 
 returns-2 : tie.Need-returns-2
 returns-2 c =
-    let unfit = c .before .before .before .before .before .unfit in
+    let unfit = c .before .before .before .before .before .unfit-numbers in
     let if1 = c .before .before .before .before .if1 in
     let is-idle = c .before .before .is-idle in
     let a = c .before .before .before .before .before .before .before .args in
     let m = memory one (a .image .now) in
-    settles-as (c .refused2 .ensures m (a .table .now) (a .text .now)) (none-under-way (a .image .now) (a .shared) (pointOf (a .head) (a .table .now) (a .text .now)) (sym (unfit .ensures) ∙ if1 .left) (sym (is-idle .ensures) ∙ c .before .if2 .taken))
+    settles-as (c .refused2 .ensures m (sharedOf (a .numbers) (a .taken .now)) (a .table .now) (a .text .now)) (none-under-way (a .image .now) (sharedOf (a .numbers) (a .taken .now)) (pointOf (a .head) (a .table .now) (a .text .now)) (sym (unfit .ensures (a .taken .now)) ∙ if1 .left) (sym (is-idle .ensures) ∙ c .before .if2 .taken))
 
 write-on-requires : tie.Need-write-on-requires
 write-on-requires c κs =
-    let unfit = c .before .before .before .before .unfit in
+    let unfit = c .before .before .before .before .unfit-numbers in
     let if1 = c .before .before .before .if1 in
     let a = c .before .before .before .before .before .before .args in
-    under-way (a .image .now) (a .shared) (pointOf (a .head) (a .table .now) (a .text .now)) (sym (unfit .ensures) ∙ if1 .left) (sym (c .before .is-idle .ensures) ∙ c .if2 .left)
+    under-way (a .image .now) (sharedOf (a .numbers) (a .taken .now)) (pointOf (a .head) (a .table .now) (a .text .now)) (sym (unfit .ensures (a .taken .now)) ∙ if1 .left) (sym (c .before .is-idle .ensures) ∙ c .if2 .left)
 
 returns-3 : tie.Need-returns-3
 returns-3 c =
-    let unfit = c .before .before .before .before .before .unfit in
+    let unfit = c .before .before .before .before .before .unfit-numbers in
     let if1 = c .before .before .before .before .if1 in
     let is-idle = c .before .before .is-idle in
     let a = c .before .before .before .before .before .before .before .args in
-    settles-as (c .write-on .ensures) (goes-on (a .image .now) (a .shared) (pointOf (a .head) (a .table .now) (a .text .now)) (under-way (a .image .now) (a .shared) (pointOf (a .head) (a .table .now) (a .text .now)) (sym (unfit .ensures) ∙ if1 .left) (sym (is-idle .ensures) ∙ c .before .if2 .left)))
+    settles-as (c .write-on .ensures) (goes-on (a .image .now) (sharedOf (a .numbers) (a .taken .now)) (pointOf (a .head) (a .table .now) (a .text .now)) (under-way (a .image .now) (sharedOf (a .numbers) (a .taken .now)) (pointOf (a .head) (a .table .now) (a .text .now)) (sym (unfit .ensures (a .taken .now)) ∙ if1 .left) (sym (is-idle .ensures) ∙ c .before .if2 .left)))
 
 pub settle-spec : {M : Type 1} → statement M
 settle-spec =
     tie.close
     (tie.spec
-    unfit-requires
+    unfit-numbers-requires
     refused-requires
     returns
     is-idle-requires

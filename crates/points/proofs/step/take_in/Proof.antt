@@ -28,6 +28,12 @@ enum-told-4 c = search needs
 catch-up-requires : tie.Need-catch-up-requires
 catch-up-requires c κs = search needs
 
+enum-told-5 : tie.Need-enum-told-5
+enum-told-5 c = search needs
+
+enum-told-6 : tie.Need-enum-told-6
+enum-told-6 c = search needs
+
 returns : tie.Need-returns
 unfolding fileAfter
 returns c = let a = c .before .before .before .args in
@@ -58,6 +64,16 @@ returns-4 c =
     c .catch-up .ensures (f .0) (f .1)
     ∙ ap (λ (x : Change). fileAfter x one (memory one (a .image .now)) (a .blocks) (a .head .place) (a .entry) (fileAt (a .head) (a .table .now))) (sym (enum-told4 .given .1))
 
+returns-5 : tie.Need-returns-5
+unfolding fileAfter
+returns-5 c = let a = c .before .before .before .args in
+    ap (λ (x : Change). fileAfter x one (memory one (a .image .now)) (a .blocks) (a .head .place) (a .entry) (fileAt (a .head) (a .table .now))) (sym (c .enum-told5 .given .1))
+
+returns-6 : tie.Need-returns-6
+unfolding fileAfter
+returns-6 c = let a = c .before .before .before .args in
+    ap (λ (x : Change). fileAfter x one (memory one (a .image .now)) (a .blocks) (a .head .place) (a .entry) (fileAt (a .head) (a .table .now))) (sym (c .enum-told6 .given .1))
+
 pub take-in-spec : {M : Type 1} → statement M
 take-in-spec =
     tie.close
@@ -68,7 +84,11 @@ take-in-spec =
     take-entry-requires
     enum-told-4
     catch-up-requires
+    enum-told-5
+    enum-told-6
     returns
     returns-2
     returns-3
-    returns-4)
+    returns-4
+    returns-5
+    returns-6)

@@ -2,7 +2,7 @@
 use mathlib.Core.Path.{sym, _∙_}
 use Rattle.words.specs.Edition.{one}
 use Rattle.words.specs.Memory.{memory}
-use Rattle.points.specs.Plan.{pointOf}
+use Rattle.points.specs.Plan.{pointOf, sharedOf}
 use Rattle.points.proofs.Planned.{settles-as}
 use Rattle.points.proofs.Ready.{ready-zeroing}
 use Rattle.points.proofs.Ways.{on-zeroing, on-filling}
@@ -17,7 +17,7 @@ extending-requires : tie.Need-extending-requires
 extending-requires c κs =
     let pre = c .before .before .before .before .pre in
     let a = c .before .before .before .before .args in
-    let z = ready-zeroing (a .image .now) (a .shared) (a .head) (a .table .now) pre (sym (c .before .is-zeroing .ensures) ∙ c .if1 .taken) in
+    let z = ready-zeroing (a .image .now) (sharedOf (a .numbers) (a .taken .now)) (a .head) (a .table .now) pre (sym (c .before .is-zeroing .ensures) ∙ c .if1 .taken) in
     z .passed-few
 
 returns : tie.Need-returns
@@ -25,7 +25,7 @@ returns c =
     let is-zeroing = c .before .before .is-zeroing in
     let a = c .before .before .before .before .before .args in
     let m = memory one (a .image .now) in
-    settles-as (c .extending .ensures (a .table .now) (a .text .now)) (on-zeroing m (a .shared) (pointOf (a .head) (a .table .now) (a .text .now)) (sym (is-zeroing .ensures) ∙ c .before .if1 .taken))
+    settles-as (c .extending .ensures (sharedOf (a .numbers) (a .taken .now)) (a .table .now) (a .text .now)) (on-zeroing m (sharedOf (a .numbers) (a .taken .now)) (pointOf (a .head) (a .table .now) (a .text .now)) (sym (is-zeroing .ensures) ∙ c .before .if1 .taken))
 
 filling-requires : tie.Need-filling-requires
 filling-requires c κs =
@@ -37,7 +37,7 @@ returns-2 c =
     let is-zeroing = c .before .before .is-zeroing in
     let a = c .before .before .before .before .before .args in
     let m = memory one (a .image .now) in
-    settles-as (c .filling .ensures) (on-filling m (a .shared) (pointOf (a .head) (a .table .now) (a .text .now)) (sym (is-zeroing .ensures) ∙ c .before .if1 .left))
+    settles-as (c .filling .ensures) (on-filling m (sharedOf (a .numbers) (a .taken .now)) (pointOf (a .head) (a .table .now) (a .text .now)) (sym (is-zeroing .ensures) ∙ c .before .if1 .left))
 
 pub write-on-spec : {M : Type 1} → statement M
 write-on-spec =

@@ -1,4 +1,4 @@
--- `points::commit::free_replaced`: what is left to free makes of the map so far what the whole list makes of the first.
+-- `points::claim::free_mapped_from`: what is left to free makes of the map so far what the whole list makes of the first.
 use mathlib.Core.Path.{_≡_, refl, _∙_}
 use native.Mathlib.Omega.{arith}
 use Prim.Native.Nat.{_+_}
@@ -7,8 +7,8 @@ use lib.ListN.{length, take, drop}
 use Rattle.words.specs.BlockMap.{markAll}
 use Rattle.points.proofs.Commits.{freed-one, freed-all}
 use borrow.Author.Needs.{needs}
-use Rattle.points.proofs.commit.free_replaced.Statement.{statement}
-use Rattle.points.proofs.commit.free_replaced.Tie as tie
+use Rattle.points.proofs.claim.free_mapped_from.Statement.{statement}
+use Rattle.points.proofs.claim.free_mapped_from.Tie as tie
 
 abbrev Inv-loop : tie.InvT-loop
 Inv-loop map₀ table v n at₀ left₀ map at left =
@@ -52,8 +52,8 @@ returns c = let a = c .before .before .before .args in
     let l = c .before .loop in
     freed-all (a .map .now) (l .map) (a .table .now) (a .n) (a .v) (l .left) (l .at) (omega arith) (l .inv .1)
 
-pub free-replaced-spec : {M : Type 1} → statement M
-free-replaced-spec =
+pub free-mapped-from-spec : {M : Type 1} → statement M
+free-mapped-from-spec =
     tie.close
     (tie.spec
     Inv-loop
