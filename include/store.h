@@ -86,9 +86,9 @@ enum {
 /* The shared record of an opened image: one for all points. Opening makes it; loss of power may take it. */
 typedef struct store_shared {
     uint32_t blocks;     /* the image's blocks */
-    uint64_t taken[16];  /* a bit for each block that is taken */
     uint32_t joined;     /* a bit for each point that is joined */
     uint32_t next;       /* where the search for free blocks begins */
+    uint64_t taken[16];  /* a bit for each block that is taken */
 } store_shared;
 
 /* The numbers of a point's record. */
@@ -100,7 +100,7 @@ typedef struct store_head {
     uint32_t run;                  /* the first of the blocks that are being filled */
     uint32_t phase, position;
     uint32_t zeroing;              /* the log block being zeroed */
-    uint16_t retries;
+    uint32_t retries;              /* how often the write was moved, at most 65,535 */
 } store_head;
 
 /* A point's record: one for each point. Joining makes it; loss of power may take it. */
@@ -125,43 +125,22 @@ typedef struct store_count {
     uint32_t refused, count;
 } store_count;
 
-/* The exported functions. Records of numbers go in and come back by value, arrays are lent; the calls further down put the two together. */
+/* The functions that the library exports, besides store_lay_out and store_list; the calls below hand them the parts of both records: the numbers
+   of the shared record, its map, the twelve numbers of a point's, its table and its text. */
+store_opened store_lent_open(const uint64_t *image, size_t words, uint16_t *scratch, size_t places, uint32_t *shared, uint64_t *taken);
+uint32_t store_lent_join(const uint64_t *image, size_t words, uint32_t *shared, uint64_t *taken, uint32_t number, uint32_t *head, uint16_t *table,
+                         uint8_t *text);
+uint32_t store_lent_begin(const uint64_t *image, size_t words, uint32_t *shared, uint64_t *taken, uint32_t *head, uint16_t *table, uint8_t *text,
+                          size_t offset, const uint8_t *bytes, size_t size);
+store_answer store_lent_step(uint64_t *image, size_t words, uint32_t *shared, uint64_t *taken, uint32_t *head, uint16_t *table, uint8_t *text);
+uint32_t store_lent_leave(const uint64_t *image, size_t words, uint32_t *shared, uint64_t *taken, const uint32_t *head, const uint16_t *table);
+store_count store_lent_read(const uint64_t *image, size_t words, const uint32_t *shared, const uint64_t *taken, const uint32_t *head,
+                            const uint16_t *table, size_t offset, uint8_t *buffer, size_t room);
+store_count store_lent_locate(const uint64_t *image, size_t words, const uint32_t *shared, const uint64_t *taken, const uint32_t *head,
+                              const uint16_t *table, size_t block);
 
-typedef struct store_lent_opened {
-    store_opened opened;
-    store_shared shared;
-} store_lent_opened;
-
-typedef struct store_lent_step {
-    store_answer answer;
-    store_shared shared;
-    store_head head;
-} store_lent_step;
-
-typedef struct store_lent_point {
-    uint32_t refused;
-    store_shared shared;
-    store_head head;
-} store_lent_point;
-
-typedef struct store_lent_left {
-    uint32_t refused;
-    store_shared shared;
-} store_lent_left;
-
-store_lent_opened store_lent_open(const uint64_t *image, size_t words, uint16_t *scratch, size_t places);
-store_lent_point store_lent_join(const uint64_t *image, size_t words, store_shared shared, uint32_t number,
-                                 uint16_t table[256], uint8_t text[1024]);
-store_lent_point store_lent_begin(const uint64_t *image, size_t words, store_shared shared, store_head head,
-                                  uint16_t table[256], uint8_t text[1024], size_t offset, const uint8_t *bytes, size_t size);
-store_lent_step store_lent_step_on(uint64_t *image, size_t words, store_shared shared, store_head head,
-                                   uint16_t table[256], uint8_t text[1024]);
-store_lent_left store_lent_leave(const uint64_t *image, size_t words, store_shared shared, store_head head,
-                                 const uint16_t table[256]);
-store_count store_lent_read(const uint64_t *image, size_t words, store_shared shared, store_head head,
-                            const uint16_t table[256], size_t offset, uint8_t *buffer, size_t room);
-store_count store_lent_locate(const uint64_t *image, size_t words, store_shared shared, store_head head,
-                              const uint16_t table[256], size_t block);
+/* The numbers of a record stand side by side. */
+typedef char store_numbers_fit[offsetof(store_shared, next) == 2 * sizeof(uint32_t) && sizeof(store_head) == 12 * sizeof(uint32_t) ? 1 : -1];
 
 /* ---- The calls. */
 
@@ -175,9 +154,7 @@ uint32_t store_lay_out(uint64_t *image, size_t words);
    later call refuses. Refusals: 1 to 9. Refused by 1 to 7 it leaves the scratch as it was, by 8 and 9 zeros in its first 1,024 places. */
 static inline store_opened store_open(const uint64_t *image, size_t words, uint16_t *scratch, size_t places, store_shared *shared)
 {
-    store_lent_opened left = store_lent_open(image, words, scratch, places);
-    *shared = left.shared;
-    return left.opened;
+    return store_lent_open(image, words, scratch, places, (uint32_t *)shared, shared->taken);
 }
 
 /* Lists an image: opens it, and says for each of the file's 256 blocks which block of the image holds it, 0 for none and where it is refused.
@@ -189,10 +166,7 @@ store_opened store_list(const uint64_t *image, size_t words, uint16_t *scratch, 
    Refusals: 10, 12, 13, 18. */
 static inline uint32_t store_join(const uint64_t *image, size_t words, store_shared *shared, uint32_t number, store_point *point)
 {
-    store_lent_point left = store_lent_join(image, words, *shared, number, point->table, point->text);
-    *shared = left.shared;
-    point->head = left.head;
-    return left.refused;
+    return store_lent_join(image, words, (uint32_t *)shared, shared->taken, number, (uint32_t *)&point->head, point->table, point->text);
 }
 
 /* Begins a write of `size` bytes, 1 to 1,024, from byte `offset` of the file on. Nothing of it shows before a step answers STORE_COMMITTED.
@@ -201,10 +175,7 @@ static inline uint32_t store_join(const uint64_t *image, size_t words, store_sha
 static inline uint32_t store_begin(const uint64_t *image, size_t words, store_shared *shared, store_point *point, size_t offset,
                                    const uint8_t *bytes, size_t size)
 {
-    store_lent_point left = store_lent_begin(image, words, *shared, point->head, point->table, point->text, offset, bytes, size);
-    *shared = left.shared;
-    point->head = left.head;
-    return left.refused;
+    return store_lent_begin(image, words, (uint32_t *)shared, shared->taken, (uint32_t *)&point->head, point->table, point->text, offset, bytes, size);
 }
 
 /* A step of the point's write: at most one word of the image is stored. Step on until STORE_COMMITTED or STORE_REFUSED; a point that steps alone
@@ -212,19 +183,14 @@ static inline uint32_t store_begin(const uint64_t *image, size_t words, store_sh
    Lent: the image and both records. Refusals, as value of STORE_REFUSED: 10, 11, 14, 15, 18, 20, 21; the last two end the write. */
 static inline store_answer store_step(uint64_t *image, size_t words, store_shared *shared, store_point *point)
 {
-    store_lent_step left = store_lent_step_on(image, words, *shared, point->head, point->table, point->text);
-    *shared = left.shared;
-    point->head = left.head;
-    return left.answer;
+    return store_lent_step(image, words, (uint32_t *)shared, shared->taken, (uint32_t *)&point->head, point->table, point->text);
 }
 
 /* The point leaves; a write that was under way is given up, and its blocks become free.
    Lent: the image, the shared record, and the point's record, which is of no use afterwards. Refusals: 10, 11, 14. */
 static inline uint32_t store_leave(const uint64_t *image, size_t words, store_shared *shared, const store_point *point)
 {
-    store_lent_left left = store_lent_leave(image, words, *shared, point->head, point->table);
-    *shared = left.shared;
-    return left.refused;
+    return store_lent_leave(image, words, (uint32_t *)shared, shared->taken, (const uint32_t *)&point->head, point->table);
 }
 
 /* Reads the file from byte `offset` on into the buffer: as many bytes as fit and as the file has from there on; none at or past its end. All that
@@ -234,14 +200,14 @@ static inline uint32_t store_leave(const uint64_t *image, size_t words, store_sh
 static inline store_count store_read(const uint64_t *image, size_t words, const store_shared *shared, const store_point *point, size_t offset,
                                      uint8_t *buffer, size_t room)
 {
-    return store_lent_read(image, words, *shared, point->head, point->table, offset, buffer, room);
+    return store_lent_read(image, words, (const uint32_t *)shared, shared->taken, (const uint32_t *)&point->head, point->table, offset, buffer, room);
 }
 
 /* Says which block of the image holds block `block` of the file, 0 to 255.
    Lent: the image and both records. Answers its number, 0 where it is refused. Refusals: 10, 11, 14, 17, 18, 22. */
 static inline store_count store_locate(const uint64_t *image, size_t words, const store_shared *shared, const store_point *point, size_t block)
 {
-    return store_lent_locate(image, words, *shared, point->head, point->table, block);
+    return store_lent_locate(image, words, (const uint32_t *)shared, shared->taken, (const uint32_t *)&point->head, point->table, block);
 }
 
 /* The 64 words of block `block` of the file where they lie in the image, or a null pointer exactly where locating is refused. They stay the

@@ -1,14 +1,17 @@
 -- A phase and its number, a head and its numbers: nothing is lost on the way to C and back. Assumes nothing.
-use Prim.Native.Nat.{ℕ, zero, suc}
-use mathlib.Core.Path.{_≡_, refl, ap}
+use Prim.Native.Nat.{ℕ, zero, suc, _≤_}
+use native.Mathlib.Omega.{arith}
+use mathlib.Core.Path.{_≡_, refl, sym, ap}
 use mathlib.Core.Logic.{_≢_}
 use mathlib.Core.Bool.{true}
+use mathlib.Core.List.{List, [], _∷_}
+use borrow.Author.Tests.{leb-true}
+use Rattle.words.proofs.Logic.{and-left}
 use Rattle.points.specs.declared.Phase.{Phase}
 use Rattle.points.specs.declared.Phase.the-variants.{Idle, Filling, RefillFirst, RefillLast, RefillBoth, Zeroing}
-use Rattle.points.specs.declared.Head as points
+use Rattle.points.specs.declared.Head.{Head}
 use Rattle.points.specs.Record.{phaseNumber}
-use Rattle.c_api.specs.Numbers.{headNumbers, phaseFrom, headFrom}
-use Rattle.c_api.specs.Calls.{hasPhase}
+use Rattle.c_api.specs.Numbers.{headNumbers, phaseFrom, headFrom, isKnown}
 
 pub phase-back : (p : Phase) → phaseFrom (phaseNumber p) ≡ p
 phase-back Idle = refl
@@ -19,28 +22,8 @@ phase-back RefillBoth = refl
 phase-back Zeroing = refl
 
 -- a head that a call hands back is the head that the next call is handed
-pub head-back : (h : points.Head) → headFrom (headNumbers h) ≡ h
-head-back h =
-    ap
-    (λ (p : Phase).
-    record {
-      number = h .number;
-      length = h .length;
-      place = h .place;
-      write = record { offset = h .write .offset; size = h .write .size; run = h .write .run; phase = p; position = h .write .position; zeroing = h .write .zeroing; retries = h .write .retries };
-    })
-    (phase-back (h .write .phase))
-
-pub has-phase : (h : points.Head) → hasPhase (headNumbers h) ≡ true
-has-phase h = known (h .write .phase)
-  where
-    known : (p : Phase) → hasPhase (headNumbers (record { number = 0; length = 0; place = h .place; write = record { offset = 0; size = 0; run = 0; phase = p; position = 0; zeroing = 0; retries = 0 } })) ≡ true
-    known Idle = refl
-    known Filling = refl
-    known RefillFirst = refl
-    known RefillLast = refl
-    known RefillBoth = refl
-    known Zeroing = refl
+pub head-back : (h : Head) → headFrom (headNumbers h) ≡ h
+head-back h = rw (phase-back (h .write .phase))
 
 -- a number that is none of 0 to 4
 pub phase-last : (n : ℕ) → n ≢ 0 → n ≢ 1 → n ≢ 2 → n ≢ 3 → n ≢ 4 → Zeroing ≡ phaseFrom n
@@ -50,3 +33,17 @@ phase-last (suc (suc zero)) a b c d e = absurd (c refl)
 phase-last (suc (suc (suc zero))) a b c d e = absurd (d refl)
 phase-last (suc (suc (suc (suc zero)))) a b c d e = absurd (e refl)
 phase-last (suc (suc (suc (suc (suc n))))) a b c d e = refl
+
+-- and numbers that are a head's stay as they are where a call changes nothing
+number-back : (n : ℕ) → n ≤ 5 → phaseNumber (phaseFrom n) ≡ n
+number-back zero l = refl
+number-back (suc zero) l = refl
+number-back (suc (suc zero)) l = refl
+number-back (suc (suc (suc zero))) l = refl
+number-back (suc (suc (suc (suc zero)))) l = refl
+number-back (suc (suc (suc (suc (suc n))))) l = let e : suc (suc (suc (suc (suc n)))) ≡ 5 = omega arith in sym e
+
+pub numbers-back :
+    (a b c d e f g h phase i j k : ℕ) → let xs = a ∷ b ∷ c ∷ d ∷ e ∷ f ∷ g ∷ h ∷ phase ∷ i ∷ j ∷ k ∷ [] in
+    isKnown xs ≡ true → headNumbers (headFrom xs) ≡ xs
+numbers-back a b c d e f g h phase i j k known = rw (number-back phase (leb-true phase 5 (and-left _ _ known)))

@@ -1,3 +1,3 @@
--- Laws of the calls in numbers. Heads: a head and its numbers, a phase and its number. Calls: the ways out of each call.
+-- Laws of the calls in numbers. Heads: a record and its numbers. Calls: the ways out of each call.
 pub mod Heads
 pub mod Calls

@@ -1,21 +1,24 @@
 -- Answers and records in numbers, as C has them.
 use Prim.Native.Nat.{ℕ, zero, suc}
+use mathlib.Core.Bool.{Bool, _&&_}
+use mathlib.Core.List.{List, [], _∷_}
+use lib.ListN.{getD}
+use lib.Dec.{leb}
 use Rattle.log.specs.declared.Shared.{Shared}
-use Rattle.log.specs.declared.Reply.{Reply}
 use Rattle.log.specs.declared.Opened as log
 use Rattle.log.specs.Opening.{numberOf}
 use Rattle.points.specs.declared.Phase.{Phase}
 use Rattle.points.specs.declared.Phase.the-variants.{Idle, Filling, RefillFirst, RefillLast, RefillBoth, Zeroing}
 use Rattle.points.specs.declared.StepAnswer.{StepAnswer}
-use Rattle.points.specs.declared.Head as points
+use Rattle.points.specs.declared.Head.{Head}
+use Rattle.points.specs.declared.Numbers.{Numbers}
 use Rattle.points.specs.declared.Count as counted
 use Rattle.points.specs.Record.{phaseNumber}
 use Rattle.points.specs.Stepping.{stepKind, stepValue}
-use Rattle.c_api.specs.declared.Head.{Head}
+use Rattle.points.specs.Plan.{sharedOf}
 use Rattle.c_api.specs.declared.Opened.{Opened}
 use Rattle.c_api.specs.declared.Answer.{Answer}
 use Rattle.c_api.specs.declared.Count.{Count}
-use Rattle.c_api.specs.declared.LentPoint.{LentPoint}
 
 abbrev pub answerNumbers : StepAnswer → Answer
 answerNumbers step = record { kind = stepKind step; value = stepValue step }
@@ -26,25 +29,11 @@ openedNumbers o = record { refused = numberOf (o .reply); length = o .length; en
 abbrev pub countNumbers : counted.Count → Count
 countNumbers c = record { refused = numberOf (c .reply); count = c .count }
 
-abbrev pub headNumbers : points.Head → Head
+-- a head's numbers, in the order of C's record
+abbrev pub headNumbers : Head → List ℕ
 headNumbers h =
-    record {
-      number = h .number;
-      length = h .length;
-      block = h .place .block;
-      slot = h .place .slot;
-      passed = h .place .passed;
-      offset = h .write .offset;
-      size = h .write .size;
-      run = h .write .run;
-      phase = phaseNumber (h .write .phase);
-      position = h .write .position;
-      zeroing = h .write .zeroing;
-      retries = h .write .retries;
-    }
-
-abbrev pub pointNumbers : Reply → Shared → points.Head → LentPoint
-pointNumbers reply s h = record { refused = numberOf reply; shared = s; head = headNumbers h }
+    h .number ∷ h .length ∷ h .place .block ∷ h .place .slot ∷ h .place .passed ∷ h .write .offset ∷ h .write .size ∷ h .write .run
+    ∷ phaseNumber (h .write .phase) ∷ h .write .position ∷ h .write .zeroing ∷ h .write .retries ∷ []
 
 -- the phase of a number; it is asked for numbers up to 5
 abbrev pub phaseFrom : ℕ → Phase
@@ -55,11 +44,34 @@ phaseFrom (suc (suc (suc zero))) = RefillLast
 phaseFrom (suc (suc (suc (suc zero)))) = RefillBoth
 phaseFrom (suc (suc (suc (suc (suc n))))) = Zeroing
 
-abbrev pub headFrom : Head → points.Head
-headFrom h =
+abbrev pub headFrom : List ℕ → Head
+headFrom xs =
     record {
-      number = h .number;
-      length = h .length;
-      place = record { block = h .block; slot = h .slot; passed = h .passed };
-      write = record { offset = h .offset; size = h .size; run = h .run; phase = phaseFrom (h .phase); position = h .position; zeroing = h .zeroing; retries = h .retries };
+      number = getD xs 0 0;
+      length = getD xs 1 0;
+      place = record { block = getD xs 2 0; slot = getD xs 3 0; passed = getD xs 4 0 };
+      write =
+          record {
+            offset = getD xs 5 0;
+            size = getD xs 6 0;
+            run = getD xs 7 0;
+            phase = phaseFrom (getD xs 8 0);
+            position = getD xs 9 0;
+            zeroing = getD xs 10 0;
+            retries = getD xs 11 0;
+          };
     }
+
+-- whether numbers are those of a head: the phase is one of six, and the retry count is at most 65,535
+abbrev pub isKnown : List ℕ → Bool
+isKnown xs = leb (getD xs 8 0) 5 && leb (getD xs 11 0) 65535
+
+-- the shared record's numbers, beside its map
+abbrev pub sharedNumbers : Shared → List ℕ
+sharedNumbers s = s .blocks ∷ s .joined ∷ s .next ∷ []
+
+abbrev pub leadFrom : List ℕ → Numbers
+leadFrom xs = record { blocks = getD xs 0 0; joined = getD xs 1 0; next = getD xs 2 0 }
+
+abbrev pub sharedFrom : List ℕ → List ℕ → Shared
+sharedFrom xs taken = sharedOf (leadFrom xs) taken

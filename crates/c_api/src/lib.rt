@@ -1,30 +1,14 @@
-// The calls for C, as include/store.h declares them: small records go in and come back by value, arrays are lent, and enums are numbers.
+// The calls for C, as include/store.h declares them. Records are lent as arrays, numbers and enums alike: `shared` is blocks, joined points and next place, `taken` the map;
+// `head` the twelve numbers of a point's record, beside `table` and `text`.
 ghost use mathlib.Core.Path.{_≡_};
 ghost use lib.ListN.{length};
 ghost use Rattle.words.specs.Edition.{one};
 ghost use Rattle.log.specs.Opening.{layoutRefusal, layout, opened, scratchAfter};
 ghost use Rattle.log.specs.Listing.{rowsOf};
-ghost use Rattle.c_api.specs.Numbers.{openedNumbers};
+ghost use Rattle.c_api.specs.Numbers.{openedNumbers, sharedNumbers};
 ghost use Rattle.c_api.specs.Calls.{joinFor, beginFor, stepFor, leaveFor, readFor, bufferFor, locateFor};
-use log::Shared;
 
-// The numbers of a point's record.
-#[repr(C)]
-pub struct Head {
-    pub number: u32,
-    pub length: u32,
-    pub block: u32,
-    pub slot: u32,
-    pub passed: u32,
-    pub offset: u32,
-    pub size: u32,
-    pub run: u32,
-    pub phase: u32,
-    pub position: u32,
-    pub zeroing: u32,
-    pub retries: u16,
-}
-
+// What opening answers: the refusal's number, 0 for none, length and counts.
 #[repr(C)]
 pub struct Opened {
     pub refused: u32,
@@ -33,38 +17,14 @@ pub struct Opened {
     pub free: u32,
 }
 
-#[repr(C)]
-pub struct LentOpened {
-    pub opened: Opened,
-    pub shared: Shared,
-}
-
-#[repr(C)]
-pub struct LentPoint {
-    pub refused: u32,
-    pub shared: Shared,
-    pub head: Head,
-}
-
+// Which answer of a step it is, and its value.
 #[repr(C)]
 pub struct Answer {
     pub kind: u32,
     pub value: u32,
 }
 
-#[repr(C)]
-pub struct LentStep {
-    pub answer: Answer,
-    pub shared: Shared,
-    pub head: Head,
-}
-
-#[repr(C)]
-pub struct LentLeft {
-    pub refused: u32,
-    pub shared: Shared,
-}
-
+// What reading and locating answer.
 #[repr(C)]
 pub struct Count {
     pub refused: u32,
@@ -81,16 +41,21 @@ pub extern "C" fn store_lay_out(image: &mut [u64]) -> u32
 }
 
 #[no_mangle]
-pub extern "C" fn store_lent_open(image: &[u64], scratch: &mut [u16]) -> LentOpened
-    ensures { λ r. ⌜ (r .opened ≡ openedNumbers (opened one (now (image .entry)) (now (scratch .entry)))) × (r .shared ≡ opened one (now (image .entry)) (now (scratch .entry)) .shared)
-        × (now (scratch .exit) ≡ scratchAfter one (now (image .entry)) (now (scratch .entry))) ⌝ }
+pub extern "C" fn store_lent_open(
+    image: &[u64],
+    scratch: &mut [u16],
+    shared: &mut [u32; 3],
+    taken: &mut [u64; 16],
+) -> Opened
+    ensures { λ r. ⌜ (r ≡ openedNumbers (opened one (now (image .entry)) (now (scratch .entry)))) × (now (scratch .exit) ≡ scratchAfter one (now (image .entry)) (now (scratch .entry)))
+        × (now (shared .exit) ≡ sharedNumbers (opened one (now (image .entry)) (now (scratch .entry)) .shared)) × (now (taken .exit) ≡ opened one (now (image .entry)) (now (scratch .entry)) .shared .taken) ⌝ }
 {
     let opened = log::open::open(image, scratch);
-    let shared = opened.shared;
-    LentOpened {
-        opened: numbers::of_opened(opened),
-        shared,
-    }
+    let kept = opened.shared;
+    let map = kept.taken;
+    *shared = numbers::of_shared(kept);
+    *taken = map;
+    numbers::of_opened(opened)
 }
 
 #[no_mangle]
@@ -104,47 +69,51 @@ pub extern "C" fn store_list(image: &[u64], scratch: &mut [u16], rows: &mut [u16
 #[no_mangle]
 pub extern "C" fn store_lent_join(
     image: &[u64],
-    shared: Shared,
+    shared: &mut [u32; 3],
+    taken: &mut [u64; 16],
     number: u32,
+    head: &mut [u32; 12],
     table: &mut [u16; 256],
     text: &mut [u8; 1024],
-) -> LentPoint
-    ensures { λ r. ⌜ record { left = r; table = now (table .exit); text = now (text .exit) } ≡ joinFor (now (image .entry)) shared number ⌝ }
+) -> u32
+    ensures { λ r. ⌜ record { refused = r; shared = now (shared .exit); taken = now (taken .exit); head = now (head .exit); table = now (table .exit); text = now (text .exit) } ≡ joinFor (now (image .entry)) (now (shared .entry)) (now (taken .entry)) number ⌝ }
 {
-    let joined = points::join::join(image, shared, number);
+    let joined = points::join::join(image, numbers::shared(shared, taken), number);
     let reply = joined.reply;
     let kept = joined.shared;
+    let map = kept.taken;
     let point = joined.point;
+    let left = point.head;
     let own_table = point.table;
     let own_text = point.text;
+    *shared = numbers::of_shared(kept);
+    *taken = map;
+    *head = numbers::of_head(left);
     *table = own_table;
     *text = own_text;
-    let head = point.head;
-    numbers::of_point(reply, kept, head)
+    numbers::of_reply(reply)
 }
 
 #[no_mangle]
 pub extern "C" fn store_lent_begin(
     image: &[u64],
-    shared: Shared,
-    head: Head,
+    shared: &mut [u32; 3],
+    taken: &mut [u64; 16],
+    head: &mut [u32; 12],
     table: &mut [u16; 256],
     text: &mut [u8; 1024],
     offset: usize,
     bytes: &[u8],
-) -> LentPoint
-    ensures { λ r. ⌜ record { left = r; table = now (table .exit); text = now (text .exit) } ≡ beginFor (now (image .entry)) shared head (now (table .entry)) (now (text .entry)) offset (now (bytes .entry)) ⌝ }
+) -> u32
+    ensures { λ r. ⌜ record { refused = r; shared = now (shared .exit); taken = now (taken .exit); head = now (head .exit); table = now (table .exit); text = now (text .exit) }
+        ≡ beginFor (now (image .entry)) (now (shared .entry)) (now (taken .entry)) (now (head .entry)) (now (table .entry)) (now (text .entry)) offset (now (bytes .entry)) ⌝ }
 {
-    if 5 < head.phase {
-        return LentPoint {
-            refused: numbers::no_phase(image, shared),
-            shared,
-            head,
-        };
+    if !numbers::is_known(head) {
+        return numbers::unknown(image, shared);
     }
     let begun = points::begin::begin_lent(
         image,
-        shared,
+        numbers::shared(shared, taken),
         numbers::head(head),
         table,
         text,
@@ -153,89 +122,93 @@ pub extern "C" fn store_lent_begin(
     );
     let reply = begun.reply;
     let kept = begun.shared;
+    let map = kept.taken;
     let left = begun.head;
-    numbers::of_point(reply, kept, left)
+    *shared = numbers::of_shared(kept);
+    *taken = map;
+    *head = numbers::of_head(left);
+    numbers::of_reply(reply)
 }
 
 #[no_mangle]
-pub extern "C" fn store_lent_step_on(
+pub extern "C" fn store_lent_step(
     image: &mut [u64],
-    shared: Shared,
-    head: Head,
+    shared: &mut [u32; 3],
+    taken: &mut [u64; 16],
+    head: &mut [u32; 12],
     table: &mut [u16; 256],
     text: &mut [u8; 1024],
-) -> LentStep
-    ensures { λ r. ⌜ record { left = r; table = now (table .exit); text = now (text .exit); image = now (image .exit) } ≡ stepFor (now (image .entry)) shared head (now (table .entry)) (now (text .entry)) ⌝ }
+) -> Answer
+    ensures { λ r. ⌜ record { answer = r; shared = now (shared .exit); taken = now (taken .exit); head = now (head .exit); table = now (table .exit); text = now (text .exit); image = now (image .exit) }
+        ≡ stepFor (now (image .entry)) (now (shared .entry)) (now (taken .entry)) (now (head .entry)) (now (table .entry)) (now (text .entry)) ⌝ }
 {
-    if 5 < head.phase {
-        let refused = numbers::no_phase(image, shared);
-        return LentStep {
-            answer: Answer {
-                kind: 5,
-                value: refused,
-            },
-            shared,
-            head,
+    if !numbers::is_known(head) {
+        return Answer {
+            kind: 5,
+            value: numbers::unknown(image, shared),
         };
     }
-    let stepped = points::step::step_lent(image, shared, numbers::head(head), table, text);
+    let lead = numbers::lead(shared);
+    let stepped = points::step::step_lent(image, lead, taken, numbers::head(head), table, text);
     let step = stepped.step;
-    let kept = stepped.shared;
     let left = stepped.head;
-    LentStep {
-        answer: Answer {
-            kind: numbers::kind(step),
-            value: numbers::value(step),
-        },
-        shared: kept,
-        head: numbers::of_head(left),
+    *shared = [lead.blocks, lead.joined, stepped.next];
+    *head = numbers::of_head(left);
+    Answer {
+        kind: numbers::kind(step),
+        value: numbers::value(step),
     }
 }
 
 #[no_mangle]
 pub extern "C" fn store_lent_leave(
     image: &[u64],
-    shared: Shared,
-    head: Head,
+    shared: &mut [u32; 3],
+    taken: &mut [u64; 16],
+    head: &[u32; 12],
     table: &[u16; 256],
-) -> LentLeft
-    ensures { λ r. ⌜ r ≡ leaveFor (now (image .entry)) shared head (now (table .entry)) ⌝ }
+) -> u32
+    ensures { λ r. ⌜ record { refused = r; shared = now (shared .exit); taken = now (taken .exit) } ≡ leaveFor (now (image .entry)) (now (shared .entry)) (now (taken .entry)) (now (head .entry)) (now (table .entry)) ⌝ }
 {
-    if 5 < head.phase {
-        return LentLeft {
-            refused: numbers::no_phase(image, shared),
-            shared,
-        };
+    if !numbers::is_known(head) {
+        return numbers::unknown(image, shared);
     }
-    let left = points::leave::leave_lent(image, shared, numbers::head(head), table);
+    let left = points::leave::leave_lent(
+        image,
+        numbers::shared(shared, taken),
+        numbers::head(head),
+        table,
+    );
     let reply = left.reply;
     let kept = left.shared;
-    LentLeft {
-        refused: numbers::of_reply(reply),
-        shared: kept,
-    }
+    let map = kept.taken;
+    *shared = numbers::of_shared(kept);
+    *taken = map;
+    numbers::of_reply(reply)
 }
 
 #[no_mangle]
 pub extern "C" fn store_lent_read(
     image: &[u64],
-    shared: Shared,
-    head: Head,
+    shared: &[u32; 3],
+    taken: &[u64; 16],
+    head: &[u32; 12],
     table: &[u16; 256],
     offset: usize,
     buffer: &mut [u8],
 ) -> Count
-    ensures { λ r. ⌜ (r ≡ readFor (now (image .entry)) shared head (now (table .entry)) offset (length (now (buffer .entry)))) × (now (buffer .exit) ≡ bufferFor (now (image .entry)) shared head (now (table .entry)) offset (now (buffer .entry))) ⌝ }
+    ensures { λ r. ⌜ (r ≡ readFor (now (image .entry)) (now (shared .entry)) (now (taken .entry)) (now (head .entry)) (now (table .entry)) offset (length (now (buffer .entry))))
+        × (now (buffer .exit) ≡ bufferFor (now (image .entry)) (now (shared .entry)) (now (taken .entry)) (now (head .entry)) (now (table .entry)) offset (now (buffer .entry))) ⌝ }
 {
-    if 5 < head.phase {
+    if !numbers::is_known(head) {
         return Count {
-            refused: numbers::no_phase(image, shared),
+            refused: numbers::unknown(image, shared),
             count: 0,
         };
     }
     numbers::of_count(points::read::read_lent(
         image,
-        shared,
+        numbers::shared(shared, taken),
         numbers::head(head),
         table,
         offset,
@@ -246,18 +219,25 @@ pub extern "C" fn store_lent_read(
 #[no_mangle]
 pub extern "C" fn store_lent_locate(
     image: &[u64],
-    shared: Shared,
-    head: Head,
+    shared: &[u32; 3],
+    taken: &[u64; 16],
+    head: &[u32; 12],
     table: &[u16; 256],
     block: usize,
 ) -> Count
-    ensures { λ r. ⌜ r ≡ locateFor (now (image .entry)) shared head (now (table .entry)) block ⌝ }
+    ensures { λ r. ⌜ r ≡ locateFor (now (image .entry)) (now (shared .entry)) (now (taken .entry)) (now (head .entry)) (now (table .entry)) block ⌝ }
 {
-    if 5 < head.phase {
+    if !numbers::is_known(head) {
         return Count {
-            refused: numbers::no_phase(image, shared),
+            refused: numbers::unknown(image, shared),
             count: 0,
         };
     }
-    numbers::of_count(points::locate::locate_lent(image, shared, numbers::head(head), table, block))
+    numbers::of_count(points::locate::locate_lent(
+        image,
+        numbers::shared(shared, taken),
+        numbers::head(head),
+        table,
+        block,
+    ))
 }

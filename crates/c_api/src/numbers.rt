@@ -1,14 +1,14 @@
-// Enums and records in numbers, and a head from its numbers.
+// Enums and records in numbers, and records from their numbers.
 ghost use mathlib.Core.Path.{_≡_};
-ghost use Rattle.words.specs.Edition.{one};
+ghost use mathlib.Core.Bool.{true};
+ghost use mathlib.Core.List.{List};
+ghost use Prim.Native.Nat.{ℕ};
 ghost use Rattle.log.specs.Opening.{numberOf};
 ghost use Rattle.points.specs.Record.{phaseNumber};
 ghost use Rattle.points.specs.Stepping.{stepKind, stepValue};
-ghost use Rattle.c_api.specs.Numbers.{openedNumbers, pointNumbers, countNumbers, headNumbers, phaseFrom, headFrom};
-ghost use Rattle.c_api.specs.Calls.{noPhase};
+ghost use Rattle.c_api.specs.Numbers.{openedNumbers, countNumbers, headNumbers, phaseFrom, headFrom, isKnown, sharedNumbers, leadFrom, sharedFrom};
+ghost use Rattle.c_api.specs.Calls.{unknown};
 use crate::Count;
-use crate::Head;
-use crate::LentPoint;
 use crate::Opened;
 use log::Reply;
 use log::Shared;
@@ -107,66 +107,94 @@ fn phase(number: u32) -> Phase
     Phase::Zeroing
 }
 
-pub(crate) fn of_head(head: points::Head) -> Head
+// The numbers of a head, in the order of C's record.
+pub(crate) fn of_head(head: points::Head) -> [u32; 12]
     ensures { λ r. ⌜ r ≡ headNumbers head ⌝ }
 {
     let write = head.write;
     let phase = write.phase;
-    Head {
-        number: head.number,
-        length: head.length,
-        block: head.place.block,
-        slot: head.place.slot,
-        passed: head.place.passed,
-        offset: write.offset,
-        size: write.size,
-        run: write.run,
-        phase: of_phase(phase),
-        position: write.position,
-        zeroing: write.zeroing,
-        retries: write.retries,
-    }
+    [
+        head.number,
+        head.length,
+        head.place.block,
+        head.place.slot,
+        head.place.passed,
+        write.offset,
+        write.size,
+        write.run,
+        of_phase(phase),
+        write.position,
+        write.zeroing,
+        write.retries as u32,
+    ]
 }
 
-pub(crate) fn head(head: Head) -> points::Head
-    ensures { λ r. ⌜ r ≡ headFrom head ⌝ }
+// Whether numbers are those of a head: the phase is one, and the retry count is at most 65,535.
+pub(crate) fn is_known(numbers: &[u32; 12]) -> bool
+    ensures { λ r. ⌜ r ≡ isKnown (now (numbers .entry)) ⌝ }
+{
+    (numbers[8] <= 5) & (numbers[11] <= 65535)
+}
+
+// The head of its numbers.
+pub(crate) fn head(numbers: &[u32; 12]) -> points::Head
+    requires { ⌜ isKnown (now numbers) ≡ true ⌝ }
+    ensures { λ r. ⌜ r ≡ headFrom (now (numbers .entry)) ⌝ }
 {
     points::Head {
-        number: head.number,
-        length: head.length,
+        number: numbers[0],
+        length: numbers[1],
         place: log::Place {
-            block: head.block,
-            slot: head.slot,
-            passed: head.passed,
+            block: numbers[2],
+            slot: numbers[3],
+            passed: numbers[4],
         },
         write: points::Write {
-            offset: head.offset,
-            size: head.size,
-            run: head.run,
-            phase: phase(head.phase),
-            position: head.position,
-            zeroing: head.zeroing,
-            retries: head.retries,
+            offset: numbers[5],
+            size: numbers[6],
+            run: numbers[7],
+            phase: phase(numbers[8]),
+            position: numbers[9],
+            zeroing: numbers[10],
+            retries: numbers[11] as u16,
         },
     }
 }
 
-// What joining and beginning answer.
-pub(crate) fn of_point(reply: Reply, shared: Shared, head: points::Head) -> LentPoint
-    ensures { λ r. ⌜ r ≡ pointNumbers reply shared head ⌝ }
+pub(crate) fn of_shared(shared: Shared) -> [u32; 3]
+    ensures { λ r. ⌜ r ≡ sharedNumbers shared ⌝ }
 {
-    LentPoint {
-        refused: of_reply(reply),
-        shared,
-        head: of_head(head),
+    [shared.blocks, shared.joined, shared.next]
+}
+
+pub(crate) fn lead(numbers: &[u32; 3]) -> points::Numbers
+    ensures { λ r. ⌜ r ≡ leadFrom (now (numbers .entry)) ⌝ }
+{
+    points::Numbers {
+        blocks: numbers[0],
+        joined: numbers[1],
+        next: numbers[2],
     }
 }
 
-// Why a record is refused whose phase is none: it does not fit, and 10 comes before.
-pub(crate) fn no_phase(image: &[u64], shared: Shared) -> u32
-    ensures { λ r. ⌜ r ≡ noPhase (now (image .entry)) shared ⌝ }
+// The shared record of its numbers and its map.
+pub(crate) fn shared(numbers: &[u32; 3], taken: &[u64; 16]) -> Shared
+    ensures { λ r. ⌜ r ≡ sharedFrom (now (numbers .entry)) (now (taken .entry)) ⌝ }
 {
-    if points::record::bad_shared(image, shared) {
+    let map = *taken;
+    Shared {
+        blocks: numbers[0],
+        taken: map,
+        joined: numbers[1],
+        next: numbers[2],
+    }
+}
+
+// Why a record is refused whose numbers are no head's: it does not fit, and 10 comes before.
+pub(crate) fn unknown(image: &[u64], shared: &[u32; 3]) -> u32
+    ensures { λ r. ⌜ ((taken : List ℕ) → r ≡ unknown (now (image .entry)) (now (shared .entry)) taken) ⌝ }
+{
+    if points::record::bad_numbers(image, lead(shared)) {
         return points::SHARED_UNFIT;
     }
     points::RECORD_UNFIT

@@ -1,5 +1,5 @@
 -- The shared tests as the code makes them, from the first on, are the definitions' lists of tests. Assumes nothing.
-use Prim.Native.Nat.{ℕ, suc, _+_, _*_, _-_, _/_, _^_, _≤_, _<_}
+use Prim.Native.Nat.{ℕ, suc, _+_, _*_, _-_, _/_, _^_, _≤_, _<_, max}
 use native.Mathlib.Omega.{arith}
 use native.Mathlib.Numerals.{add-one}
 use mathlib.Core.Path.{_≡_, refl, sym, _∙_, ap}
@@ -10,7 +10,8 @@ use lib.Seq.{drop-cons, drop-length}
 use lib.Dec.{leb, ltb, eqb}
 use lib.Pow.{shr-lt, pow-mono}
 use native.Mathlib.Nat.{lt-of-lt-of-le, zero-add}
-use borrow.Author.Tests.{lt-ltb, ltb-true}
+use native.Mathlib.Decide.{decLt}
+use borrow.Author.Tests.{lt-ltb, le-ltb, ltb-true}
 use Rattle.words.specs.Edition.{one}
 use Rattle.words.specs.Logic.{every, any, all-of, between}
 use Rattle.words.proofs.Choice.{choose-true, choose-false}
@@ -114,10 +115,23 @@ module _ (blocks : ℕ) (table : List ℕ) where
   unfolding tableFits
   table-end ok = rw drop-length (and-true ok)
 
-pub table-all : (blocks : ℕ) (table : List ℕ) → ((i : ℕ) → i < length table → getD table i 0 < blocks) → tableFits blocks table ≡ true
+-- a number joins the greatest so far; the first may stand for none
+pub below-both : (a b n : ℕ) → ltb (max a b) n ≡ (ltb a n && ltb b n)
+below-both a b n = go (decLt a n) (decLt b n)
+  where
+    go : Dec (a < n) → Dec (b < n) → ltb (max a b) n ≡ (ltb a n && ltb b n)
+    go (yes l) (yes k) = rw (lt-ltb a n l, lt-ltb b n k) (lt-ltb (max a b) n (omega arith))
+    go (yes l) (no k) = let k : n ≤ b = omega arith in rw (lt-ltb a n l, le-ltb b n k) (le-ltb (max a b) n (omega arith))
+    go (no l) d = let l : n ≤ a = omega arith in rw (le-ltb a n l) (le-ltb (max a b) n (omega arith))
+
+pub table-first : (blocks : ℕ) (table : List ℕ) → 0 < length table → tableFits blocks table ≡ ltb (getD table 0 0) blocks && tableFits blocks (drop 0 table)
 unfolding tableFits
-table-all blocks [] h = refl
-table-all blocks (x ∷ xs) h = rw (lt-ltb x blocks (h 0 (omega arith))) (table-all blocks xs (λ i l. h (suc i) (omega arith)))
+table-first blocks [] h = absurd (omega arith)
+table-first blocks (x ∷ xs) h = twice (ltb x blocks)
+  where
+    twice : (t : Bool) → (t && all-of (λ b. ltb b blocks) xs) ≡ (t && (t && all-of (λ b. ltb b blocks) xs))
+    twice true = refl
+    twice false = refl
 
 -- ---- the end of the file, and bits past a number's width
 

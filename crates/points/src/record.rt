@@ -1,7 +1,9 @@
 // The tests that every later call begins with, reasons 10, 11 and 14, and how many blocks a write spans: each is total.
 ghost use mathlib.Core.Path.{_≡_};
 ghost use mathlib.Core.List.{List};
-ghost use Prim.Native.Nat.{ℕ};
+ghost use Prim.Native.Nat.{ℕ, _<_, max};
+ghost use lib.Dec.{ltb};
+ghost use lib.ListN.{length};
 ghost use Rattle.words.specs.Edition.{one};
 ghost use Rattle.words.specs.Logic.{between};
 ghost use Rattle.words.specs.Word.{bit};
@@ -165,32 +167,29 @@ pub fn head_fits(blocks: u32, head: Head) -> bool
     ok & write_fits(blocks, head.place, write)
 }
 
-// Whether each number of a table is below n.
-fn all_below(table: &[u16], n: u16) -> bool
-    ensures { λ r. ⌜ r ≡ tableFits n (now (table .entry)) ⌝ }
+fn greater(a: u16, b: u16) -> u16
+    ensures { λ r. ⌜ r ≡ max a b ⌝ }
 {
-    let mut ok = true;
-    for i in 0..table.len() {
-        ok = ok & (table[i] < n);
-    }
-    ok
+    if a < b { b } else { a }
 }
 
-// The same for a block count, which may pass every number of a table.
-fn entries_fit(blocks: u32, table: &[u16]) -> bool
-    ensures { λ r. ⌜ r ≡ tableFits blocks (now (table .entry)) ⌝ }
+// The greatest number of a table: the whole table is below what it is below. (A loop without branches, which becomes vectors.)
+fn greatest(table: &[u16]) -> u16
+    requires { ⌜ 0 < length (now table) ⌝ }
+    ensures { λ r. ⌜ ((n : ℕ) → tableFits n (now (table .entry)) ≡ ltb r n) ⌝ }
 {
-    if 65535 < blocks {
-        return true;
+    let mut most = table[0];
+    for i in 0..table.len() {
+        most = greater(most, table[i]);
     }
-    all_below(table, blocks as u16)
+    most
 }
 
 // Whether each entry of a record's table lies inside the image.
 pub fn table_fits(blocks: u32, table: &[u16; 256]) -> bool
     ensures { λ r. ⌜ r ≡ tableFits blocks (now (table .entry)) ⌝ }
 {
-    entries_fit(blocks, table)
+    (greatest(table) as u32) < blocks
 }
 
 // 11. Whether a record fits.

@@ -1,13 +1,16 @@
 -- `c_api::store_lent_open`. Assumes nothing.
 use mathlib.Core.Path.{_∙_, ap}
 use Rattle.log.specs.declared.Opened.{Opened}
-use Rattle.c_api.specs.Numbers.{openedNumbers}
+use Rattle.c_api.specs.Numbers.{openedNumbers, sharedNumbers}
 use borrow.Author.Needs.{needs}
 use Rattle.c_api.proofs.store_lent_open.Statement.{statement}
 use Rattle.c_api.proofs.store_lent_open.Tie as tie
 
 open-requires : tie.Need-open-requires
 open-requires c κs = search needs
+
+of-shared-requires : tie.Need-of-shared-requires
+of-shared-requires c κs = search needs
 
 of-opened-requires : tie.Need-of-opened-requires
 of-opened-requires c κs = search needs
@@ -16,7 +19,14 @@ same-length : tie.Need-same-length
 same-length c = search needs
 
 returns : tie.Need-returns
-returns c = let o = c .before .before .before .before .«open» in (c .of-opened .ensures ∙ ap openedNumbers (o .ensures .0), ap (λ (x : Opened). x .shared) (o .ensures .0), o .ensures .1)
+returns c =
+    let o = c .before .before .before .before .before .before .«open» in (
+      c .of-opened .ensures ∙ ap openedNumbers (o .ensures .0),
+      o .ensures .1,
+      c .before .of-shared .ensures ∙ ap (λ (x : Opened). sharedNumbers (x .shared)) (o .ensures .0),
+      ap (λ (x : Opened). x .shared .taken) (o .ensures .0),
+    )
 
 pub store-lent-open-spec : {M : Type 1} → statement M
-store-lent-open-spec = tie.close (tie.spec open-requires of-opened-requires same-length returns)
+store-lent-open-spec =
+    tie.close (tie.spec open-requires of-shared-requires of-opened-requires same-length returns)
