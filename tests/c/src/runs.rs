@@ -1,0 +1,175 @@
+//! Random runs of several kinds.
+
+use second::digest::noise;
+use second::forge::{any_plan, damage, forge, plan_with, Plan};
+use second::random::Random;
+
+use crate::acts::{Done, Run};
+use crate::world::World;
+
+pub const KINDS: [&str; 8] = [
+    "ordinary work",
+    "nearly full log",
+    "nearly full image",
+    "full chain",
+    "hostile image",
+    "hostile records",
+    "openings",
+    "beyond 32 bits",
+];
+
+/// Calls of a run, about.
+const CALLS: usize = 2_500;
+/// Blocks of the images that are opened one after the other.
+const MOST: usize = 100;
+
+/// A run of a kind; its world shows what was counted.
+pub fn run(mut random: Random, kind: usize) -> (World, Done) {
+    let first = first_image(&mut random, kind);
+    let mut content = first.clone();
+    content.resize(first.len() + random.below(200), 3);
+    let world = World::new(Random::new(random.any()), &content, kind == 7);
+    let strange = *[60, 60, 60, 60, 20, 10, 10, 6].get(kind).unwrap_or(&60);
+    let mut run = Run { world, random, first, strange };
+    let done = run.go(kind);
+    (run.world, done)
+}
+
+/// Small, nearly full, long and large images.
+fn first_image(random: &mut Random, kind: usize) -> Vec<u64> {
+    let plan = match kind {
+        0 | 7 => return fresh(random),
+        1 => nearly_full_log(random),
+        2 => nearly_full_image(random),
+        3 => full_chain(random),
+        6 => plan_with(random, MOST, 3),
+        _ => any_plan(random, 60),
+    };
+    forge(random, plan).image()
+}
+
+/// Noise that was laid out.
+fn fresh(random: &mut Random) -> Vec<u64> {
+    let blocks = match random.below(8) {
+        0 => *random.pick(&[1_023, 1_024]),
+        1 => random.between(4, 300),
+        _ => random.between(8, 50),
+    };
+    let mut image = vec![0; 64 * blocks];
+    noise(&mut image, random.any());
+    let _ = second::image::lay_out(&mut image);
+    image
+}
+
+fn nearly_full_log(random: &mut Random) -> Plan {
+    let full = random.below(4);
+    Plan {
+        blocks: random.between(full + 8, 60),
+        full,
+        more: Some(random.between(54, 61)),
+        spare: random.between(3, 20),
+        reach: *random.pick(&[3, 6, 256]),
+        used: 512,
+    }
+}
+
+fn nearly_full_image(random: &mut Random) -> Plan {
+    Plan {
+        blocks: random.between(5, 30),
+        full: random.below(2),
+        more: Some(random.between(55, 61)),
+        spare: random.between(0, 4),
+        reach: *random.pick(&[12, 256]),
+        used: 400,
+    }
+}
+
+/// A chain of 61 to 64 log blocks with a few entries left.
+fn full_chain(random: &mut Random) -> Plan {
+    let full = *random.pick(&[61, 62, 63, 63, 64]);
+    let blocks = full + random.between(5, 40);
+    let mut plan = plan_with(random, blocks, full);
+    if full < 64 {
+        plan.more = Some(random.between(56, 61));
+    }
+    plan.spare = plan.spare.max(3);
+    plan
+}
+
+impl Run {
+    fn go(&mut self, kind: usize) -> Done {
+        self.begin_again()?;
+        while self.world.calls < CALLS {
+            match kind {
+                4 => self.harmed()?,
+                5 => self.among_altered()?,
+                6 => self.openings()?,
+                _ => self.work()?,
+            }
+            if kind == 0 && self.random.once_in(30) {
+                self.laid_out()?;
+            }
+            if kind == 3 && self.random.once_in(10) {
+                self.harmed()?;
+            }
+        }
+        Ok(())
+    }
+
+    fn laid_out(&mut self) -> Done {
+        self.world.lay_out(self.usual())?;
+        self.begin_again()
+    }
+
+    /// Work, a harmed word, work.
+    fn harmed(&mut self) -> Done {
+        for _ in 0..self.random.below(5) {
+            self.work()?;
+        }
+        self.harm();
+        for p in self.places(false) {
+            self.steps(p, 200)?;
+        }
+        for _ in 0..self.random.between(1, 5) {
+            self.work()?;
+        }
+        if self.random.once_in(4) {
+            self.begin_again()?;
+        }
+        Ok(())
+    }
+
+    fn among_altered(&mut self) -> Done {
+        self.work()?;
+        self.altered()?;
+        if self.random.once_in(4) {
+            self.begin_again()?;
+        }
+        Ok(())
+    }
+
+    /// Another image in the same memory, mostly a damaged one, is opened and
+    /// worked on, then a part of the memory is laid out and opened.
+    fn openings(&mut self) -> Done {
+        let plan = any_plan(&mut self.random, MOST);
+        let mut forged = forge(&mut self.random, plan);
+        for _ in 0..*self.random.pick(&[0, 1, 1, 1, 2]) {
+            let kind = self.random.between(3, 9);
+            damage(&mut self.random, &mut forged, kind);
+        }
+        self.first = forged.image();
+        if self.random.once_in(20) {
+            noise(&mut self.first, self.random.any());
+        }
+        self.world.put(&self.first);
+        self.open()?;
+        self.join()?;
+        self.look()?;
+        self.begin()?;
+        self.some_steps()?;
+        let words = self.random.below(self.world.image().len() + 1);
+        let words = *self.random.pick(&[words, words / 64 * 64]);
+        self.world.lay_out(words)?;
+        self.world.open(words, 1_024).map(drop)
+    }
+}
