@@ -86,10 +86,15 @@ impl Run {
     }
 
     pub fn open(&mut self) -> Result<Opened, String> {
-        let usual = *self.random.pick(&[1_024, 1_024, 1_025, 2_048]);
         let short = *self.random.pick(&[0, 1, 1_023]);
-        let places = if self.random.once_in(4 * self.strange) { short } else { usual };
-        let (words, places) = (self.words(), self.wide(places));
+        let places = if self.world.is_wide && self.random.once_in(3) {
+            WIDE + short
+        } else if self.random.once_in(4 * self.strange) {
+            short
+        } else {
+            *self.random.pick(&[1_024, 1_024, 1_025, 2_048])
+        };
+        let words = self.words();
         if self.random.once_in(4) {
             self.world.list(words, places)?;
         }

@@ -5,7 +5,7 @@ use second::forge::{any_plan, damage, forge, plan_with, Plan};
 use second::random::Random;
 
 use crate::acts::{Done, Run};
-use crate::world::World;
+use crate::world::{World, PLACES, WIDE};
 
 pub const KINDS: [&str; 8] = [
     "ordinary work",
@@ -109,6 +109,9 @@ impl Run {
             if kind == 0 && self.random.once_in(30) {
                 self.laid_out()?;
             }
+            if kind == 7 && self.random.once_in(20) {
+                self.beyond()?;
+            }
             if kind == 3 && self.random.once_in(10) {
                 self.harmed()?;
             }
@@ -118,6 +121,25 @@ impl Run {
 
     fn laid_out(&mut self) -> Done {
         self.world.lay_out(self.usual())?;
+        self.begin_again()
+    }
+
+    /// Each call with an image that 32 bits would cut to the usual one.
+    fn beyond(&mut self) -> Done {
+        let words = WIDE + self.usual();
+        for p in 0..PLACES {
+            self.world.begin(words, p, 0, &[5; 9], 9)?;
+            self.world.step(words, p)?;
+            self.world.read(words, p, 0, 9)?;
+            self.world.view(words, p, 0)?;
+            self.world.leave(words, p)?;
+        }
+        for number in 0..32 {
+            self.world.join(words, 0, number)?;
+        }
+        self.world.lay_out(words)?;
+        self.world.list(words, 1_024)?;
+        self.world.open(words, 1_024)?;
         self.begin_again()
     }
 
