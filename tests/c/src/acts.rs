@@ -104,8 +104,7 @@ impl Run {
     /// Opens, if need be from the first image, and some points join.
     pub fn begin_again(&mut self) -> Done {
         if self.random.once_in(3) || self.open()?.refused != 0 {
-            let first = self.first.clone();
-            self.world.put(&first);
+            self.world.put(&self.first);
             self.world.open(self.usual(), 1_024)?;
         }
         for p in 0..PLACES {

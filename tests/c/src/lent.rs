@@ -135,16 +135,21 @@ impl<T: Copy + PartialEq + std::fmt::Debug> Both<T> {
         self.there.all_mut()[i] = self.here.all()[i];
     }
 
-    /// Both hold the same and no guard byte has changed.
-    pub fn agree(&self, name: &str) -> Result<(), String> {
+    /// Both hold the same and no guard byte has changed; else where, and what
+    /// `tell` says of the two elements that differ.
+    pub fn agree_by(&self, name: &str, tell: impl Fn(&T, &T) -> String) -> Result<(), String> {
         let (there, here) = (self.there.all(), self.here.all());
         if there != here {
             let i = (0..here.len()).find(|&i| there[i] != here[i]).unwrap_or(0);
-            return Err(format!("{name}, element {i}: C {:?}, here {:?}", there[i], here[i]));
+            return Err(format!("{name}, element {i}: {}", tell(&there[i], &here[i])));
         }
         match self.there.touched() {
             None => Ok(()),
             Some(place) => Err(format!("{name}: the guard at byte {place} is touched")),
         }
+    }
+
+    pub fn agree(&self, name: &str) -> Result<(), String> {
+        self.agree_by(name, |there, here| format!("C {there:?}, here {here:?}"))
     }
 }

@@ -26,14 +26,14 @@ fn main() -> ExitCode {
     let mut tally = Tally::default();
     let (mut calls, mut differed) = (0, 0);
     for run in 0..runs {
-        let kind = run % runs::KINDS.len();
+        let kind = runs::KINDS[run % runs::KINDS.len()];
         let (world, done) = runs::run(Random::stream(seed, run as u64), kind);
         tally.add(&world.tally);
         calls += world.calls;
         if let Err(why) = done {
             differed += 1;
-            let ((name, numbers), kind) = (world.last, runs::KINDS[kind]);
-            println!("run {run} ({kind}) differs, call {}, {name} {numbers:?}: {why}", world.calls);
+            let (name, numbers) = world.last;
+            println!("run {run} ({kind:?}) differs, call {}, {name} {numbers:?}: {why}", world.calls);
         }
     }
     let missing = table::report(&tally);

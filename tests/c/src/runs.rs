@@ -7,15 +7,28 @@ use second::random::Random;
 use crate::acts::{Done, Run};
 use crate::world::{World, PLACES, WIDE};
 
-pub const KINDS: [&str; 8] = [
-    "ordinary work",
-    "nearly full log",
-    "nearly full image",
-    "full chain",
-    "hostile image",
-    "hostile records",
-    "openings",
-    "beyond 32 bits",
+/// What a run is about.
+#[derive(Clone, Copy, Debug, PartialEq, Eq)]
+pub enum Kind {
+    Ordinary,
+    NearlyFullLog,
+    NearlyFullImage,
+    FullChain,
+    HostileImage,
+    HostileRecords,
+    Openings,
+    Beyond32Bits,
+}
+
+pub const KINDS: [Kind; 8] = [
+    Kind::Ordinary,
+    Kind::NearlyFullLog,
+    Kind::NearlyFullImage,
+    Kind::FullChain,
+    Kind::HostileImage,
+    Kind::HostileRecords,
+    Kind::Openings,
+    Kind::Beyond32Bits,
 ];
 
 /// Calls of a run, about.
@@ -24,26 +37,31 @@ const CALLS: usize = 2_500;
 const MOST: usize = 100;
 
 /// A run of a kind; its world shows what was counted.
-pub fn run(mut random: Random, kind: usize) -> (World, Done) {
+pub fn run(mut random: Random, kind: Kind) -> (World, Done) {
     let first = first_image(&mut random, kind);
     let mut content = first.clone();
     content.resize(first.len() + random.below(200), 3);
-    let world = World::new(Random::new(random.any()), &content, kind == 7);
-    let strange = *[60, 60, 60, 60, 20, 10, 10, 6].get(kind).unwrap_or(&60);
+    let world = World::new(Random::new(random.any()), &content, kind == Kind::Beyond32Bits);
+    let strange = match kind {
+        Kind::HostileImage => 20,
+        Kind::HostileRecords | Kind::Openings => 10,
+        Kind::Beyond32Bits => 6,
+        _ => 60,
+    };
     let mut run = Run { world, random, first, strange };
     let done = run.go(kind);
     (run.world, done)
 }
 
 /// Small, nearly full, long and large images.
-fn first_image(random: &mut Random, kind: usize) -> Vec<u64> {
+fn first_image(random: &mut Random, kind: Kind) -> Vec<u64> {
     let plan = match kind {
-        0 | 7 => return fresh(random),
-        1 => nearly_full_log(random),
-        2 => nearly_full_image(random),
-        3 => full_chain(random),
-        6 => plan_with(random, MOST, 3),
-        _ => any_plan(random, 60),
+        Kind::Ordinary | Kind::Beyond32Bits => return fresh(random),
+        Kind::NearlyFullLog => nearly_full_log(random),
+        Kind::NearlyFullImage => nearly_full_image(random),
+        Kind::FullChain => full_chain(random),
+        Kind::HostileImage | Kind::HostileRecords => any_plan(random, 60),
+        Kind::Openings => plan_with(random, MOST, 3),
     };
     forge(random, plan).image()
 }
@@ -97,23 +115,17 @@ fn full_chain(random: &mut Random) -> Plan {
 }
 
 impl Run {
-    fn go(&mut self, kind: usize) -> Done {
+    fn go(&mut self, kind: Kind) -> Done {
         self.begin_again()?;
         while self.world.calls < CALLS {
             match kind {
-                4 => self.harmed()?,
-                5 => self.among_altered()?,
-                6 => self.openings()?,
+                Kind::Ordinary if self.random.once_in(30) => self.laid_out()?,
+                Kind::FullChain if self.random.once_in(10) => self.harmed()?,
+                Kind::HostileImage => self.harmed()?,
+                Kind::HostileRecords => self.among_altered()?,
+                Kind::Openings => self.openings()?,
+                Kind::Beyond32Bits if self.random.once_in(20) => self.beyond()?,
                 _ => self.work()?,
-            }
-            if kind == 0 && self.random.once_in(30) {
-                self.laid_out()?;
-            }
-            if kind == 7 && self.random.once_in(20) {
-                self.beyond()?;
-            }
-            if kind == 3 && self.random.once_in(10) {
-                self.harmed()?;
             }
         }
         Ok(())

@@ -31,6 +31,18 @@ pub struct World {
     pub tally: Tally,
 }
 
+/// Where two records differ.
+fn difference(there: &Point, here: &Point) -> String {
+    if there.head != here.head {
+        return format!("C {:?}, here {:?}", there.head, here.head);
+    }
+    if let Some(v) = (0..256).find(|&v| there.table[v] != here.table[v]) {
+        return format!("table {v}: C {}, here {}", there.table[v], here.table[v]);
+    }
+    let i = (0..1_024).find(|&i| there.text[i] != here.text[i]).unwrap_or(0);
+    format!("text {i}: C {}, here {}", there.text[i], here.text[i])
+}
+
 impl World {
     pub fn new(mut random: Random, content: &[u64], is_wide: bool) -> World {
         let image = if is_wide {
@@ -111,7 +123,7 @@ impl World {
         }
         self.shared.agree("shared record")?;
         for (p, point) in self.points.iter().enumerate() {
-            point.agree(&format!("record at place {p}"))?;
+            point.agree_by(&format!("record at place {p}"), difference)?;
         }
         self.image.agree("image")
     }
