@@ -136,10 +136,12 @@ impl Run {
         self.begin_again()
     }
 
-    /// Each call with an image that 32 bits would cut to the usual one.
+    /// Each call with an image that 32 bits would cut to the usual one, and
+    /// reads into a buffer that they would cut short.
     fn beyond(&mut self) -> Done {
         let words = WIDE + self.usual();
         for p in 0..PLACES {
+            self.world.read(self.usual(), p, 0, WIDE + 9)?;
             self.world.begin(words, p, 0, &[5; 9], 9)?;
             self.world.step(words, p)?;
             self.world.read(words, p, 0, 9)?;
