@@ -1,0 +1,144 @@
+//! The records and calls of `include/store.h`, as `shim.c` hands them on.
+//! `shim.c` asserts the same sizes and places of the C records.
+
+use std::mem::{align_of, offset_of, size_of};
+
+#[repr(C)]
+#[derive(Clone, Copy, Debug, PartialEq, Eq)]
+pub struct Shared {
+    pub blocks: u32,
+    pub taken: [u64; 16],
+    pub joined: u32,
+    pub next: u32,
+}
+
+#[repr(C)]
+#[derive(Clone, Copy, Debug, PartialEq, Eq)]
+pub struct Head {
+    pub number: u32,
+    pub length: u32,
+    pub block: u32,
+    pub slot: u32,
+    pub passed: u32,
+    pub offset: u32,
+    pub size: u32,
+    pub run: u32,
+    pub phase: u32,
+    pub position: u32,
+    pub zeroing: u32,
+    pub retries: u16,
+}
+
+#[repr(C)]
+#[derive(Clone, Copy, Debug, PartialEq, Eq)]
+pub struct Point {
+    pub head: Head,
+    pub table: [u16; 256],
+    pub text: [u8; 1024],
+}
+
+#[repr(C)]
+#[derive(Clone, Copy, Debug, PartialEq, Eq)]
+pub struct Opened {
+    pub refused: u32,
+    pub length: u32,
+    pub entries: u32,
+    pub free: u32,
+}
+
+#[repr(C)]
+#[derive(Clone, Copy, Debug, PartialEq, Eq)]
+pub struct Answer {
+    pub kind: u32,
+    pub value: u32,
+}
+
+#[repr(C)]
+#[derive(Clone, Copy, Debug, PartialEq, Eq)]
+pub struct Count {
+    pub refused: u32,
+    pub count: u32,
+}
+
+const _: () = {
+    assert!(size_of::<Shared>() == 144 && align_of::<Shared>() == 8);
+    assert!(
+        offset_of!(Shared, taken) == 8
+            && offset_of!(Shared, joined) == 136
+            && offset_of!(Shared, next) == 140
+    );
+    assert!(size_of::<Head>() == 48 && align_of::<Head>() == 4 && offset_of!(Head, retries) == 44);
+    assert!(size_of::<Point>() == 1_584 && offset_of!(Point, table) == 48 && offset_of!(Point, text) == 560);
+    assert!(size_of::<Opened>() == 16 && size_of::<Answer>() == 8 && size_of::<Count>() == 8);
+};
+
+/// What a step answers.
+pub const STORED: u32 = 1;
+pub const MOVED: u32 = 2;
+pub const EXTENDING: u32 = 3;
+pub const COMMITTED: u32 = 4;
+pub const REFUSED: u32 = 5;
+
+/// Why a beginning is refused in a full image.
+pub const NO_RUN: u32 = 19;
+
+extern "C" {
+    pub fn shim_lay_out(image: *mut u64, words: usize) -> u32;
+    pub fn shim_open(
+        image: *const u64,
+        words: usize,
+        scratch: *mut u16,
+        places: usize,
+        shared: *mut Shared,
+    ) -> Opened;
+    pub fn shim_list(
+        image: *const u64,
+        words: usize,
+        scratch: *mut u16,
+        places: usize,
+        rows: *mut u16,
+    ) -> Opened;
+    pub fn shim_join(
+        image: *const u64,
+        words: usize,
+        shared: *mut Shared,
+        number: u32,
+        point: *mut Point,
+    ) -> u32;
+    pub fn shim_begin(
+        image: *const u64,
+        words: usize,
+        shared: *mut Shared,
+        point: *mut Point,
+        offset: usize,
+        bytes: *const u8,
+        size: usize,
+    ) -> u32;
+    pub fn shim_step(image: *mut u64, words: usize, shared: *mut Shared, point: *mut Point) -> Answer;
+    pub fn shim_leave(image: *const u64, words: usize, shared: *mut Shared, point: *const Point) -> u32;
+    pub fn shim_read(
+        image: *const u64,
+        words: usize,
+        shared: *const Shared,
+        point: *const Point,
+        offset: usize,
+        buffer: *mut u8,
+        room: usize,
+    ) -> Count;
+    pub fn shim_locate(
+        image: *const u64,
+        words: usize,
+        shared: *const Shared,
+        point: *const Point,
+        block: usize,
+    ) -> Count;
+    pub fn shim_view(
+        image: *const u64,
+        words: usize,
+        shared: *const Shared,
+        point: *const Point,
+        block: usize,
+    ) -> *const u64;
+    pub fn shim_reserve(bytes: usize) -> *mut u8;
+    pub fn shim_release(found: *mut u8, bytes: usize);
+}

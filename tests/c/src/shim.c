@@ -1,0 +1,131 @@
+/* The calls of store.h as functions, for a program that is not C, and what it takes for granted of the records. */
+#define _DEFAULT_SOURCE
+#include <sys/mman.h>
+
+#include "store.h"
+
+#define SIZE_IS(type, size, alignment) \
+    _Static_assert(sizeof(type) == (size) && _Alignof(type) == (alignment), "the size of " #type)
+#define PLACE_IS(type, field, width, place) \
+    _Static_assert(offsetof(type, field) == (place) && sizeof(((type *)0)->field) == (width), "the place of " #type "." #field)
+
+SIZE_IS(store_shared, 144, 8);
+PLACE_IS(store_shared, blocks, 4, 0);
+PLACE_IS(store_shared, taken, 128, 8);
+PLACE_IS(store_shared, joined, 4, 136);
+PLACE_IS(store_shared, next, 4, 140);
+
+SIZE_IS(store_head, 48, 4);
+PLACE_IS(store_head, number, 4, 0);
+PLACE_IS(store_head, length, 4, 4);
+PLACE_IS(store_head, block, 4, 8);
+PLACE_IS(store_head, slot, 4, 12);
+PLACE_IS(store_head, passed, 4, 16);
+PLACE_IS(store_head, offset, 4, 20);
+PLACE_IS(store_head, size, 4, 24);
+PLACE_IS(store_head, run, 4, 28);
+PLACE_IS(store_head, phase, 4, 32);
+PLACE_IS(store_head, position, 4, 36);
+PLACE_IS(store_head, zeroing, 4, 40);
+PLACE_IS(store_head, retries, 2, 44);
+
+SIZE_IS(store_point, 1584, 4);
+PLACE_IS(store_point, head, 48, 0);
+PLACE_IS(store_point, table, 512, 48);
+PLACE_IS(store_point, text, 1024, 560);
+
+SIZE_IS(store_opened, 16, 4);
+PLACE_IS(store_opened, refused, 4, 0);
+PLACE_IS(store_opened, length, 4, 4);
+PLACE_IS(store_opened, entries, 4, 8);
+PLACE_IS(store_opened, free, 4, 12);
+
+SIZE_IS(store_answer, 8, 4);
+PLACE_IS(store_answer, kind, 4, 0);
+PLACE_IS(store_answer, value, 4, 4);
+
+SIZE_IS(store_count, 8, 4);
+PLACE_IS(store_count, refused, 4, 0);
+PLACE_IS(store_count, count, 4, 4);
+
+SIZE_IS(store_lent_opened, 160, 8);
+PLACE_IS(store_lent_opened, opened, 16, 0);
+PLACE_IS(store_lent_opened, shared, 144, 16);
+
+SIZE_IS(store_lent_step, 200, 8);
+PLACE_IS(store_lent_step, answer, 8, 0);
+PLACE_IS(store_lent_step, shared, 144, 8);
+PLACE_IS(store_lent_step, head, 48, 152);
+
+SIZE_IS(store_lent_point, 200, 8);
+PLACE_IS(store_lent_point, refused, 4, 0);
+PLACE_IS(store_lent_point, shared, 144, 8);
+PLACE_IS(store_lent_point, head, 48, 152);
+
+SIZE_IS(store_lent_left, 152, 8);
+PLACE_IS(store_lent_left, refused, 4, 0);
+PLACE_IS(store_lent_left, shared, 144, 8);
+
+uint32_t shim_lay_out(uint64_t *image, size_t words)
+{
+    return store_lay_out(image, words);
+}
+
+store_opened shim_open(const uint64_t *image, size_t words, uint16_t *scratch, size_t places, store_shared *shared)
+{
+    return store_open(image, words, scratch, places, shared);
+}
+
+store_opened shim_list(const uint64_t *image, size_t words, uint16_t *scratch, size_t places, uint16_t *rows)
+{
+    return store_list(image, words, scratch, places, rows);
+}
+
+uint32_t shim_join(const uint64_t *image, size_t words, store_shared *shared, uint32_t number, store_point *point)
+{
+    return store_join(image, words, shared, number, point);
+}
+
+uint32_t shim_begin(const uint64_t *image, size_t words, store_shared *shared, store_point *point, size_t offset,
+                    const uint8_t *bytes, size_t size)
+{
+    return store_begin(image, words, shared, point, offset, bytes, size);
+}
+
+store_answer shim_step(uint64_t *image, size_t words, store_shared *shared, store_point *point)
+{
+    return store_step(image, words, shared, point);
+}
+
+uint32_t shim_leave(const uint64_t *image, size_t words, store_shared *shared, const store_point *point)
+{
+    return store_leave(image, words, shared, point);
+}
+
+store_count shim_read(const uint64_t *image, size_t words, const store_shared *shared, const store_point *point, size_t offset,
+                      uint8_t *buffer, size_t room)
+{
+    return store_read(image, words, shared, point, offset, buffer, room);
+}
+
+store_count shim_locate(const uint64_t *image, size_t words, const store_shared *shared, const store_point *point, size_t block)
+{
+    return store_locate(image, words, shared, point, block);
+}
+
+const uint64_t *shim_view(const uint64_t *image, size_t words, const store_shared *shared, const store_point *point, size_t block)
+{
+    return store_view(image, words, shared, point, block);
+}
+
+/* Addresses for lengths of more than 32 bits: all zeros, no memory until something is stored. Null where there are none. */
+void *shim_reserve(size_t bytes)
+{
+    void *found = mmap(0, bytes, PROT_READ | PROT_WRITE, MAP_PRIVATE | MAP_ANONYMOUS | MAP_NORESERVE, -1, 0);
+    return found == MAP_FAILED ? (void *)0 : found;
+}
+
+void shim_release(void *found, size_t bytes)
+{
+    munmap(found, bytes);
+}

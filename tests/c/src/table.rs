@@ -1,0 +1,136 @@
+//! What must come up: each answer and refusal of each call, some turns of a
+//! step, and the inputs that C alone can bring.
+
+use second::tally::Tally;
+
+use crate::c::*;
+
+/// Each call with its answers and the refusals that the header lists for it.
+pub const CALLS: [(&str, &[&str], &[u32]); 10] = [
+    ("lay_out", &["done"], &[1]),
+    ("open", &["done"], &[1, 2, 3, 4, 5, 6, 7, 8, 9]),
+    ("list", &["done"], &[1, 2, 3, 4, 5, 6, 7, 8, 9]),
+    ("join", &["done"], &[10, 12, 13, 18]),
+    ("begin", &["done"], &[10, 11, 14, 15, 16, 17, 18, 19]),
+    ("step", &["stored", "moved", "extending", "committed"], &[10, 11, 14, 15, 18, 20, 21]),
+    ("leave", &["done"], &[10, 11, 14]),
+    ("read", &["done"], &[10, 11, 14, 18]),
+    ("locate", &["done"], &[10, 11, 14, 17, 18, 22]),
+    ("view", &["done"], &[10, 11, 14, 17, 18, 22]),
+];
+
+const TURNS: [&str; 7] = [
+    "linked",
+    "lost link",
+    "refills nothing",
+    "refills first",
+    "refills last",
+    "refills both",
+    "committed after moved",
+];
+
+const INPUTS: [&str; 14] = [
+    "an image of 0 words",
+    "an image of no multiple of 64 words",
+    "an image beyond 32 bits",
+    "a scratch of 0",
+    "a longer scratch",
+    "a scratch beyond 32 bits",
+    "0 bytes to write",
+    "bytes to write beyond 32 bits",
+    "an offset to write at beyond 32 bits",
+    "a buffer of 0",
+    "a buffer beyond 32 bits",
+    "an offset to read at beyond 32 bits",
+    "a block beyond 32 bits",
+    "a record's number above 31",
+];
+
+/// Calls with a point's record, which may hold a phase above 5.
+const WITH_RECORD: [&str; 6] = ["begin", "step", "leave", "read", "locate", "view"];
+
+/// Counting, in the words of the table.
+pub trait Counting {
+    fn answered(&mut self, call: &str, refused: u32);
+    fn stepped(&mut self, answer: Answer, before: &Head, after: &Head);
+    fn refused_record(&mut self, call: &str, before: &Head, refused: u32);
+    fn input_if(&mut self, is: bool, input: &str);
+}
+
+impl Counting for Tally {
+    fn answered(&mut self, call: &str, refused: u32) {
+        match refused {
+            0 => self.count(call, "done"),
+            why => self.refused(call, u64::from(why)),
+        }
+    }
+
+    fn stepped(&mut self, answer: Answer, before: &Head, after: &Head) {
+        let was_zeroing = before.phase == 5;
+        match answer.kind {
+            STORED => self.count("step", "stored"),
+            MOVED => self.count("step", "moved"),
+            EXTENDING => self.count("step", "extending"),
+            COMMITTED => self.count("step", "committed"),
+            _ => self.refused("step", u64::from(answer.value)),
+        }
+        let turn = match (answer.kind, after.phase) {
+            (STORED, 1) if was_zeroing => "linked",
+            (MOVED, _) if was_zeroing => "lost link",
+            (MOVED, 1) => "refills nothing",
+            (MOVED, 2) => "refills first",
+            (MOVED, 3) => "refills last",
+            (MOVED, 4) => "refills both",
+            (COMMITTED, _) if answer.value > 0 => "committed after moved",
+            _ => return,
+        };
+        self.count("turn", turn);
+    }
+
+    fn refused_record(&mut self, call: &str, before: &Head, refused: u32) {
+        self.input_if(refused == 14 && before.number > 31, "a record's number above 31");
+        if before.phase > 5 {
+            self.count("phase above 5", &format!("{call} {refused}"));
+        }
+    }
+
+    fn input_if(&mut self, is: bool, input: &str) {
+        if is {
+            self.count("input", input);
+        }
+    }
+}
+
+/// All that must come up, line by line.
+fn lines() -> Vec<(&'static str, Vec<String>)> {
+    let refused = |why: &u32| format!("refused {why}");
+    let mut lines: Vec<(&str, Vec<String>)> = CALLS
+        .iter()
+        .map(|(call, answers, refusals)| {
+            let answers = answers.iter().map(|answer| answer.to_string());
+            (*call, answers.chain(refusals.iter().map(refused)).collect())
+        })
+        .collect();
+    let phases = WITH_RECORD.iter().flat_map(|call| [format!("{call} 10"), format!("{call} 11")]);
+    lines.push(("phase above 5", phases.collect()));
+    lines.push(("turn", TURNS.map(String::from).to_vec()));
+    lines.push(("input", INPUTS.map(String::from).to_vec()));
+    lines
+}
+
+/// Prints the counts; answers how many things never came up.
+pub fn report(tally: &Tally) -> usize {
+    let mut missing = Vec::new();
+    for (call, things) in lines() {
+        let counts: Vec<String> =
+            things.iter().map(|thing| format!("{thing}: {}", tally.of(call, thing))).collect();
+        println!("{call}: {}", counts.join(", "));
+        missing.extend(
+            things.iter().filter(|thing| tally.of(call, thing) == 0).map(|thing| format!("{call}: {thing}")),
+        );
+    }
+    for thing in &missing {
+        println!("never met: {thing}");
+    }
+    missing.len()
+}
