@@ -1,0 +1,300 @@
+/* The main loop of a controller over the calls of store.h: 8 points, or as many as the argument says (1 to 32), each with a queue of readings.
+
+   The program fills two files: in the first, one counter gives each reading its place; in the second, each point has blocks of its own. Each time
+   the power fails once in the middle and once at the end; the file is opened again, read and checked. docs/GUIDE.md explains it and quotes the loop. */
+#include <stdio.h>
+#include <stdlib.h>
+#include <string.h>
+
+#include "store.h"
+
+enum {
+    READING = 32,   /* bytes of a reading: a divisor of 512, so that none lies in two blocks */
+    READINGS = 24,  /* of each point */
+    QUEUE = 4,      /* readings that wait at a point, at most */
+    EVERY = 50,     /* turns between two readings of a point */
+    STEPS = 1,      /* of each point in a turn */
+    CUT = 1000,     /* turns before the power fails */
+    BLOCK = 512     /* bytes of a block */
+};
+
+/* Memory that survives. `image` is what the processor sees, through its cache; `arrived` stands for the memory behind the cache. */
+static uint64_t image[STORE_BLOCKS_MOST * STORE_BLOCK_WORDS];
+static uint64_t arrived[STORE_BLOCKS_MOST * STORE_BLOCK_WORDS];
+static int new_file_wanted; /* a note of the firmware's own, outside the image */
+
+/* Ordinary memory. */
+static size_t words; /* of the image that are used */
+static store_shared shared;
+static store_point points[STORE_POINTS];
+static uint16_t scratch[STORE_SCRATCH];
+static size_t reserved; /* bytes of the file that have been given to readings */
+static size_t places[STORE_POINTS];
+static int has_place[STORE_POINTS];
+static uint32_t entries; /* of the log */
+static int recording;    /* the file is not full */
+static int scarce;       /* so few blocks are free that writes go one at a time */
+
+/* The devices at the points, each with a memory of its own: readings from `stored` on to below `made` wait there. */
+static struct {
+    uint32_t made, stored;
+} queues[STORE_POINTS];
+
+/* How many points, which places, and what is counted. */
+static uint32_t count = 8;
+static int own_blocks;
+static uint32_t turns, steps, moved;
+
+static void fault(const char *what, uint32_t number)
+{
+    printf("%s: %u\n", what, (unsigned)number);
+    exit(1);
+}
+
+/* Reading `number` of point p. Its first byte is never 0, which tells it from an empty place. */
+static void measure(uint32_t p, uint32_t number, uint8_t text[READING])
+{
+    for (uint32_t i = 0; i < READING; i++)
+        text[i] = (uint8_t)(31 * p + 7 * number + i);
+    text[0] = 1;
+    text[1] = (uint8_t)p;
+    text[2] = (uint8_t)number;
+}
+
+/* Makes a stored word last before anything else is stored. On a board: write back the cache line of image[word] and wait until it has arrived;
+   nothing where the image is not cached. */
+static void make_lasting(size_t word)
+{
+    arrived[word] = image[word];
+}
+
+/* Where a step stored its word, if it answered STORE_STORED or STORE_COMMITTED: from the point's numbers before the step and after it. */
+static size_t stored_word(uint32_t kind, const store_head *before, const store_head *after)
+{
+    if (kind == STORE_COMMITTED)
+        return (size_t)STORE_BLOCK_WORDS * before->block + before->slot;
+    if (before->phase != STORE_ZEROING)
+        return (size_t)STORE_BLOCK_WORDS * before->run + after->position - 1;
+    if (before->position < STORE_BLOCK_WORDS)
+        return (size_t)STORE_BLOCK_WORDS * before->zeroing + before->position;
+    return (size_t)STORE_BLOCK_WORDS * before->block;
+}
+
+/* Opens the file, after every reset; all points join. It lays out on order only, never because opening was refused. */
+static store_opened start(void)
+{
+    if (new_file_wanted) {
+        uint32_t refused = store_lay_out(image, words);
+        if (refused != STORE_DONE)
+            fault("laying out was refused", refused);
+        for (size_t w = 0; w < 2 * STORE_BLOCK_WORDS; w++)
+            make_lasting(w);
+        new_file_wanted = 0;
+    }
+    store_opened opened = store_open(image, words, scratch, STORE_SCRATCH, &shared);
+    if (opened.refused != STORE_DONE)
+        fault("the image does not open; save it, call service", opened.refused);
+    for (uint32_t p = 0; p < count; p++) {
+        uint32_t refused = store_join(image, words, &shared, p, &points[p]);
+        if (refused != STORE_DONE)
+            fault("joining was refused", refused);
+    }
+    reserved = ((size_t)opened.length + READING - 1) / READING * READING;
+    memset(has_place, 0, sizeof has_place);
+    entries = opened.entries;
+    recording = 1;
+    scarce = 0;
+    return opened;
+}
+
+/* The place in the file of point p's oldest reading. The counter gives it once, and it is kept until the reading is stored. */
+static size_t place_of(uint32_t p)
+{
+    if (own_blocks)
+        return p * ((size_t)STORE_VIRTUAL_BLOCKS / count * BLOCK) + (size_t)queues[p].stored * READING;
+    if (!has_place[p]) {
+        has_place[p] = 1;
+        places[p] = reserved;
+        reserved += READING;
+    }
+    return places[p];
+}
+
+static int another_writes(uint32_t p)
+{
+    for (uint32_t q = 0; q < count; q++)
+        if (q != p && points[q].head.phase != STORE_IDLE)
+            return 1;
+    return 0;
+}
+
+/* A beginning or a step was refused. The reading stays in its queue. */
+static void refused_write(uint32_t p, uint32_t why)
+{
+    int no_block = why == STORE_NO_RUN || why == STORE_NO_LOG_BLOCK;
+    if (no_block && (!scarce || another_writes(p)))
+        scarce = 1; /* try again, but one at a time: else each block that one gives up is taken by another, and nobody commits */
+    else if (no_block || why == STORE_PAST_END || why == STORE_LOG_FULL)
+        recording = 0; /* the file is full */
+    else
+        fault("a write was refused", why);
+}
+
+static void begin_oldest(uint32_t p)
+{
+    uint8_t text[READING];
+    measure(p, queues[p].stored, text);
+    uint32_t refused = store_begin(image, words, &shared, &points[p], place_of(p), text, READING);
+    if (refused != STORE_DONE)
+        refused_write(p, refused);
+}
+
+static void step(uint32_t p)
+{
+    store_head before = points[p].head;
+    store_answer answer = store_step(image, words, &shared, &points[p]);
+    steps++;
+    if (answer.kind == STORE_STORED || answer.kind == STORE_COMMITTED)
+        make_lasting(stored_word(answer.kind, &before, &points[p].head));
+    if (answer.kind == STORE_COMMITTED) {
+        queues[p].stored++; /* acknowledged now, and not before */
+        has_place[p] = 0;
+        entries++;
+    }
+    if (answer.kind == STORE_MOVED)
+        moved++;
+    if (answer.kind == STORE_REFUSED)
+        refused_write(p, answer.value);
+}
+
+static void turn(void)
+{
+    for (uint32_t p = 0; p < count; p++) {
+        int waiting = recording && queues[p].stored < queues[p].made;
+        if (waiting && points[p].head.phase == STORE_IDLE && !(scarce && another_writes(p)))
+            begin_oldest(p);
+        for (int k = 0; k < STEPS && points[p].head.phase != STORE_IDLE; k++)
+            step(p);
+    }
+}
+
+/* The devices measure: a reading every so many turns, as long as there is room in the queue. Answers whether a reading is still to be stored. */
+static int devices_measure(void)
+{
+    int more = 0;
+    for (uint32_t p = 0; p < count; p++) {
+        if ((turns + p) % EVERY == 0 && queues[p].made < READINGS && queues[p].made - queues[p].stored < QUEUE)
+            queues[p].made++;
+        more |= queues[p].stored < READINGS;
+    }
+    return more;
+}
+
+/* The power fails and comes back: ordinary memory is lost, and of the image what had not arrived. */
+static void lose_power(void)
+{
+    memcpy(image, arrived, sizeof image);
+    memset(&shared, 0xFF, sizeof shared);
+    memset(points, 0xFF, sizeof points);
+    reserved = entries = 0;
+}
+
+/* Free blocks at this moment: what opening answers, kept up by every call. */
+static uint32_t free_blocks(void)
+{
+    uint32_t taken = 0;
+    for (size_t w = 0; w < sizeof shared.taken / sizeof shared.taken[0]; w++)
+        for (uint64_t rest = shared.taken[w]; rest != 0; rest &= rest - 1)
+            taken++;
+    return shared.blocks - taken;
+}
+
+/* Reads the file back: each stored reading stands there once, and beside them only empty places, of zeros. Answers how many. */
+static uint32_t check_file(uint32_t length)
+{
+    uint8_t seen[STORE_POINTS][READINGS] = {{0}}, none[READING] = {0}, text[READING], wanted[READING];
+    uint32_t found = 0, empty = 0;
+    for (size_t place = 0; place < length; place += READING) {
+        store_count got = store_read(image, words, &shared, &points[0], place, text, READING);
+        if (got.refused != STORE_DONE || got.count != READING)
+            fault("reading was refused", got.refused);
+        const uint64_t *block = store_view(image, words, &shared, &points[0], place / BLOCK);
+        if (memcmp(block ? (const uint8_t *)block + place % BLOCK : none, text, READING) != 0)
+            fault("a view shows something else at byte", (uint32_t)place);
+        if (memcmp(text, none, READING) == 0) {
+            empty++;
+            continue;
+        }
+        if (text[1] >= count || text[2] >= queues[text[1]].stored || seen[text[1]][text[2]]++)
+            fault("a reading that was not stored, or one twice, at byte", (uint32_t)place);
+        measure(text[1], text[2], wanted);
+        if (memcmp(text, wanted, READING) != 0)
+            fault("a broken reading at byte", (uint32_t)place);
+        found++;
+    }
+    for (uint32_t p = 0; p < count; p++)
+        found -= queues[p].stored;
+    if (found != 0)
+        fault("readings missing", 0 - found);
+    return empty;
+}
+
+/* Blocks that an image needs for so many writes, each inside one block, and so many blocks of the file: superblock, log, file, and for each point
+   the block that it fills and a log block that it may be zeroing. */
+static size_t blocks_needed(size_t writes, size_t file_blocks)
+{
+    return 1 + (writes / 62 + 1) + file_blocks + 2 * (size_t)count;
+}
+
+/* All readings of all points go into a new file. */
+static void run(const char *title)
+{
+    size_t own = ((size_t)READINGS * READING + BLOCK - 1) / BLOCK * count;
+    size_t together = ((size_t)(READINGS + 1) * count * READING + BLOCK - 1) / BLOCK; /* one more of each: places that the cut leaves empty */
+    size_t blocks = blocks_needed((size_t)READINGS * count, own_blocks ? own : together);
+    words = STORE_BLOCK_WORDS * blocks;
+    memset(queues, 0, sizeof queues);
+    new_file_wanted = 1;
+    turns = steps = moved = 0;
+    printf("%s, image of %u blocks\n", title, (unsigned)blocks);
+
+    start();
+    while (devices_measure() && recording) {
+        turn();
+        if (++turns == CUT) {
+            uint32_t committed = entries;
+            lose_power();
+            store_opened opened = start();
+            if (opened.entries != committed)
+                fault("entries lost or won", opened.entries);
+            uint32_t empty = check_file(opened.length);
+            printf("  power lost in turn %u: %u readings stored, all there; %u empty places\n", (unsigned)turns, (unsigned)opened.entries,
+                   (unsigned)empty);
+        }
+    }
+    if (!recording)
+        fault("the file is full; entries", entries);
+    printf("  %u readings stored in %u turns, %u steps, %u of them Moved\n", (unsigned)entries, (unsigned)turns, (unsigned)steps, (unsigned)moved);
+
+    uint32_t left = free_blocks();
+    lose_power();
+    store_opened opened = start();
+    uint32_t empty = check_file(opened.length);
+    if (opened.free != left || opened.entries != READINGS * count)
+        fault("free blocks or entries differ", opened.free);
+    printf("  read back: length %u, %u entries, %u free blocks, %u empty places\n", (unsigned)opened.length, (unsigned)opened.entries,
+           (unsigned)opened.free, (unsigned)empty);
+}
+
+int main(int argc, char **argv)
+{
+    if (argc > 1)
+        count = (uint32_t)strtoul(argv[1], NULL, 10);
+    if (count < 1 || count > STORE_POINTS)
+        fault("points must be 1 to 32, not", count);
+    printf("%u points, %u readings of %u bytes each\n", (unsigned)count, (unsigned)READINGS, (unsigned)READING);
+    run("places by one counter");
+    own_blocks = 1;
+    run("places in blocks of each point's own");
+    return 0;
+}
