@@ -231,7 +231,7 @@ impl Run {
             self.steps(p, most)?;
         }
         if self.random.once_in(12) {
-            self.world.alter(p, |point| point.head.retries = u16::MAX - 1);
+            self.world.alter(p, |point| point.head.retries = u32::from(u16::MAX) - 1);
         }
         self.steps(q, 400)?;
         self.steps(p, 400)

@@ -7,9 +7,9 @@ use std::mem::{align_of, offset_of, size_of};
 #[derive(Clone, Copy, Debug, PartialEq, Eq)]
 pub struct Shared {
     pub blocks: u32,
-    pub taken: [u64; 16],
     pub joined: u32,
     pub next: u32,
+    pub taken: [u64; 16],
 }
 
 #[repr(C)]
@@ -26,7 +26,7 @@ pub struct Head {
     pub phase: u32,
     pub position: u32,
     pub zeroing: u32,
-    pub retries: u16,
+    pub retries: u32,
 }
 
 #[repr(C)]
@@ -63,9 +63,9 @@ pub struct Count {
 const _: () = {
     assert!(size_of::<Shared>() == 144 && align_of::<Shared>() == 8);
     assert!(
-        offset_of!(Shared, taken) == 8
-            && offset_of!(Shared, joined) == 136
-            && offset_of!(Shared, next) == 140
+        offset_of!(Shared, joined) == 4
+            && offset_of!(Shared, next) == 8
+            && offset_of!(Shared, taken) == 16
     );
     assert!(size_of::<Head>() == 48 && align_of::<Head>() == 4 && offset_of!(Head, retries) == 44);
     assert!(size_of::<Point>() == 1_584 && offset_of!(Point, table) == 48 && offset_of!(Point, text) == 560);

@@ -37,11 +37,11 @@ fn c_shared(shared: &record::Shared) -> Shared {
     }
 }
 
-/// The record of a call. A phase above 5 is none: the record does not fit,
-/// and 10 comes first.
+/// The record of a call. A phase above 5 and a retry count above 65,535 are
+/// no record's: it does not fit, and 10 comes first.
 fn record_of(words: usize, shared: &Shared, point: &Point) -> Result<Record, Refusal> {
     let Point { head, table, text } = point;
-    let Some(phase) = Phase::from_number(u64::from(head.phase)) else {
+    let (Some(phase), Ok(retries)) = (Phase::from_number(u64::from(head.phase)), u16::try_from(head.retries)) else {
         refuse(!shared_of(shared).is_fit(words), Refusal::SharedUnfit)?;
         return Err(Refusal::RecordUnfit);
     };
@@ -62,7 +62,7 @@ fn record_of(words: usize, shared: &Shared, point: &Point) -> Result<Record, Ref
             phase,
             position: head.position as usize,
             zeroing: head.zeroing as usize,
-            retries: head.retries,
+            retries,
         },
     })
 }
@@ -81,7 +81,7 @@ fn c_point(record: &Record) -> Point {
         phase: write.phase.number() as u32,
         position: write.position as u32,
         zeroing: write.zeroing as u32,
-        retries: write.retries,
+        retries: u32::from(write.retries),
     };
     Point { head, table: view.table, text: write.text }
 }

@@ -86,7 +86,7 @@ impl Run {
                 8 => head.phase = value,
                 9 => head.position = value,
                 10 => head.zeroing = value,
-                _ => head.retries = value as u16,
+                _ => head.retries = value,
             }
         });
     }
@@ -159,8 +159,12 @@ impl Run {
             9 | 10 => self.alter_zeroing(p),
             11 => self.alter_all(p),
             12 => {
-                let phase = self.random.any() as u32 | 8;
-                self.world.alter(p, |point| point.head.phase = phase);
+                let number = self.random.any() as u32;
+                if self.random.below(2) == 0 {
+                    self.world.alter(p, |point| point.head.phase = number | 8);
+                } else {
+                    self.world.alter(p, |point| point.head.retries = number | 65_536);
+                }
             }
             13 => {
                 let other = *self.world.point(self.random.below(PLACES));

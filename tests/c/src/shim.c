@@ -11,9 +11,9 @@
 
 SIZE_IS(store_shared, 144, 8);
 PLACE_IS(store_shared, blocks, 4, 0);
-PLACE_IS(store_shared, taken, 128, 8);
-PLACE_IS(store_shared, joined, 4, 136);
-PLACE_IS(store_shared, next, 4, 140);
+PLACE_IS(store_shared, joined, 4, 4);
+PLACE_IS(store_shared, next, 4, 8);
+PLACE_IS(store_shared, taken, 128, 16);
 
 SIZE_IS(store_head, 48, 4);
 PLACE_IS(store_head, number, 4, 0);
@@ -27,7 +27,7 @@ PLACE_IS(store_head, run, 4, 28);
 PLACE_IS(store_head, phase, 4, 32);
 PLACE_IS(store_head, position, 4, 36);
 PLACE_IS(store_head, zeroing, 4, 40);
-PLACE_IS(store_head, retries, 2, 44);
+PLACE_IS(store_head, retries, 4, 44);
 
 SIZE_IS(store_point, 1584, 4);
 PLACE_IS(store_point, head, 48, 0);
@@ -47,24 +47,6 @@ PLACE_IS(store_answer, value, 4, 4);
 SIZE_IS(store_count, 8, 4);
 PLACE_IS(store_count, refused, 4, 0);
 PLACE_IS(store_count, count, 4, 4);
-
-SIZE_IS(store_lent_opened, 160, 8);
-PLACE_IS(store_lent_opened, opened, 16, 0);
-PLACE_IS(store_lent_opened, shared, 144, 16);
-
-SIZE_IS(store_lent_step, 200, 8);
-PLACE_IS(store_lent_step, answer, 8, 0);
-PLACE_IS(store_lent_step, shared, 144, 8);
-PLACE_IS(store_lent_step, head, 48, 152);
-
-SIZE_IS(store_lent_point, 200, 8);
-PLACE_IS(store_lent_point, refused, 4, 0);
-PLACE_IS(store_lent_point, shared, 144, 8);
-PLACE_IS(store_lent_point, head, 48, 152);
-
-SIZE_IS(store_lent_left, 152, 8);
-PLACE_IS(store_lent_left, refused, 4, 0);
-PLACE_IS(store_lent_left, shared, 144, 8);
 
 uint32_t shim_lay_out(uint64_t *image, size_t words)
 {

@@ -46,7 +46,8 @@ const INPUTS: [&str; 14] = [
     "a record's number above 31",
 ];
 
-/// Calls with a point's record, which may hold a phase above 5.
+/// Calls with a point's record, whose phase may be above 5 and whose retry
+/// count above 65,535.
 const WITH_RECORD: [&str; 6] = ["begin", "step", "leave", "read", "locate", "view"];
 
 /// Counting, in the words of the table.
@@ -91,6 +92,8 @@ impl Counting for Tally {
         self.input_if(refused == 14 && before.number > 31, "a record's number above 31");
         if before.phase > 5 {
             self.count("phase above 5", &format!("{call} {refused}"));
+        } else if before.retries > 65_535 {
+            self.count("retries above 65,535", &format!("{call} {refused}"));
         }
     }
 
@@ -111,8 +114,9 @@ fn lines() -> Vec<(&'static str, Vec<String>)> {
             (*call, answers.chain(refusals.iter().map(refused)).collect())
         })
         .collect();
-    let phases = WITH_RECORD.iter().flat_map(|call| [format!("{call} 10"), format!("{call} 11")]);
-    lines.push(("phase above 5", phases.collect()));
+    let refusals: Vec<String> = WITH_RECORD.iter().flat_map(|call| [format!("{call} 10"), format!("{call} 11")]).collect();
+    lines.push(("phase above 5", refusals.clone()));
+    lines.push(("retries above 65,535", refusals));
     lines.push(("turn", TURNS.map(String::from).to_vec()));
     lines.push(("input", INPUTS.map(String::from).to_vec()));
     lines
