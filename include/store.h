@@ -1,19 +1,22 @@
 /* A session file for up to 32 points, in memory that survives loss of power eight bytes at a time.
 
-   The calls below are those of document 01, for C and C++ on x86-64; link with target/staticlib/libc_api.a, which `rt staticlib c_api` makes.
+   The calls of document 01, for C and C++ on x86-64. `include/build` makes the library to link with, target/staticlib/libc_api.a;
+   docs/GUIDE.md shows how firmware uses it.
 
-   What is lent. Each call is lent memory of the caller: the image, and the records beside it. It keeps no pointer, allocates nothing, takes no
-   lock, and touches nothing outside what it is lent. The numbers in that memory, in image, records and arguments, may be anything: a number that
-   is wrong is refused. What a library can't test is the pointers themselves, so these four things are the caller's to keep:
+   What is lent. Each call is lent memory of the caller: the image, and the records beside it. It keeps no pointer, allocates
+   nothing, takes no lock, and touches nothing outside what it is lent. The numbers in that memory, in image, records and arguments,
+   may be anything: a number that is wrong is refused. What a library can't test is the pointers themselves, so these four things are
+   the caller's to keep:
      - a pointer is not null and aligned for its type, also where the length beside it is 0;
      - as many elements as the length says, or the one record, are there to be read, and written where the pointer is not to const;
      - no two pointers of one call overlap;
-     - no other thread and no interrupt handler uses that memory while the call runs. Points share one image and one shared record, so one call at
-       a time for a file; between two calls anything may happen, loss of power included.
+     - no other thread and no interrupt handler uses that memory while the call runs. Points share one image and one shared record, so
+       one call at a time for a file; between two calls anything may happen, loss of power included.
 
-   What is answered. A refusal is the number that document 01 lists for the first fault, by name below; 0 is no refusal. A call that is refused
-   leaves image and records as they were, save STORE_LOG_FULL and STORE_NO_LOG_BLOCK, which end the write. Only store_lay_out and store_step write
-   to the image, and store_step stores at most one word. */
+   What is answered. A refusal is the number that document 01 lists for the first fault, by name below; 0 is no refusal. A call that
+   is refused leaves image and records as they were, a write under way too, with these exceptions: STORE_LOG_FULL and
+   STORE_NO_LOG_BLOCK end the write; a refused opening makes a shared record of zeros, a refused joining a point's record of zeros.
+   Only store_lay_out and store_step write to the image, and store_step stores at most one word. */
 
 #ifndef STORE_H
 #define STORE_H
@@ -50,7 +53,7 @@ enum {
     STORE_BLOCK_SHARED = 8,       /* two virtual blocks share a block, or one is a log block */
     STORE_END_NOT_ZERO = 9,       /* a byte at or past the file's end in its last block is not 0 */
     STORE_SHARED_UNFIT = 10,      /* the shared record's block count or next place does not fit the image */
-    STORE_RECORD_UNFIT = 11,      /* the point's record does not fit, or its phase is none */
+    STORE_RECORD_UNFIT = 11,      /* the point's record does not fit; also a phase above 5, or retries above 65,535 */
     STORE_NUMBER_ABOVE = 12,      /* the point number is above 31 */
     STORE_ALREADY_JOINED = 13,
     STORE_NOT_JOINED = 14,
@@ -67,7 +70,7 @@ enum {
 /* What a step answers. */
 enum {
     STORE_STORED = 1,     /* one word of the image was stored; step again */
-    STORE_MOVED = 2,      /* others have committed: the point has caught up; step again */
+    STORE_MOVED = 2,      /* others came first, nothing was stored; step again */
     STORE_EXTENDING = 3,  /* a block was taken for the log; step again */
     STORE_COMMITTED = 4,  /* the write is real; the value is how often it was moved */
     STORE_REFUSED = 5     /* the value says why */
@@ -115,7 +118,7 @@ typedef struct store_opened {
     uint32_t refused, length, entries, free;
 } store_opened;
 
-/* What a step answers: one of the five, and its value. */
+/* What a step answers: one of the five, and its value, 0 for the first three. */
 typedef struct store_answer {
     uint32_t kind, value;
 } store_answer;
@@ -125,62 +128,73 @@ typedef struct store_count {
     uint32_t refused, count;
 } store_count;
 
-/* The functions that the library exports, besides store_lay_out and store_list; the calls below hand them the parts of both records: the numbers
-   of the shared record, its map, the twelve numbers of a point's, its table and its text. */
-store_opened store_lent_open(const uint64_t *image, size_t words, uint16_t *scratch, size_t places, uint32_t *shared, uint64_t *taken);
-uint32_t store_lent_join(const uint64_t *image, size_t words, uint32_t *shared, uint64_t *taken, uint32_t number, uint32_t *head, uint16_t *table,
-                         uint8_t *text);
-uint32_t store_lent_begin(const uint64_t *image, size_t words, uint32_t *shared, uint64_t *taken, uint32_t *head, uint16_t *table, uint8_t *text,
-                          size_t offset, const uint8_t *bytes, size_t size);
-store_answer store_lent_step(uint64_t *image, size_t words, uint32_t *shared, uint64_t *taken, uint32_t *head, uint16_t *table, uint8_t *text);
-uint32_t store_lent_leave(const uint64_t *image, size_t words, uint32_t *shared, uint64_t *taken, const uint32_t *head, const uint16_t *table);
-store_count store_lent_read(const uint64_t *image, size_t words, const uint32_t *shared, const uint64_t *taken, const uint32_t *head,
-                            const uint16_t *table, size_t offset, uint8_t *buffer, size_t room);
-store_count store_lent_locate(const uint64_t *image, size_t words, const uint32_t *shared, const uint64_t *taken, const uint32_t *head,
-                              const uint16_t *table, size_t block);
+/* The functions that the library exports, besides store_lay_out and store_list. The calls below hand them the parts of both
+   records: the three numbers of the shared record and its map; the twelve numbers of a point's record, its table and its text. */
+store_opened store_lent_open(const uint64_t *image, size_t words, uint16_t *scratch, size_t places, uint32_t *shared,
+                             uint64_t *taken);
+uint32_t store_lent_join(const uint64_t *image, size_t words, uint32_t *shared, uint64_t *taken, uint32_t number, uint32_t *head,
+                         uint16_t *table, uint8_t *text);
+uint32_t store_lent_begin(const uint64_t *image, size_t words, uint32_t *shared, uint64_t *taken, uint32_t *head, uint16_t *table,
+                          uint8_t *text, size_t offset, const uint8_t *bytes, size_t size);
+store_answer store_lent_step(uint64_t *image, size_t words, uint32_t *shared, uint64_t *taken, uint32_t *head, uint16_t *table,
+                             uint8_t *text);
+uint32_t store_lent_leave(const uint64_t *image, size_t words, uint32_t *shared, uint64_t *taken, const uint32_t *head,
+                          const uint16_t *table);
+store_count store_lent_read(const uint64_t *image, size_t words, const uint32_t *shared, const uint64_t *taken,
+                            const uint32_t *head, const uint16_t *table, size_t offset, uint8_t *buffer, size_t room);
+store_count store_lent_locate(const uint64_t *image, size_t words, const uint32_t *shared, const uint64_t *taken,
+                              const uint32_t *head, const uint16_t *table, size_t block);
 
-/* The numbers of a record stand side by side. */
-typedef char store_numbers_fit[offsetof(store_shared, next) == 2 * sizeof(uint32_t) && sizeof(store_head) == 12 * sizeof(uint32_t) ? 1 : -1];
+/* The numbers of a record stand side by side, from its beginning on. */
+typedef char store_numbers_stand_so[offsetof(store_shared, next) == 8 && sizeof(store_head) == 48 && sizeof(uint32_t) == 4 ? 1 : -1];
 
 /* ---- The calls. */
 
-/* Lays out an empty file: writes the superblock and empties block 1, and touches no other block. What the image held is no longer a file.
+/* Lays out an empty file: writes the superblock and empties block 1, and touches no other block. What the image held is no longer a
+   file. It makes many stores: power lost meanwhile may leave anything.
    Lent: the image. Answers 0, or 1. */
 uint32_t store_lay_out(uint64_t *image, size_t words);
 
 /* Opens an image, for a first time or after loss of power: there is nothing to repair. No point is joined then.
-   Lent: the image, and a scratch of at least 1,024 numbers, which afterwards says of each block b what it is: 65,535 for the superblock and log
-   blocks, one more than its block of the file where it is the file's, else 0. Makes *shared; where it is refused, a record of zeros, which every
-   later call refuses. Refusals: 1 to 9. Refused by 1 to 7 it leaves the scratch as it was, by 8 and 9 zeros in its first 1,024 places. */
+   Lent: the image; a scratch of at least 1,024 numbers; and memory for the shared record, which is made. Afterwards the scratch says
+   of each block b what it is: 65,535 for the superblock and log blocks, one more than its block of the file where it is the file's,
+   else 0. Refused by 1 to 7 it leaves the scratch as it was, by 8 and 9 zeros in its first 1,024 places.
+   Refusals: 1 to 9; then *shared is all zeros, which every later call refuses. */
 static inline store_opened store_open(const uint64_t *image, size_t words, uint16_t *scratch, size_t places, store_shared *shared)
 {
     return store_lent_open(image, words, scratch, places, (uint32_t *)shared, shared->taken);
 }
 
-/* Lists an image: opens it, and says for each of the file's 256 blocks which block of the image holds it, 0 for none and where it is refused.
-   Lent: the image, a scratch as for opening, and the rows. Refusals: 1 to 9. */
-store_opened store_list(const uint64_t *image, size_t words, uint16_t *scratch, size_t places, uint16_t rows[256]);
+/* Lists an image: opens it, and says for each of the file's 256 blocks which block of the image holds it, 0 for none and where it is
+   refused.
+   Lent: the image, a scratch as for opening, and 256 rows. Refusals: 1 to 9. */
+store_opened store_list(const uint64_t *image, size_t words, uint16_t *scratch, size_t places, uint16_t *rows);
 
 /* Point `number` joins.
-   Lent: the image, the shared record, and memory for the point's record, which is made; where it is refused, a record of zeros.
-   Refusals: 10, 12, 13, 18. */
+   Lent: the image, the shared record, and memory for the point's record, which is made. Do not lend the record of a point that is
+   joined: it is overwritten.
+   Refusals: 10, 12, 13, 18; then *point is all zeros. */
 static inline uint32_t store_join(const uint64_t *image, size_t words, store_shared *shared, uint32_t number, store_point *point)
 {
-    return store_lent_join(image, words, (uint32_t *)shared, shared->taken, number, (uint32_t *)&point->head, point->table, point->text);
+    return store_lent_join(image, words, (uint32_t *)shared, shared->taken, number, (uint32_t *)&point->head, point->table,
+                           point->text);
 }
 
-/* Begins a write of `size` bytes, 1 to 1,024, from byte `offset` of the file on. Nothing of it shows before a step answers STORE_COMMITTED.
+/* Begins a write of `size` bytes, 1 to 1,024, from byte `offset` of the file on. Nothing of it shows before a step answers
+   STORE_COMMITTED.
    Lent: the image, both records, and the bytes, which are copied into the record.
    Refusals: 10, 11, 14, 15, 16, 17, 18, 19. */
 static inline uint32_t store_begin(const uint64_t *image, size_t words, store_shared *shared, store_point *point, size_t offset,
                                    const uint8_t *bytes, size_t size)
 {
-    return store_lent_begin(image, words, (uint32_t *)shared, shared->taken, (uint32_t *)&point->head, point->table, point->text, offset, bytes, size);
+    return store_lent_begin(image, words, (uint32_t *)shared, shared->taken, (uint32_t *)&point->head, point->table, point->text,
+                            offset, bytes, size);
 }
 
-/* A step of the point's write: at most one word of the image is stored. Step on until STORE_COMMITTED or STORE_REFUSED; a point that steps alone
-   is done after at most 388 steps, and other points may take steps between.
-   Lent: the image and both records. Refusals, as value of STORE_REFUSED: 10, 11, 14, 15, 18, 20, 21; the last two end the write. */
+/* A step of the point's write: at most one word of the image is stored. Step on until STORE_COMMITTED or STORE_REFUSED; a point that
+   steps alone is done after at most 388 steps, and other points may take steps between.
+   Lent: the image and both records.
+   Refusals, as value of STORE_REFUSED: 10, 11, 14, 15, 18, after which the write is still under way; 20, 21, which end it. */
 static inline store_answer store_step(uint64_t *image, size_t words, store_shared *shared, store_point *point)
 {
     return store_lent_step(image, words, (uint32_t *)shared, shared->taken, (uint32_t *)&point->head, point->table, point->text);
@@ -193,26 +207,30 @@ static inline uint32_t store_leave(const uint64_t *image, size_t words, store_sh
     return store_lent_leave(image, words, (uint32_t *)shared, shared->taken, (const uint32_t *)&point->head, point->table);
 }
 
-/* Reads the file from byte `offset` on into the buffer: as many bytes as fit and as the file has from there on; none at or past its end. All that
-   is committed is seen, by whichever point; the records stay as they are.
-   Lent: the image, both records, and the buffer. Answers the count of bytes; where it is refused, 0, and the buffer is untouched.
-   Refusals: 10, 11, 14, 18. */
-static inline store_count store_read(const uint64_t *image, size_t words, const store_shared *shared, const store_point *point, size_t offset,
-                                     uint8_t *buffer, size_t room)
+/* Reads the file from byte `offset` on into the buffer: as many bytes as fit and as the file has from there on; none at or past its
+   end. All that is committed is seen, by whichever point; the records stay as they are.
+   Lent: the image, both records, and the buffer. Answers the count of bytes.
+   Refusals: 10, 11, 14, 18; then the count is 0 and the buffer untouched. */
+static inline store_count store_read(const uint64_t *image, size_t words, const store_shared *shared, const store_point *point,
+                                     size_t offset, uint8_t *buffer, size_t room)
 {
-    return store_lent_read(image, words, (const uint32_t *)shared, shared->taken, (const uint32_t *)&point->head, point->table, offset, buffer, room);
+    return store_lent_read(image, words, (const uint32_t *)shared, shared->taken, (const uint32_t *)&point->head, point->table,
+                           offset, buffer, room);
 }
 
 /* Says which block of the image holds block `block` of the file, 0 to 255.
-   Lent: the image and both records. Answers its number, 0 where it is refused. Refusals: 10, 11, 14, 17, 18, 22. */
-static inline store_count store_locate(const uint64_t *image, size_t words, const store_shared *shared, const store_point *point, size_t block)
+   Lent: the image and both records. Answers its number. Refusals: 10, 11, 14, 17, 18, 22; then the number is 0. */
+static inline store_count store_locate(const uint64_t *image, size_t words, const store_shared *shared, const store_point *point,
+                                       size_t block)
 {
-    return store_lent_locate(image, words, (const uint32_t *)shared, shared->taken, (const uint32_t *)&point->head, point->table, block);
+    return store_lent_locate(image, words, (const uint32_t *)shared, shared->taken, (const uint32_t *)&point->head, point->table,
+                             block);
 }
 
-/* The 64 words of block `block` of the file where they lie in the image, or a null pointer exactly where locating is refused. They stay the
-   file's until a write over that block is committed. */
-static inline const uint64_t *store_view(const uint64_t *image, size_t words, const store_shared *shared, const store_point *point, size_t block)
+/* The 64 words of block `block` of the file where they lie in the image, or a null pointer exactly where locating is refused. They
+   stay the file's until a write over that block is committed. */
+static inline const uint64_t *store_view(const uint64_t *image, size_t words, const store_shared *shared, const store_point *point,
+                                         size_t block)
 {
     store_count found = store_locate(image, words, shared, point, block);
     return found.refused ? (const uint64_t *)0 : image + (size_t)STORE_BLOCK_WORDS * found.count;
