@@ -1,8 +1,7 @@
 -- A phase and its number, a head and its numbers: nothing is lost on the way to C and back. Assumes nothing.
 use Prim.Native.Nat.{ℕ, zero, suc, _≤_}
 use native.Mathlib.Omega.{arith}
-use mathlib.Core.Path.{_≡_, refl, sym, ap}
-use mathlib.Core.Logic.{_≢_}
+use mathlib.Core.Path.{_≡_, refl}
 use mathlib.Core.Bool.{true}
 use mathlib.Core.List.{List, [], _∷_}
 use borrow.Author.Tests.{leb-true}
@@ -10,10 +9,10 @@ use Rattle.words.proofs.Logic.{and-left}
 use Rattle.points.specs.declared.Phase.{Phase}
 use Rattle.points.specs.declared.Phase.the-variants.{Idle, Filling, RefillFirst, RefillLast, RefillBoth, Zeroing}
 use Rattle.points.specs.declared.Head.{Head}
-use Rattle.points.specs.Record.{phaseNumber}
-use Rattle.c_api.specs.Numbers.{headNumbers, phaseFrom, headFrom, isKnown}
+use Rattle.points.specs.Record.{phaseNumber, phaseOf}
+use Rattle.c_api.specs.Numbers.{headNumbers, headFrom, isKnown}
 
-pub phase-back : (p : Phase) → phaseFrom (phaseNumber p) ≡ p
+pub phase-back : (p : Phase) → phaseOf (phaseNumber p) ≡ p
 phase-back Idle = refl
 phase-back Filling = refl
 phase-back RefillFirst = refl
@@ -25,23 +24,15 @@ phase-back Zeroing = refl
 pub head-back : (h : Head) → headFrom (headNumbers h) ≡ h
 head-back h = rw (phase-back (h .write .phase))
 
--- a number that is none of 0 to 4
-pub phase-last : (n : ℕ) → n ≢ 0 → n ≢ 1 → n ≢ 2 → n ≢ 3 → n ≢ 4 → Zeroing ≡ phaseFrom n
-phase-last zero a b c d e = absurd (a refl)
-phase-last (suc zero) a b c d e = absurd (b refl)
-phase-last (suc (suc zero)) a b c d e = absurd (c refl)
-phase-last (suc (suc (suc zero))) a b c d e = absurd (d refl)
-phase-last (suc (suc (suc (suc zero)))) a b c d e = absurd (e refl)
-phase-last (suc (suc (suc (suc (suc n))))) a b c d e = refl
-
 -- and numbers that are a head's stay as they are where a call changes nothing
-number-back : (n : ℕ) → n ≤ 5 → phaseNumber (phaseFrom n) ≡ n
+number-back : (n : ℕ) → n ≤ 5 → phaseNumber (phaseOf n) ≡ n
 number-back zero l = refl
 number-back (suc zero) l = refl
 number-back (suc (suc zero)) l = refl
 number-back (suc (suc (suc zero))) l = refl
 number-back (suc (suc (suc (suc zero)))) l = refl
-number-back (suc (suc (suc (suc (suc n))))) l = let e : suc (suc (suc (suc (suc n)))) ≡ 5 = omega arith in sym e
+number-back (suc (suc (suc (suc (suc zero))))) l = refl
+number-back (suc (suc (suc (suc (suc (suc n)))))) l = absurd (omega arith)
 
 pub numbers-back :
     (a b c d e f g h phase i j k : ℕ) → let xs = a ∷ b ∷ c ∷ d ∷ e ∷ f ∷ g ∷ h ∷ phase ∷ i ∷ j ∷ k ∷ [] in

@@ -1,5 +1,5 @@
 -- Answers and records in numbers, as C has them.
-use Prim.Native.Nat.{ℕ, zero, suc}
+use Prim.Native.Nat.{ℕ}
 use mathlib.Core.Bool.{Bool, _&&_}
 use mathlib.Core.List.{List, [], _∷_}
 use lib.ListN.{getD}
@@ -7,13 +7,11 @@ use lib.Dec.{leb}
 use Rattle.log.specs.declared.Shared.{Shared}
 use Rattle.log.specs.declared.Opened as log
 use Rattle.log.specs.Opening.{numberOf}
-use Rattle.points.specs.declared.Phase.{Phase}
-use Rattle.points.specs.declared.Phase.the-variants.{Idle, Filling, RefillFirst, RefillLast, RefillBoth, Zeroing}
 use Rattle.points.specs.declared.StepAnswer.{StepAnswer}
 use Rattle.points.specs.declared.Head.{Head}
 use Rattle.points.specs.declared.Numbers.{Numbers}
 use Rattle.points.specs.declared.Count as counted
-use Rattle.points.specs.Record.{phaseNumber}
+use Rattle.points.specs.Record.{phaseNumber, phaseOf}
 use Rattle.points.specs.Stepping.{stepKind, stepValue}
 use Rattle.points.specs.Plan.{sharedOf}
 use Rattle.c_api.specs.declared.Opened.{Opened}
@@ -35,15 +33,6 @@ headNumbers h =
     h .number ∷ h .length ∷ h .place .block ∷ h .place .slot ∷ h .place .passed ∷ h .write .offset ∷ h .write .size ∷ h .write .run
     ∷ phaseNumber (h .write .phase) ∷ h .write .position ∷ h .write .zeroing ∷ h .write .retries ∷ []
 
--- the phase of a number; it is asked for numbers up to 5
-abbrev pub phaseFrom : ℕ → Phase
-phaseFrom zero = Idle
-phaseFrom (suc zero) = Filling
-phaseFrom (suc (suc zero)) = RefillFirst
-phaseFrom (suc (suc (suc zero))) = RefillLast
-phaseFrom (suc (suc (suc (suc zero)))) = RefillBoth
-phaseFrom (suc (suc (suc (suc (suc n))))) = Zeroing
-
 abbrev pub headFrom : List ℕ → Head
 headFrom xs =
     record {
@@ -55,7 +44,7 @@ headFrom xs =
             offset = getD xs 5 0;
             size = getD xs 6 0;
             run = getD xs 7 0;
-            phase = phaseFrom (getD xs 8 0);
+            phase = phaseOf (getD xs 8 0);
             position = getD xs 9 0;
             zeroing = getD xs 10 0;
             retries = getD xs 11 0;

@@ -4,15 +4,13 @@ ghost use mathlib.Core.Bool.{true};
 ghost use mathlib.Core.List.{List};
 ghost use Prim.Native.Nat.{ℕ};
 ghost use Rattle.log.specs.Opening.{numberOf};
-ghost use Rattle.points.specs.Record.{phaseNumber};
 ghost use Rattle.points.specs.Stepping.{stepKind, stepValue};
-ghost use Rattle.c_api.specs.Numbers.{openedNumbers, countNumbers, headNumbers, phaseFrom, headFrom, isKnown, sharedNumbers, leadFrom, sharedFrom};
+ghost use Rattle.c_api.specs.Numbers.{openedNumbers, countNumbers, headNumbers, headFrom, isKnown, sharedNumbers, leadFrom, sharedFrom};
 ghost use Rattle.c_api.specs.Calls.{unknown};
 use crate::Count;
 use crate::Opened;
 use log::Reply;
 use log::Shared;
-use points::Phase;
 use points::StepAnswer;
 
 // The refusal's number, 0 for none.
@@ -72,41 +70,6 @@ pub(crate) fn of_count(count: points::Count) -> Count
     }
 }
 
-pub(crate) fn of_phase(phase: Phase) -> u32
-    ensures { λ r. ⌜ r ≡ phaseNumber phase ⌝ }
-{
-    match phase {
-        Phase::Idle => 0,
-        Phase::Filling => 1,
-        Phase::RefillFirst => 2,
-        Phase::RefillLast => 3,
-        Phase::RefillBoth => 4,
-        Phase::Zeroing => 5,
-    }
-}
-
-// The phase that a number names; a number above 5 names none, and is asked for nowhere.
-fn phase(number: u32) -> Phase
-    ensures { λ r. ⌜ r ≡ phaseFrom number ⌝ }
-{
-    if number == 0 {
-        return Phase::Idle;
-    }
-    if number == 1 {
-        return Phase::Filling;
-    }
-    if number == 2 {
-        return Phase::RefillFirst;
-    }
-    if number == 3 {
-        return Phase::RefillLast;
-    }
-    if number == 4 {
-        return Phase::RefillBoth;
-    }
-    Phase::Zeroing
-}
-
 // The numbers of a head, in the order of C's record.
 pub(crate) fn of_head(head: points::Head) -> [u32; 12]
     ensures { λ r. ⌜ r ≡ headNumbers head ⌝ }
@@ -122,7 +85,7 @@ pub(crate) fn of_head(head: points::Head) -> [u32; 12]
         write.offset,
         write.size,
         write.run,
-        of_phase(phase),
+        points::record::phase_number(phase),
         write.position,
         write.zeroing,
         write.retries as u32,
@@ -153,7 +116,7 @@ pub(crate) fn head(numbers: &[u32; 12]) -> points::Head
             offset: numbers[5],
             size: numbers[6],
             run: numbers[7],
-            phase: phase(numbers[8]),
+            phase: points::record::phase_of(numbers[8]),
             position: numbers[9],
             zeroing: numbers[10],
             retries: numbers[11] as u16,

@@ -1,8 +1,9 @@
 -- The shared tests as the code makes them, from the first on, are the definitions' lists of tests. Assumes nothing.
-use Prim.Native.Nat.{ℕ, suc, _+_, _*_, _-_, _/_, _^_, _≤_, _<_, max}
+use Prim.Native.Nat.{ℕ, zero, suc, _+_, _*_, _-_, _/_, _^_, _≤_, _<_, max}
 use native.Mathlib.Omega.{arith}
 use native.Mathlib.Numerals.{add-one}
 use mathlib.Core.Path.{_≡_, refl, sym, _∙_, ap}
+use mathlib.Core.Logic.{_≢_}
 use mathlib.Core.Bool.{Bool, true, false, _&&_, _||_, not, and-true, and-assoc, or-false, or-assoc}
 use mathlib.Core.List.{List, [], _∷_}
 use lib.ListN.{length, getD, drop}
@@ -19,9 +20,10 @@ use Rattle.words.proofs.Logic.{agree}
 use Rattle.words.specs.Word.{bit}
 use Rattle.log.specs.declared.Place.{Place}
 use Rattle.log.specs.declared.Shared.{Shared}
+use Rattle.points.specs.declared.Phase.the-variants.{Idle}
 use Rattle.points.specs.declared.Write.{Write}
 use Rattle.points.specs.declared.Head.{Head}
-use Rattle.points.specs.Record.{isIdle, isZeroing, span, badShared, badText, pastEnd, inside, placeFits, zeroingFits, writeFits, headFits, tableFits}
+use Rattle.points.specs.Record.{phaseOf, isIdle, isZeroing, span, badShared, badText, pastEnd, inside, placeFits, zeroingFits, writeFits, headFits, tableFits}
 
 -- ---- several tests, made from the first on
 
@@ -102,6 +104,17 @@ module _ (blocks : ℕ) (h : Head) where
   head-busy e =
       ap (λ (t : Bool). (placeFits one blocks (h .place) && leb (h .length) 131072) && t) (sym (choose-false (isIdle (h .write .phase)) true (writeFits one blocks (h .place) (h .write)) e))
       ∙ head-tests
+
+-- ---- a number that is no phase's but Idle's
+
+pub phase-none : (n : ℕ) → n ≢ 1 → n ≢ 2 → n ≢ 3 → n ≢ 4 → n ≢ 5 → Idle ≡ phaseOf n
+phase-none zero a b c d e = refl
+phase-none (suc zero) a b c d e = absurd (a refl)
+phase-none (suc (suc zero)) a b c d e = absurd (b refl)
+phase-none (suc (suc (suc zero))) a b c d e = absurd (c refl)
+phase-none (suc (suc (suc (suc zero)))) a b c d e = absurd (d refl)
+phase-none (suc (suc (suc (suc (suc zero))))) a b c d e = absurd (e refl)
+phase-none (suc (suc (suc (suc (suc (suc n)))))) a b c d e = refl
 
 -- ---- the table, from an index on
 

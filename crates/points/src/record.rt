@@ -7,7 +7,7 @@ ghost use lib.ListN.{length};
 ghost use Rattle.words.specs.Edition.{one};
 ghost use Rattle.words.specs.Logic.{between};
 ghost use Rattle.words.specs.Word.{bit};
-ghost use Rattle.points.specs.Record.{noText, isIdle, isZeroing, badShared, badText, pastEnd, inside, placeFits, zeroingFits, writeFits, headFits, tableFits, span, fits};
+ghost use Rattle.points.specs.Record.{noText, phaseNumber, phaseOf, isIdle, isZeroing, badShared, badText, pastEnd, inside, placeFits, zeroingFits, writeFits, headFits, tableFits, span, fits};
 ghost use Rattle.points.specs.Unfit.{unfit};
 ghost use Rattle.points.specs.Plan.{sharedOf};
 use crate::Head;
@@ -62,6 +62,33 @@ pub fn is_joined(joined: u32, number: u32) -> bool
         return false;
     }
     (joined >> number) & 1 == 1
+}
+
+// A phase as a number, and back: numbers above 5 are no phase's, and stand for Idle.
+pub fn phase_number(phase: Phase) -> u32
+    ensures { λ r. ⌜ r ≡ phaseNumber phase ⌝ }
+{
+    match phase {
+        Phase::Idle => 0,
+        Phase::Filling => 1,
+        Phase::RefillFirst => 2,
+        Phase::RefillLast => 3,
+        Phase::RefillBoth => 4,
+        Phase::Zeroing => 5,
+    }
+}
+
+pub fn phase_of(number: u32) -> Phase
+    ensures { λ r. ⌜ r ≡ phaseOf number ⌝ }
+{
+    match number {
+        1 => Phase::Filling,
+        2 => Phase::RefillFirst,
+        3 => Phase::RefillLast,
+        4 => Phase::RefillBoth,
+        5 => Phase::Zeroing,
+        _ => Phase::Idle,
+    }
 }
 
 // Whether no write is under way.

@@ -3,7 +3,6 @@ ghost use Prim.Native.Nat.{_<_};
 use log::Place;
 use log::Shared;
 use points::Head;
-use points::Phase;
 use points::Point;
 use points::Write;
 
@@ -15,28 +14,6 @@ pub const SIZE: usize = 1292;
 pub const TABLE: usize = 12;
 
 pub const TEXT: usize = 268;
-
-fn phase_of(n: u32) -> Phase {
-    match n {
-        1 => Phase::Filling,
-        2 => Phase::RefillFirst,
-        3 => Phase::RefillLast,
-        4 => Phase::RefillBoth,
-        5 => Phase::Zeroing,
-        _ => Phase::Idle,
-    }
-}
-
-fn phase_number(phase: Phase) -> u32 {
-    match phase {
-        Phase::Idle => 0,
-        Phase::Filling => 1,
-        Phase::RefillFirst => 2,
-        Phase::RefillLast => 3,
-        Phase::RefillBoth => 4,
-        Phase::Zeroing => 5,
-    }
-}
 
 fn low16(n: u32) -> u16 {
     (n % 65536) as u16
@@ -67,7 +44,7 @@ fn load_head(places: &Places, p: usize) -> Head
         offset: places[at + 6],
         size: places[at + 7],
         run: places[at + 8],
-        phase: phase_of(places[at + 5]),
+        phase: points::record::phase_of(places[at + 5]),
         position: places[at + 9],
         zeroing: places[at + 10],
         retries: low16(places[at + 11]),
@@ -126,7 +103,7 @@ fn save_head(places: &mut Places, p: usize, head: Head)
     places[at + 2] = place.block;
     places[at + 3] = place.slot;
     places[at + 4] = place.passed;
-    places[at + 5] = phase_number(phase);
+    places[at + 5] = points::record::phase_number(phase);
     places[at + 6] = write.offset;
     places[at + 7] = write.size;
     places[at + 8] = write.run;

@@ -33,11 +33,11 @@ element-copy-out-t23 c = search needs
 element-copy-out-t26 : tie.Need-element-copy-out-t26
 element-copy-out-t26 c = search needs
 
-element-copy-out-phase : tie.Need-element-copy-out-phase
-element-copy-out-phase c = search needs
+element-copy-out-phase-of : tie.Need-element-copy-out-phase-of
+element-copy-out-phase-of c = search needs
 
-phase-requires : tie.Need-phase-requires
-phase-requires c κs = search needs
+phase-of-requires : tie.Need-phase-of-requires
+phase-of-requires c κs = search needs
 
 element-copy-out-t33 : tie.Need-element-copy-out-t33
 element-copy-out-t33 c = search needs
@@ -55,7 +55,7 @@ cast-t40 c =
     record { fits = omega (arith, l) }
 
 returns : tie.Need-returns
-returns c = rw (c .before .before .before .phase .ensures)
+returns c = rw (c .before .before .before .phase-of .ensures)
 
 pub head-spec : {M : Type 1} → statement M
 head-spec =
@@ -69,8 +69,8 @@ head-spec =
     element-copy-out-t20
     element-copy-out-t23
     element-copy-out-t26
-    element-copy-out-phase
-    phase-requires
+    element-copy-out-phase-of
+    phase-of-requires
     element-copy-out-t33
     element-copy-out-t36
     element-copy-out-t39

@@ -3,14 +3,14 @@ use borrow.Author.Needs.{needs}
 use Rattle.c_api.proofs.numbers.of_head.Statement.{statement}
 use Rattle.c_api.proofs.numbers.of_head.Tie as tie
 
-of-phase-requires : tie.Need-of-phase-requires
-of-phase-requires c κs = search needs
+phase-number-requires : tie.Need-phase-number-requires
+phase-number-requires c κs = search needs
 
 cast-t5 : tie.Need-cast-t5
 cast-t5 c = search needs
 
 returns : tie.Need-returns
-returns c = rw (c .before .of-phase .ensures)
+returns c = rw (c .before .phase-number .ensures)
 
 pub of-head-spec : {M : Type 1} → statement M
-of-head-spec = tie.close (tie.spec of-phase-requires cast-t5 returns)
+of-head-spec = tie.close (tie.spec phase-number-requires cast-t5 returns)
