@@ -23,7 +23,7 @@ fn promises(columns: &Columns) -> Vec<String> {
 /// What holds of all tables.
 fn preface() {
     println!(
-        "Times are medians of {REPETITIONS} repetitions of at least {} ms each, by {}; in brackets the ratio, {} = 1. \
+        "Times are lower quartiles of {REPETITIONS} repetitions of at least {} ms each, by {}, since other work on a machine makes some slower and none faster; in brackets the ratio, {} = 1. \
          The columns take turns within each row, with the same bytes.\n",
         LEAST.as_millis(),
         CLOCK,
@@ -49,7 +49,7 @@ fn writes_table(columns: &mut Columns) {
     }
     rows.push(promises(columns));
     print_rows("", columns, &rows);
-    println!("The fastest and the slowest left out, the repetitions of a cell lie at most {:.0} % of its median apart.\n", 100.0 * spread);
+    println!("The fastest repetition of a cell lies at most {:.0} % below what stands there.\n", 100.0 * spread);
     println!(
         "What this library promises holds for memory that keeps stores of eight bytes whole and in the order made: it flushes no processor cache, \
          libpmemobj and libpmemlog do. SQLite and LMDB sync to a memory file system, which costs a call and no device; on a disk they take longer. \
@@ -59,7 +59,15 @@ fn writes_table(columns: &mut Columns) {
 
 fn other_tables(columns: &mut Columns) {
     println!("## One step\n\nThe tests of a record, 1.6 KB, and one word filled from a text of 512 bytes.\n");
-    table::print(&head("", step_names()), &[steps().cells(table::time)]);
+    let row = steps();
+    table::print(&head("", step_names()), &[row.cells(table::time)]);
+    let fills = |value: &Option<f64>| table::time(128.0 * value.unwrap());
+    println!(
+        "A write of two whole blocks, 1,024 bytes, is 128 such steps: {} here, {} by the port behind `&mut`, \
+         which is about the least for steps of one word that test the record each time.\n",
+        fills(&row.values[0]),
+        fills(row.values.last().unwrap())
+    );
     println!("## Opening\n\nWhat that many committed writes of 64 bytes left, as after a power loss; SQLite with the log not yet checkpointed, and one row read.\n");
     let rows: Vec<_> = OPENED.iter().map(|&entries| openings(columns, entries).cells(table::time)).collect();
     print_rows("", columns, &rows);

@@ -1,10 +1,10 @@
-//! The clock, repetitions, medians.
+//! The clock, repetitions, quartiles.
 
 use std::time::{Duration, Instant};
 
 /// `Instant` reads CLOCK_MONOTONIC.
 pub const CLOCK: &str = "CLOCK_MONOTONIC";
-pub const REPETITIONS: usize = 7;
+pub const REPETITIONS: usize = 15;
 /// A repetition takes at least this long.
 pub const LEAST: Duration = Duration::from_millis(20);
 
@@ -35,24 +35,22 @@ pub fn nanoseconds(mut work: impl FnMut() -> Option<Work>) -> Option<f64> {
     Some(time.as_nanos() as f64 / pieces as f64)
 }
 
-/// The median of the repetitions of `nanoseconds`.
+/// The lower quartile of the repetitions of `nanoseconds`.
 pub fn repeated(mut work: impl FnMut() -> Work) -> f64 {
     let values = (0..REPETITIONS).map(|_| nanoseconds(|| Some(work())));
-    median(values.flatten().collect()).unwrap()
+    quartile(values.flatten().collect()).unwrap()
 }
 
-/// How far the values lie apart, the least and the greatest left out, as a
-/// part of their median; 0 of fewer than three values.
-pub fn spread(mut values: Vec<f64>) -> f64 {
-    values.sort_by(f64::total_cmp);
-    match &values[..] {
-        [_, inner @ .., _] if !inner.is_empty() => (inner[inner.len() - 1] - inner[0]) / inner[inner.len() / 2],
-        _ => 0.0,
-    }
+/// How far the least value lies below the lower quartile, as a part of that;
+/// 0 of no value.
+pub fn spread(values: Vec<f64>) -> f64 {
+    let least = values.iter().copied().reduce(f64::min);
+    least.zip(quartile(values)).map_or(0.0, |(least, quartile)| (quartile - least) / quartile)
 }
 
-/// The middle one of an odd number of values; None of no value.
-pub fn median(mut values: Vec<f64>) -> Option<f64> {
+/// The value that a quarter of the values lie below; None of no value. Other
+/// work on the machine makes some repetitions slower, and none faster.
+pub fn quartile(mut values: Vec<f64>) -> Option<f64> {
     values.sort_by(f64::total_cmp);
-    values.get(values.len() / 2).copied()
+    values.get(values.len() / 4).copied()
 }

@@ -28,7 +28,7 @@ impl Row {
     /// A row of each column's repetitions.
     fn of(label: String, repetitions: Vec<Vec<f64>>) -> Row {
         let spread = repetitions.iter().cloned().map(spread).fold(0.0, f64::max);
-        Row { label, values: repetitions.into_iter().map(median).collect(), spread }
+        Row { label, values: repetitions.into_iter().map(quartile).collect(), spread }
     }
 
     /// The row's cells, each with its ratio.
@@ -40,7 +40,7 @@ impl Row {
 }
 
 /// One row. In each repetition the columns follow each other, so that a slow
-/// moment of the machine does not fall on one of them; the median counts.
+/// moment of the machine does not fall on one of them; the lower quartile counts.
 fn measured(
     columns: &mut Columns,
     label: String,
