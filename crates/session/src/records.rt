@@ -78,7 +78,7 @@ fn load_text(places: &Places, p: usize) -> [u8; 1024]
 }
 
 // Place p's record.
-pub fn load(places: &Places, p: usize) -> Point
+pub(crate) fn load(places: &Places, p: usize) -> Point
     requires { ⌜ p < 32 ⌝ }
 {
     let head = load_head(places, p);
@@ -129,7 +129,7 @@ fn save_text(places: &mut Places, p: usize, text: &[u8; 1024])
 }
 
 // Place p gets a record.
-pub fn save(places: &mut Places, p: usize, point: Point)
+pub(crate) fn save(places: &mut Places, p: usize, point: Point)
     requires { ⌜ p < 32 ⌝ }
 {
     save_head(places, p, point.head);
@@ -138,7 +138,7 @@ pub fn save(places: &mut Places, p: usize, point: Point)
 }
 
 // Place p becomes zero.
-pub fn clear(places: &mut Places, p: usize)
+pub(crate) fn clear(places: &mut Places, p: usize)
     requires { ⌜ p < 32 ⌝ }
 {
     for i in 0..SIZE {

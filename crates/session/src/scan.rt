@@ -12,7 +12,7 @@ pub enum Number {
 }
 
 // The place of the first such byte from a place on, or the text's end.
-pub fn find(text: &[u8], from: usize, byte: u8) -> usize
+pub(crate) fn find(text: &[u8], from: usize, byte: u8) -> usize
     requires { ⌜ from ≤ length (now text) ⌝ }
     ensures { λ r. ⌜ (r ≡ from + length (upTo byte (drop from (now (text .entry))))) × (from ≤ r) × (r ≤ length (now (text .entry))) ⌝ }
 {

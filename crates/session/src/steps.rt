@@ -100,7 +100,7 @@ fn stretch(before: Told, times: u64, now: Told) -> u64
 }
 
 // Up to `most` steps of a point, ending after Committed or a refusal, and their lines.
-pub fn walk(image: &mut [u64], shared: Shared, point: Point, most: u64) -> Walked
+pub(crate) fn walk(image: &mut [u64], shared: Shared, point: Point, most: u64) -> Walked
     requires { ⌜ most < 100001 ⌝ }
 {
     let mut s = shared;
