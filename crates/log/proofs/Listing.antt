@@ -39,7 +39,7 @@ module _ (words scratch : List ℕ) where
     where
       go : (n : ℕ) → openRefusal one words scratch ≡ n → replicate 256 0 ≡ rowsOf one words scratch
       go (suc n) e = rw (e, rowsOf)
-      go zero e = let f = size-facts words (refusal-passed words scratch e .0 .size) in absurd (omega (arith, f .1, opened-count e))
+      go zero e = let f = size-facts one words (refusal-passed words scratch e .0 .size) in absurd (omega (arith, f .1, opened-count e))
 
   -- what catching up makes of the log's start
   module _ (some : answered ≢ 0) (st : Place) (es : st ≡ record { block = firstIndex (memory one words) % 2 ^ 32; slot = 2; passed = 1 }) where

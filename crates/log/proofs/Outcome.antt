@@ -46,7 +46,7 @@ pub record Held (words scratch table : List ℕ) (size : ℕ) : Type 0 where
 
 module _ {words scratch : List ℕ} (p : Passed words scratch) where
   pub blocks-small : count words ≤ 1024
-  blocks-small = size-facts words (p .size) .2
+  blocks-small = size-facts one words (p .size) .2
 
   pub scratch-enough : 1024 ≤ length scratch
   scratch-enough = ltb-false (length scratch) 1024 (p .long)
@@ -92,15 +92,15 @@ module _ {words scratch table : List ℕ} {size : ℕ} (h : Held words scratch t
   size-is : size ≡ fileOf one (mem words) .size
   size-is = ap (λ (f : Mapped). f .size) (h .file)
 
-  sound : Sound (count words) (record { table = table; size = size })
+  sound : Sound one (count words) (record { table = table; size = size })
   unfolding fileOf replay fresh
-  sound = rw (h .file) (sound-replay (count words) (log (mem words)) nothing (h .legal) (sound-fresh (count words) (omega (arith, size-facts words (h .passed .size) .1))))
+  sound = rw (h .file) (sound-replay one (count words) (log (mem words)) nothing (h .legal) (sound-fresh one (count words) (omega (arith, size-facts one words (h .passed .size) .1))))
 
   pub takable : Takable words table
   takable = record {
     entries = sound .width;
-    inside = λ v. omega (arith, sound .inImage v, size-facts words (h .passed .size) .2);
-    chained = inside-outside (count words) 1024 (chain (mem words)) (size-facts words (h .passed .size) .2) (chain-inside words (h .passed .index));
+    inside = λ v. omega (arith, sound .inImage v, size-facts one words (h .passed .size) .2);
+    chained = inside-outside (count words) 1024 (chain (mem words)) (size-facts one words (h .passed .size) .2) (chain-inside words (h .passed .index));
   }
 
   pub file-small : size ≤ 131072

@@ -90,7 +90,7 @@ module _ (words : List ℕ) (idx : badIndex (length words / 64) (memory one word
 
     pub start-entries : ahead one m blocks (startOf words) .entries ≡ log m
     unfolding Claim ahead log slotsOf
-    start-entries = walk-entries one m blocks (λ b h. block-length words b h) (omega arith) 63 1 (firstIndex m) 2 first-inside (omega arith) start-sound ∙ ap (λ (bs : List ℕ). upToZero (slotsOf m bs)) (sym chain-is)
+    start-entries = walk-entries one m blocks (λ b h. block-length one words b h) (omega arith) 63 1 (firstIndex m) 2 first-inside (omega arith) start-sound ∙ ap (λ (bs : List ℕ). upToZero (slotsOf m bs)) (sym chain-is)
 
     pub start-broken : broken one blocks (ahead one m blocks (startOf words)) ≡ badEntry one blocks (log m)
     unfolding broken any
@@ -103,6 +103,6 @@ pub log-count :
     (length (log (memory one words)) + 64 ≡ w .slot + 62 * w .passed) × (w .passed ≤ 64) × (w .slot ≤ 64)
 unfolding ahead Counted
 log-count words idx ends =
-    let k = counted (memory one words) (length words / 64) (λ b h. block-length words b h) 63 1 (firstIndex (memory one words)) 2 (first-inside words idx) (omega arith) (start-sound words idx ends) in
+    let k = counted (memory one words) (length words / 64) (λ b h. block-length one words b h) 63 1 (firstIndex (memory one words)) 2 (first-inside words idx) (omega arith) (start-sound words idx ends) in
     let e = ap length (start-entries words idx ends) in
     (omega (arith, k .0, e), k .1, k .2)

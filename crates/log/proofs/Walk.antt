@@ -56,8 +56,8 @@ pub block-short : (words : List ℕ) (b : ℕ) → length (blockAt (memory one w
 block-short words b = go (decLe (length words / 64) b)
   where
     go : Dec (length words / 64 ≤ b) → length (blockAt (memory one words) b) ≤ 64
-    go (yes h) = rw (block-outside words b h) (omega arith)
-    go (no n) = omega (arith, block-length words b (omega arith))
+    go (yes h) = rw (block-outside one words b h) (omega arith)
+    go (no n) = omega (arith, block-length one words b (omega arith))
 
 pub tail-small : (words : List ℕ) (b i t : ℕ) → i < 2 ^ 32 → t ≡ i + length (upToZero (drop i (blockAt (memory one words) b))) → t < 2 ^ 32
 tail-small words b i t h e = let l = tail-le i (blockAt (memory one words) b) in let s = block-short words b in omega arith

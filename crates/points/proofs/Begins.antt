@@ -124,12 +124,12 @@ pub record Ready (words : List ℕ) (s : Shared) (p : Point) (offset : ℕ) (tex
 module _ (words : List ℕ) (s : Shared) (p : Point) (offset : ℕ) (text : List ℕ) where
   pub ready : beginRefusal one words s (p .head) (p .table) offset (length text) ≡ 0 → Ready words s p offset text
   ready e =
-      let f = shared-facts words s (begin-shared words s p offset text e) in
+      let f = shared-facts words s (begin-shared one words s p offset text e) in
       record {
         none = e;
-        sound = begin-sound words s p offset text e;
+        sound = begin-sound one words s p offset text e;
         few = f .few-blocks;
-        fits = text-facts offset (length text) (begin-text words s p offset text e) (begin-end words s p offset text e);
+        fits = text-facts offset (length text) (begin-text one words s p offset text e) (begin-end one words s p offset text e);
       }
 
   pub begin-done :

@@ -22,9 +22,9 @@ use Rattle.log.proofs.Entry.{Valid, packed, valid-legal}
 -- ---- the entry
 
 module _ (blocks v b n u p : ℕ) (few : blocks ≤ 1024) (n-low : 1 ≤ n) (n-high : n ≤ 64) (u-low : 1 ≤ u) (u-high : u ≤ 512) (v-end : v + n ≤ 256) (b-low : 1 ≤ b) (b-end : b + n ≤ blocks) (point : p < 32) where
-  rules : Valid blocks (entryOf one v b n u p)
+  rules : Valid one blocks (entryOf one v b n u p)
   rules =
-      let k = packed v b n u p (omega arith) (omega arith) (omega arith) (omega arith) point in
+      let k = packed one v b n u p (omega arith) (omega arith) (omega arith) (omega arith) point in
       record {
         count = rw (k .isCount) n-low;
         few = rw (k .isCount) n-high;
@@ -37,7 +37,7 @@ module _ (blocks v b n u p : ℕ) (few : blocks ≤ 1024) (n-low : 1 ≤ n) (n-h
       }
 
   entry-legal : legal one blocks (entryOf one v b n u p) ≡ true
-  entry-legal = valid-legal blocks (entryOf one v b n u p) rules
+  entry-legal = valid-legal one blocks (entryOf one v b n u p) rules
 
 -- a run lies in the file
 pub run-in-file : (o t : ℕ) → 1 ≤ t → o + t ≤ 131072 → o / 512 + span one o t ≤ 256

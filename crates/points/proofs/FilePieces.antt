@@ -42,8 +42,8 @@ part-whole words zero part e h = absurd (h (ap length e))
 part-whole words (suc b) part e h = go (decLt (suc b) (length words / 64))
   where
     go : Dec (suc b < length words / 64) → length part ≡ 64
-    go (yes l) = ap length e ∙ block-length words (suc b) l
-    go (no n) = absurd (h (ap length (e ∙ block-outside words (suc b) (omega arith))))
+    go (yes l) = ap length e ∙ block-length one words (suc b) l
+    go (no n) = absurd (h (ap length (e ∙ block-outside one words (suc b) (omega arith))))
 
 -- n bytes of the file from byte p on, in one block
 pub file-piece :

@@ -48,7 +48,7 @@ module _ (words : List ℕ) (s : Shared) (number : ℕ) where
     join-done j f t p ej et ef ep = rw (ep, et, ej, ef) (sym (chosen-zero (joinRefusal one words s number) _ _ none))
 
     pub join-small : number < 32
-    join-small = omega (arith, ltb-false 31 number (join-number words s number none))
+    join-small = omega (arith, ltb-false 31 number (join-number one words s number none))
 
     pub join-inside : firstIndex (memory one words) < s .blocks
-    join-inside = leb-false (s .blocks) (firstIndex (memory one words)) (or-right (isZero (firstIndex (memory one words))) _ (join-first words s number none))
+    join-inside = leb-false (s .blocks) (firstIndex (memory one words)) (or-right (isZero (firstIndex (memory one words))) _ (join-first one words s number none))

@@ -104,7 +104,7 @@ module _ (m : Memory) (s : Shared) (h : Head) (table text : List ℕ) where
 
   pub stop-settles : (plan : Plan) → seenNow .broken ≡ true → Settles one m s plan (pointOf h table text) (refused 18 s (pointOf h table text)) → Settles one m s plan (pointOf h table text) (moveOn one (s .blocks) walk s (pointOf h table text))
   unfolding seenBy
-  stop-settles plan e f = record { outcome = f .outcome ∙ sym (stop-on m s (pointOf h table text) e); change = f .change; claim = f .claim }
+  stop-settles plan e f = record { outcome = f .outcome ∙ sym (stop-on one m s (pointOf h table text) e); change = f .change; claim = f .claim }
 
   pub move-settles :
       s .blocks ≤ 1024 → seenNow .broken ≡ false
@@ -114,7 +114,7 @@ module _ (m : Memory) (s : Shared) (h : Head) (table text : List ℕ) where
       CatchUp)
       (pointOf h table text) (moveOn one (s .blocks) walk s (pointOf h table text))
   unfolding outcomeOf fileAfter allowed seenBy caughtUp refillAfter
-  move-settles few e = record { outcome = sym (go-on m s (pointOf h table text) e); change = all-every _ (le-leb _ _ few, (not-no _ e, tt)); claim = refl }
+  move-settles few e = record { outcome = sym (go-on one m s (pointOf h table text) e); change = all-every _ (le-leb _ _ few, (not-no _ e, tt)); claim = refl }
 
 -- ---- which definition a plan stands for, by the tests on the way
 
@@ -123,16 +123,16 @@ settles-as f e = record { outcome = f .outcome ∙ sym e; change = f .change; cl
 
 module _ (m : Memory) (s : Shared) (p : Point) where
   pub end-full : 64 ≤ p .head .place .passed → atEnd one s p ≡ giveUp one 20 s p
-  end-full h = give-on m s p 19 (first-settled 20 _ (21 when isZero (search s 1) ∷ []) (le-leb 64 (p .head .place .passed) h))
+  end-full h = give-on one m s p 19 (first-settled 20 _ (21 when isZero (search s 1) ∷ []) (le-leb 64 (p .head .place .passed) h))
 
-  end-not-full : p .head .place .passed < 64 → first (endReasons m s p) ≡ first (21 when isZero (search s 1) ∷ [])
+  end-not-full : p .head .place .passed < 64 → first (endReasons one m s p) ≡ first (21 when isZero (search s 1) ∷ [])
   end-not-full h = first-goes-on 20 _ (21 when isZero (search s 1) ∷ []) (lt-leb 64 (p .head .place .passed) h)
 
   pub end-none : p .head .place .passed < 64 → search s 1 ≡ 0 → atEnd one s p ≡ giveUp one 21 s p
-  end-none h e = give-on m s p 20 (end-not-full h ∙ first-settled 21 _ [] (is-zero (search s 1) e))
+  end-none h e = give-on one m s p 20 (end-not-full h ∙ first-settled 21 _ [] (is-zero (search s 1) e))
 
   pub end-free : p .head .place .passed < 64 → (search s 1 ≡ 0 → ⊥) → atEnd one s p ≡ extend one s p
-  end-free h e = extend-on m s p (end-not-full h ∙ first-goes-on 21 _ [] (not-zero (search s 1) e))
+  end-free h e = extend-on one m s p (end-not-full h ∙ first-goes-on 21 _ [] (not-zero (search s 1) e))
 
 -- ---- what a change leans on
 

@@ -36,25 +36,25 @@ pub record Ready (words : List ℕ) (s : Shared) (h : Head) (table : List ℕ) :
 
 module _ (words : List ℕ) (s : Shared) (h : Head) (table : List ℕ) (e : stepRefusal one words s h table ≡ 0) where
   fit : fits one (s .blocks) h table ≡ true
-  fit = not-false _ (step-fits words s (pointOf h table []) e)
+  fit = not-false _ (step-fits one words s (pointOf h table []) e)
 
   pub ready : Ready words s h table
   ready =
-      let f = shared-facts words s (step-shared words s (pointOf h table []) e) in
-      let w = fits-write (s .blocks) h table fit (step-busy words s (pointOf h table []) e) in
+      let f = shared-facts words s (step-shared one words s (pointOf h table []) e) in
+      let w = fits-write (s .blocks) h table fit (step-busy one words s (pointOf h table []) e) in
       record {
         shared = f;
         place = fits-place (s .blocks) h table fit;
         run = run-facts (s .blocks) (h .place) (h .write) w;
-        joined = not-false _ (step-joined words s (pointOf h table []) e);
+        joined = not-false _ (step-joined one words s (pointOf h table []) e);
       }
 
   pub ready-zeroing : isZeroing (h .write .phase) ≡ true → ZeroingFits (s .blocks) (h .place) (h .write)
-  ready-zeroing z = write-zeroing-facts (s .blocks) (h .place) (h .write) (fits-write (s .blocks) h table fit (step-busy words s (pointOf h table []) e)) z
+  ready-zeroing z = write-zeroing-facts (s .blocks) (h .place) (h .write) (fits-write (s .blocks) h table fit (step-busy one words s (pointOf h table []) e)) z
 
   pub ready-position : isZeroing (h .write .phase) ≡ false → h .write .position ≤ runWords one (h .write)
   ready-position z =
-      let l = write-position (s .blocks) (h .place) (h .write) (fits-write (s .blocks) h table fit (step-busy words s (pointOf h table []) e)) z in
+      let l = write-position (s .blocks) (h .place) (h .write) (fits-write (s .blocks) h table fit (step-busy one words s (pointOf h table []) e)) z in
       omega arith
 
 -- ---- the refusals
@@ -88,33 +88,33 @@ module _ (words : List ℕ) (s : Shared) (p : Point) where
 module _ (m : Memory) (s : Shared) (p : Point) where
   module _ (k n : ℕ) (ek : k ≡ nextWord one (p .head .write)) (en : n ≡ runWords one (p .head .write)) where
     pub fills : k < n → filling one m s p ≡ fill one m s p k
-    fills h = rw ek (fill-on m s p (rw (← ek, ← en) (lt-ltb k n h)))
+    fills h = rw ek (fill-on one m s p (rw (← ek, ← en) (lt-ltb k n h)))
 
     pub commits : n ≤ k → filling one m s p ≡ committing one m s p
-    commits h = commit-on m s p (rw (← ek, ← en) (le-ltb k n h))
+    commits h = commit-on one m s p (rw (← ek, ← en) (le-ltb k n h))
 
   module _ (slot : p .head .place .slot < 64) where
     pub slot-empty : wordAt m (p .head .place .block) (p .head .place .slot) ≡ 0 → committing one m s p ≡ commit one s p
-    slot-empty e = store-on m s p (and-both _ _ (lt-ltb _ _ slot) (is-zero _ e))
+    slot-empty e = store-on one m s p (and-both _ _ (lt-ltb _ _ slot) (is-zero _ e))
 
     pub slot-taken :
         (wordAt m (p .head .place .block) (p .head .place .slot) ≡ 0 → ⊥)
         → committing one m s p ≡ moveOn one (s .blocks) (ahead one m (s .blocks) (p .head .place)) s p
     slot-taken h =
-        let f : empty m s p ≡ false = rw (lt-ltb (p .head .place .slot) 64 slot) (not-zero _ h) in
-        let g : ended m s p ≡ false = rw (ne-eqb (p .head .place .slot) 64 (λ x. omega arith)) in
-        move-on m s p f g
+        let f : empty one m s p ≡ false = rw (lt-ltb (p .head .place .slot) 64 slot) (not-zero _ h) in
+        let g : ended one m s p ≡ false = rw (ne-eqb (p .head .place .slot) 64 (λ x. omega arith)) in
+        move-on one m s p f g
 
   module _ (slot : p .head .place .slot ≡ 64) where
-    full : empty m s p ≡ false
+    full : empty one m s p ≡ false
     full = rw (le-ltb (p .head .place .slot) 64 (omega arith))
 
     pub chain-ends : nextIndex m (p .head .place .block) ≡ 0 → committing one m s p ≡ atEnd one s p
-    chain-ends e = end-on m s p full (and-both _ _ (eq-eqb _ _ slot) (is-zero _ e))
+    chain-ends e = end-on one m s p full (and-both _ _ (eq-eqb _ _ slot) (is-zero _ e))
 
     pub chain-goes-on :
         (nextIndex m (p .head .place .block) ≡ 0 → ⊥)
         → committing one m s p ≡ moveOn one (s .blocks) (ahead one m (s .blocks) (p .head .place)) s p
     chain-goes-on h =
-        let g : ended m s p ≡ false = rw (eq-eqb (p .head .place .slot) 64 slot) (not-zero _ h) in
-        move-on m s p full g
+        let g : ended one m s p ≡ false = rw (eq-eqb (p .head .place .slot) 64 slot) (not-zero _ h) in
+        move-on one m s p full g

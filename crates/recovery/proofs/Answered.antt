@@ -5,7 +5,7 @@ use mathlib.Core.List.{List}
 use mathlib.Core.Bool.{true}
 use Prim.Native.Nat.{ℕ, suc, _-_}
 use lib.ListN.{length}
-use Rattle.words.specs.Edition.{Edition, one}
+use Rattle.words.specs.Edition.{Edition}
 use Rattle.words.specs.Memory.{memory, blockCount}
 use Rattle.log.specs.declared.Opened.{Opened}
 use Rattle.log.specs.declared.Reply.the-variants.{Refused}
@@ -38,23 +38,23 @@ opened-length E words scratch e =
     ∙ sym (length-listFrom 0 (fileOf E (memory E words) .size) (fileByte E (memory E words) (fileOf E (memory E words))))
 
 -- what a joined point sees is what the log gives
-module _ {L : List ℕ} (w : W.World) (bk : Book) (h : Tied L w bk) (n : ℕ) (j : isJoined (w .shared) n ≡ true) where
-  sees : seen one (w .words) (w .shared) (w .newest n .head) (w .newest n .table) ≡ fileOf one (memory one (w .words))
+module _ (E : Edition) {L : List ℕ} (w : W.World) (bk : Book) (h : Tied E L w bk) (n : ℕ) (j : isJoined (w .shared) n ≡ true) where
+  sees : seen E (w .words) (w .shared) (w .newest n .head) (w .newest n .table) ≡ fileOf E (memory E (w .words))
   unfolding seen
   sees =
       let pi = h .inv .points n j in
       let f = fileAt (w .newest n .head) (w .newest n .table) in
-      ap (λ (r : K.Walk). replayOn one f (r .entries)) (ahead-is w bk h n j) ∙ replay-on (pi .ahead) f ∙ pi .catches ∙ sym (file-is (h .inv .core))
+      ap (λ (r : K.Walk). replayOn E f (r .entries)) (ahead-is E w bk h n j) ∙ replay-on E (pi .ahead) f ∙ pi .catches ∙ sym (file-is E (h .inv .core))
 
-pub answered : Answered one
+pub answered : (E : Edition) → Answered E
 unfolding Answered Recovery openedFile
-answered h = (λ scratch long. let r = recovery h scratch long in opened-length one (atCut h .words) scratch (r .0) ∙ ap length (r .1), λ p j. at (atCut h) (ap (λ (w : W.World). world one w (callsBefore h)) (same-start h)) p j ∙ recovery h enough enough-long .1)
+answered E h = (λ scratch long. let r = recovery E h scratch long in opened-length E (atCut h .words) scratch (r .0) ∙ ap length (r .1), λ p j. at (atCut h) (ap (λ (w : W.World). world E w (callsBefore h)) (same-start h)) p j ∙ recovery E h enough enough-long .1)
   where
     there : W.World
-    there = world one (openWorld one (h .words) enough) (callsBefore h)
+    there = world E (openWorld E (h .words) enough) (callsBefore h)
 
     at : (w : W.World) → w ≡ there → (p : ℕ) → isJoined (w .shared) p ≡ true
-        → fileBytes one (memory one (w .words)) (seen one (w .words) (w .shared) (w .newest p .head) (w .newest p .table)) ≡ openedFile one (w .words)
+        → fileBytes E (memory E (w .words)) (seen E (w .words) (w .shared) (w .newest p .head) (w .newest p .table)) ≡ openedFile E (w .words)
     at w e p j =
-        let t = after-tied (h .words) (opens-enough h) (callsBefore h) (bytesBefore h) in
-        rw e (ap (fileBytes one (memory one (there .words))) (sees there _ t p (rw e at j)))
+        let t = after-tied E (h .words) (opens-enough h) (callsBefore h) (bytesBefore h) in
+        rw e (ap (fileBytes E (memory E (there .words))) (sees E there _ t p (rw e at j)))
