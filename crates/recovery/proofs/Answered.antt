@@ -38,13 +38,13 @@ opened-length E words scratch e =
     ∙ sym (length-listFrom 0 (fileOf E (memory E words) .size) (fileByte E (memory E words) (fileOf E (memory E words))))
 
 -- what a joined point sees is what the log gives
-module _ (E : Edition) {L : List ℕ} (w : W.World) (bk : Book) (h : Tied E L w bk) (n : ℕ) (j : isJoined (w .shared) n ≡ true) where
+module _ {E : Edition} {L : List ℕ} (w : W.World) (bk : Book) (h : Tied E L w bk) (n : ℕ) (j : isJoined (w .shared) n ≡ true) where
   sees : seen E (w .words) (w .shared) (w .newest n .head) (w .newest n .table) ≡ fileOf E (memory E (w .words))
   unfolding seen
   sees =
       let pi = h .inv .points n j in
       let f = fileAt (w .newest n .head) (w .newest n .table) in
-      ap (λ (r : K.Walk). replayOn E f (r .entries)) (ahead-is E w bk h n j) ∙ replay-on E (pi .ahead) f ∙ pi .catches ∙ sym (file-is E (h .inv .core))
+      ap (λ (r : K.Walk). replayOn E f (r .entries)) (ahead-is w bk h n j) ∙ replay-on E (pi .ahead) f ∙ pi .catches ∙ sym (file-is (h .inv .core))
 
 pub answered : (E : Edition) → Answered E
 unfolding Answered Recovery openedFile
@@ -57,4 +57,4 @@ answered E h = (λ scratch long. let r = recovery E h scratch long in opened-len
         → fileBytes E (memory E (w .words)) (seen E (w .words) (w .shared) (w .newest p .head) (w .newest p .table)) ≡ openedFile E (w .words)
     at w e p j =
         let t = after-tied E (h .words) (opens-enough h) (callsBefore h) (bytesBefore h) in
-        rw e (ap (fileBytes E (memory E (there .words))) (sees E there _ t p (rw e at j)))
+        rw e (ap (fileBytes E (memory E (there .words))) (sees there _ t p (rw e at j)))

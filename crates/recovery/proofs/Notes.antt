@@ -17,27 +17,27 @@ use Rattle.recovery.proofs.Calls.Mapping.{Tied, worldOf, writeOf, phase
 use Rattle.recovery.proofs.Claim.{opens-enough, same-start, bytesBefore}
 use Rattle.recovery.proofs.Demand3.{after-tied}
 
-module _ (E : Edition) {L : List ℕ} (w : W.World) (bk : Book) (h : Tied E L w bk) (p : ℕ) where
+module _ {E : Edition} {L : List ℕ} (w : W.World) (bk : Book) (h : Tied E L w bk) (p : ℕ) where
   under-way : isJoined (w .shared) p ≡ true → isIdle (w .newest p .head .write .phase) ≡ false
       → bk .note p ≡ some (record { offset = w .newest p .head .write .offset; text = take (w .newest p .head .write .size) (w .newest p .text) })
   under-way j b =
       let x = w .newest p .head .write in
-      the-write E (worldOf w) bk (h .inv) p (writeOf (phaseIn (x .phase)) x (w .newest p .text)) j (busy-work (x .phase) x (w .newest p .text) b) .noted
+      the-write (worldOf w) bk (h .inv) p (writeOf (phaseIn (x .phase)) x (w .newest p .text)) j (busy-work (x .phase) x (w .newest p .text) b) .noted
 
   nothing : isJoined (w .shared) p ≡ true → isIdle (w .newest p .head .write .phase) ≡ true → bk .note p ≡ none
   nothing j i = rw (idle-work (w .newest p .head .write .phase) (w .newest p .head .write) (w .newest p .text) i) at (h .inv .points p j .work)
 
 -- the book at the cut
-module _ (E : Edition) (h : History E) (p : ℕ) where
+module _ {E : Edition} (h : History E) (p : ℕ) where
   abbrev bookAtCut : Book
   bookAtCut = book E (atOpening h) (callsBefore h) (firstBook (openedFile E (h .words)))
 
   pub write-noted : isJoined (atCut h .shared) p ≡ true → isIdle (atCut h .newest p .head .write .phase) ≡ false
       → bookAtCut .note p ≡ some (record { offset = atCut h .newest p .head .write .offset; text = take (atCut h .newest p .head .write .size) (atCut h .newest p .text) })
-  write-noted = let t = after-tied E (h .words) (opens-enough h) (callsBefore h) (bytesBefore h) in rw (same-start h) (under-way E _ _ t p)
+  write-noted = let t = after-tied E (h .words) (opens-enough h) (callsBefore h) (bytesBefore h) in rw (same-start h) (under-way _ _ t p)
 
   pub idle-not-noted : isJoined (atCut h .shared) p ≡ true → isIdle (atCut h .newest p .head .write .phase) ≡ true → bookAtCut .note p ≡ none
-  idle-not-noted = let t = after-tied E (h .words) (opens-enough h) (callsBefore h) (bytesBefore h) in rw (same-start h) (nothing E _ _ t p)
+  idle-not-noted = let t = after-tied E (h .words) (opens-enough h) (callsBefore h) (bytesBefore h) in rw (same-start h) (nothing _ _ t p)
 
   pub apart-not-noted : isJoined (atCut h .shared) p ≡ false → bookAtCut .note p ≡ none
   apart-not-noted = let t = after-tied E (h .words) (opens-enough h) (callsBefore h) (bytesBefore h) in rw (same-start h) (t .inv .silent p)

@@ -34,7 +34,7 @@ pub record Kept (w v : World) (n : ℕ) : Type 0 where
   pub newest : v .newest n ≡ w .newest n
   pub joined : isJoined (v .shared) n ≡ true
 
-module _ (E : Edition) {L : List ℕ} (w : World) (bk : Book) (h : Tied E L w bk) (n : ℕ) (j : isJoined (w .shared) n ≡ true) (busy : isIdle (w .newest n .head .write .phase) ≡ false) where
+module _ {E : Edition} {L : List ℕ} (w : World) (bk : Book) (h : Tied E L w bk) (n : ℕ) (j : isJoined (w .shared) n ≡ true) (busy : isIdle (w .newest n .head .write .phase) ≡ false) where
   pub join-kept : (k : ℕ) → Kept w (turn E w (join k) .world) n
   unfolding turn
   join-kept k = go (joinRefusal E (w .words) (w .shared) k) refl
@@ -43,10 +43,10 @@ module _ (E : Edition) {L : List ℕ} (w : World) (bk : Book) (h : Tied E L w bk
       after r = record { words = w .words; shared = r .shared; newest = joinedAs (r .reply) w k (r .point) }
 
       go : (i : ℕ) → joinRefusal E (w .words) (w .shared) k ≡ i → Kept w (after (joining E (w .words) (w .shared) k)) n
-      go (suc i) e = subst (λ (r : Joined). Kept w (after r) n) (sym (join-eq-refused E w bk h k i e)) (record { words = refl; newest = refl; joined = j })
+      go (suc i) e = subst (λ (r : Joined). Kept w (after r) n) (sym (join-eq-refused w bk h k i e)) (record { words = refl; newest = refl; joined = j })
       go zero e =
           let apart : n ≢ k = λ s. no-true (rw s at j) (join-apart E (w .words) (w .shared) k e) in
-          subst (λ (r : Joined). Kept w (after r) n) (sym (join-eq-done E w bk h k e))
+          subst (λ (r : Joined). Kept w (after r) n) (sym (join-eq-done w bk h k e))
           (record { words = refl; newest = renewed-other w k _ n apart; joined = withBit-other true (w .shared .joined) k n apart ∙ j })
 
   pub begin-kept : (k : ℕ) (p : PP.Point) (o : ℕ) (text : List ℕ) → ((i : ℕ) → getD text i 0 < 256) → Kept w (turn E w (begin k p o text) .world) n
@@ -60,11 +60,11 @@ module _ (E : Edition) {L : List ℕ} (w : World) (bk : Book) (h : Tied E L w bk
       after r = record { words = w .words; shared = r .shared; newest = renewed w k (r .point) }
 
       go : (i : ℕ) → beginRefusal E (w .words) (w .shared) (y .head) (y .table) o (length text) ≡ i → Kept w (after (beginning E (w .words) (w .shared) y o text)) n
-      go (suc i) e = subst (λ (r : Begun). Kept w (after r) n) (sym (begin-eq-refused E w bk h k p o text bytes y i e)) (record { words = refl; newest = renewed-handed w k p n j; joined = j })
+      go (suc i) e = subst (λ (r : Begun). Kept w (after r) n) (sym (begin-eq-refused w bk h k p o text bytes y i e)) (record { words = refl; newest = renewed-handed w k p n j; joined = j })
       go zero e =
           let idle : isIdle (y .head .write .phase) ≡ true = not-false _ (begin-idle E (w .words) (w .shared) y o text e) in
           let apart : n ≢ k = λ s. no-true (ap (λ (q : PP.Point). isIdle (q .head .write .phase)) (sym (handed-newest w k p (rw s at j))) ∙ idle) (rw s at busy) in
-          subst (λ (r : Begun). Kept w (after r) n) (sym (begin-eq-done E w bk h k p o text bytes y e)) (record { words = refl; newest = renewed-other w k _ n apart; joined = j })
+          subst (λ (r : Begun). Kept w (after r) n) (sym (begin-eq-done w bk h k p o text bytes y e)) (record { words = refl; newest = renewed-other w k _ n apart; joined = j })
 
   pub leave-kept : (k : ℕ) (p : PP.Point) → k ≢ n → Kept w (turn E w (leave k p) .world) n
   unfolding turn
@@ -77,10 +77,10 @@ module _ (E : Edition) {L : List ℕ} (w : World) (bk : Book) (h : Tied E L w bk
       after r = record { words = w .words; shared = r .shared; newest = w .newest }
 
       go : (i : ℕ) → leaveRefusal E (w .words) (w .shared) (y .head) (y .table) ≡ i → Kept w (after (leaving E (w .words) (w .shared) y)) n
-      go (suc i) e = subst (λ (r : Left). Kept w (after r) n) (sym (leave-eq-refused E w bk h k p i e)) (record { words = refl; newest = refl; joined = j })
+      go (suc i) e = subst (λ (r : Left). Kept w (after r) n) (sym (leave-eq-refused w bk h k p i e)) (record { words = refl; newest = refl; joined = j })
       go zero e =
-          let own = is-joined E w bk h k p (leave-joined E (w .words) (w .shared) y e) in
+          let own = is-joined w bk h k p (leave-joined E (w .words) (w .shared) y e) in
           let num : y .head .number ≡ k = ap (λ (q : PP.Point). q .head .number) (handed-newest w k p own) ∙ h .numbers k own in
           let other : n ≢ y .head .number = λ s. apart (sym (s ∙ num)) in
-          subst (λ (r : Left). Kept w (after r) n) (sym (leave-eq-done E w bk h k p e))
+          subst (λ (r : Left). Kept w (after r) n) (sym (leave-eq-done w bk h k p e))
           (record { words = refl; newest = refl; joined = withBit-other false (w .shared .joined) (y .head .number) n other ∙ j })
