@@ -1,6 +1,6 @@
 -- What is shown is what is answered: opening's length, and what a joined point sees caught up. FORWARD says that the entries ahead of a
 -- point take its view to the current one, which is the file that opening shows.
-use mathlib.Core.Path.{_≡_, refl, sym, ap, _∙_, subst}
+use mathlib.Core.Path.{_≡_, sym, ap, _∙_}
 use mathlib.Core.List.{List}
 use mathlib.Core.Bool.{true}
 use Prim.Native.Nat.{ℕ, suc, _-_}
@@ -9,7 +9,7 @@ use Rattle.words.specs.Edition.{Edition}
 use Rattle.words.specs.Memory.{memory, blockCount}
 use Rattle.log.specs.declared.Opened.{Opened}
 use Rattle.log.specs.declared.Reply.the-variants.{Refused}
-use Rattle.log.specs.Replay.{Mapped, fileByte, fileBytes, replayOn}
+use Rattle.log.specs.Replay.{fileByte, fileBytes, replayOn}
 use Rattle.log.specs.CatchUp as K
 use Rattle.log.specs.CatchUp.{ahead}
 use Rattle.log.specs.Opening.{openRefusal, opened, openedWith, noShared, fileOf, openedFile}
@@ -18,7 +18,7 @@ use Rattle.points.specs.Reading.{seen}
 use Rattle.recovery.specs.World as W
 use Rattle.recovery.specs.World.{world}
 use Rattle.recovery.specs.Book.{Book}
-use Rattle.recovery.specs.History.{History, enough, openWorld, callsBefore, atCut, shownFile, bookFile}
+use Rattle.recovery.specs.History.{enough, openWorld, callsBefore, atCut}
 use Rattle.recovery.specs.Claim.{Recovery, Answered}
 use Rattle.words.proofs.Logic.{length-listFrom}
 use Rattle.words.proofs.Choice.{chosen-zero}
@@ -48,7 +48,11 @@ module _ {E : Edition} {L : List ℕ} (w : W.World) (bk : Book) (h : Tied E L w 
 
 pub answered : (E : Edition) → Answered E
 unfolding Answered Recovery openedFile
-answered E h = (λ scratch long. let r = recovery E h scratch long in opened-length E (atCut h .words) scratch (r .0) ∙ ap length (r .1), λ p j. at (atCut h) (ap (λ (w : W.World). world E w (callsBefore h)) (same-start h)) p j ∙ recovery E h enough enough-long .1)
+answered E h = (
+  λ scratch long. let r = recovery E h scratch long in opened-length E (atCut h .words) scratch (r .0)
+      ∙ ap length (r .1),
+  λ p j. at (atCut h) (ap (λ (w : W.World). world E w (callsBefore h)) (same-start h)) p j ∙ recovery E h enough enough-long .1,
+)
   where
     there : W.World
     there = world E (openWorld E (h .words) enough) (callsBefore h)

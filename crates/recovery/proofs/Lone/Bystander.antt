@@ -3,15 +3,11 @@
 use mathlib.Core.Path.{_≡_, refl, sym, ap, _∙_, subst}
 use mathlib.Core.Logic.{_≢_}
 use mathlib.Core.List.{List}
-use mathlib.Core.Bool.{Bool, true, false, not}
+use mathlib.Core.Bool.{true, false}
 use Prim.Native.Nat.{ℕ, zero, suc, _<_}
-use native.Mathlib.Omega.{arith}
-use native.Mathlib.Decide.{ℕ-discrete}
 use lib.ListN.{length, getD}
 use borrow.Author.Tests.{not-false}
 use Rattle.words.specs.Edition.{Edition}
-use Rattle.words.specs.BlockMap.{withBit}
-use Rattle.log.specs.declared.Shared.{Shared}
 use Rattle.points.specs.declared.Point as PP
 use Rattle.points.specs.declared.Joined.{Joined}
 use Rattle.points.specs.declared.Begun.{Begun}
@@ -19,7 +15,7 @@ use Rattle.points.specs.declared.Left.{Left}
 use Rattle.points.specs.Record.{isJoined, isIdle}
 use Rattle.points.specs.Search.{taking}
 use Rattle.points.specs.Calls.{joining, joinRefusal, beginning, beginRefusal, leaving, leaveRefusal}
-use Rattle.recovery.specs.World.{World, Call, join, begin, go, leave, handed, renewed, joinedAs, turn}
+use Rattle.recovery.specs.World.{World, join, begin, go, leave, handed, renewed, joinedAs, turn}
 use Rattle.recovery.specs.Book.{Book}
 use Rattle.words.proofs.WithBit.{withBit-other}
 use Rattle.words.proofs.Tests.{no-true}
@@ -34,7 +30,8 @@ pub record Kept (w v : World) (n : ℕ) : Type 0 where
   pub newest : v .newest n ≡ w .newest n
   pub joined : isJoined (v .shared) n ≡ true
 
-module _ {E : Edition} {L : List ℕ} (w : World) (bk : Book) (h : Tied E L w bk) (n : ℕ) (j : isJoined (w .shared) n ≡ true) (busy : isIdle (w .newest n .head .write .phase) ≡ false) where
+module _ {E : Edition} {L : List ℕ} (w : World) (bk : Book) (h : Tied E L w bk) (n : ℕ) (j : isJoined (w .shared) n ≡ true)
+    (busy : isIdle (w .newest n .head .write .phase) ≡ false) where
   pub join-kept : (k : ℕ) → Kept w (turn E w (join k) .world) n
   unfolding turn
   join-kept k = go (joinRefusal E (w .words) (w .shared) k) refl
@@ -59,7 +56,8 @@ module _ {E : Edition} {L : List ℕ} (w : World) (bk : Book) (h : Tied E L w bk
       after : Begun → World
       after r = record { words = w .words; shared = r .shared; newest = renewed w k (r .point) }
 
-      go : (i : ℕ) → beginRefusal E (w .words) (w .shared) (y .head) (y .table) o (length text) ≡ i → Kept w (after (beginning E (w .words) (w .shared) y o text)) n
+      go : (i : ℕ) → beginRefusal E (w .words) (w .shared) (y .head) (y .table) o (length text) ≡ i
+          → Kept w (after (beginning E (w .words) (w .shared) y o text)) n
       go (suc i) e = subst (λ (r : Begun). Kept w (after r) n) (sym (begin-eq-refused w bk h k p o text bytes y i e)) (record { words = refl; newest = renewed-handed w k p n j; joined = j })
       go zero e =
           let idle : isIdle (y .head .write .phase) ≡ true = not-false _ (begin-idle E (w .words) (w .shared) y o text e) in

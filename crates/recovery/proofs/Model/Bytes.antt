@@ -36,8 +36,10 @@ module _ (E : Edition) where
   -- the bytes behind the end, in its block
   pub behind : (s k : ℕ) → s ≢ 0 → (s - 1) % blockBytes E + 1 ≤ k → k < (s - 1) % blockBytes E + 1 + (blockBytes E - ((s - 1) % blockBytes E + 1))
       → (k < blockBytes E) × (s ≤ blockBytes E * ((s - 1) / blockBytes E) + k)
-  behind s k = sized (λ W U. s ≢ 0 → (s - 1) % (8 * W) + 1 ≤ k → k < (s - 1) % (8 * W) + 1 + (8 * W - ((s - 1) % (8 * W) + 1)) → (k < 8 * W) × (s ≤ 8 * W * ((s - 1) / (8 * W)) + k)) (omega arith) E
+  behind s k = sized (λ W U. s ≢ 0 → (s - 1) % (8 * W) + 1 ≤ k → k < (s - 1) % (8 * W) + 1 + (8 * W - ((s - 1) % (8 * W) + 1))
+      → (k < 8 * W) × (s ≤ 8 * W * ((s - 1) / (8 * W)) + k)) (omega arith) E
 
   pub is-behind : (s v q : ℕ) → q < blockBytes E → blockBytes E * v < s → s ≤ blockBytes E * v + q
       → ((s - 1) / blockBytes E ≡ v) × ((s - 1) % blockBytes E + 1 ≤ q) × (q < (s - 1) % blockBytes E + 1 + (blockBytes E - ((s - 1) % blockBytes E + 1)))
-  is-behind s v q = sized (λ W U. q < 8 * W → 8 * W * v < s → s ≤ 8 * W * v + q → ((s - 1) / (8 * W) ≡ v) × ((s - 1) % (8 * W) + 1 ≤ q) × (q < (s - 1) % (8 * W) + 1 + (8 * W - ((s - 1) % (8 * W) + 1)))) (omega arith) E
+  is-behind s v q = sized (λ W U. q < 8 * W → 8 * W * v < s → s ≤ 8 * W * v + q → ((s - 1) / (8 * W) ≡ v) × ((s - 1) % (8 * W) + 1 ≤ q)
+      × (q < (s - 1) % (8 * W) + 1 + (8 * W - ((s - 1) % (8 * W) + 1)))) (omega arith) E
