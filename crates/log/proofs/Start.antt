@@ -30,8 +30,8 @@ module _ (m : Memory) (blocks : ℕ) where
       → ((r x : ℕ) → room ≡ suc r → some-of (outside blocks) (chainFrom m (suc r) (suc x)) ≡ false → ltb (suc r) (length (chainFrom m (suc (suc r)) (suc x))) ≡ false → SoundFrom r (suc passed) (suc x) 2)
       → Dec (64 ≤ i + length (upToZero (drop i (blockAt m (suc b))))) → (n : ℕ) → nextIndex m (suc b) ≡ n → SoundFrom room passed (suc b) i
   unfolding SoundFrom
-  sound-by room passed b i out ends ih (no l) n en = ap (λ (w : Walk). w .sound) (walk-stop m blocks passed (suc b) i room (omega arith))
-  sound-by room passed b i out ends ih (yes f) zero en = ap (λ (w : Walk). w .sound) (walk-last m blocks passed (suc b) i room f en)
+  sound-by room passed b i out ends ih (no l) n en = ap (λ (w : Walk). w .sound) (walk-stop one m blocks passed (suc b) i room (omega arith))
+  sound-by room passed b i out ends ih (yes f) zero en = ap (λ (w : Walk). w .sound) (walk-last one m blocks passed (suc b) i room f en)
   sound-by zero passed b i out ends ih (yes f) (suc x) en =
       let e : ltb 1 (length (chainFrom m 2 (suc b))) ≡ ltb 0 (length (chainFrom m 1 (nextIndex m (suc b)))) = endless-on m 1 (suc b) (omega arith) (λ z. omega arith) in
       let c : chainFrom m 1 (suc x) ≡ suc x ∷ chainFrom m 0 (nextIndex m (suc x)) = chain-next m 1 (suc x) (omega arith) (λ z. omega arith) in
@@ -44,7 +44,7 @@ module _ (m : Memory) (blocks : ℕ) where
       let inside : suc x < blocks = leb-false blocks (suc x) (or-left (leb blocks (suc x)) _ (rw d at o)) in
       let e : ltb (suc (suc r)) (length (chainFrom m (suc (suc (suc r))) (suc b))) ≡ ltb (suc r) (length (chainFrom m (suc (suc r)) (nextIndex m (suc b)))) =
       endless-on m (suc (suc r)) (suc b) (omega arith) (λ z. omega arith) ∙ ap (λ (k : ℕ). ltb k (length (chainFrom m (suc k) (nextIndex m (suc b))))) (omega arith) in
-      ap (λ (w : Walk). w .sound) (walk-on m blocks passed (suc b) i r x f en inside) ∙ ih r x refl o (rw en at (sym e ∙ ends))
+      ap (λ (w : Walk). w .sound) (walk-on one m blocks passed (suc b) i r x f en inside) ∙ ih r x refl o (rw en at (sym e ∙ ends))
 
   sound-all :
       (room passed b i : ℕ) → some-of (outside blocks) (chainFrom m (suc room) (suc b)) ≡ false → ltb (suc room) (length (chainFrom m (suc (suc room)) (suc b))) ≡ false
@@ -103,6 +103,6 @@ pub log-count :
     (length (log (memory one words)) + 64 ≡ w .slot + 62 * w .passed) × (w .passed ≤ 64) × (w .slot ≤ 64)
 unfolding ahead Counted
 log-count words idx ends =
-    let k = counted (memory one words) (length words / 64) (λ b h. block-length one words b h) 63 1 (firstIndex (memory one words)) 2 (first-inside words idx) (omega arith) (start-sound words idx ends) in
+    let k = counted one (memory one words) (length words / 64) (λ b h. block-length one words b h) 63 1 (firstIndex (memory one words)) 2 (first-inside words idx) (omega arith) (start-sound words idx ends) in
     let e = ap length (start-entries words idx ends) in
     (omega (arith, k .0, e), k .1, k .2)
