@@ -103,6 +103,7 @@ pub log-count :
     (length (log (memory one words)) + 64 ≡ w .slot + 62 * w .passed) × (w .passed ≤ 64) × (w .slot ≤ 64)
 unfolding ahead Counted
 log-count words idx ends =
-    let k = counted one (memory one words) (length words / 64) (λ b h. block-length one words b h) 63 1 (firstIndex (memory one words)) 2 (first-inside words idx) (omega arith) (start-sound words idx ends) in
+    let k = counted one (memory one words) (length words / 64) (λ b h. block-length one words b h) 63 1 (firstIndex (memory one words)) 2
+    (first-inside words idx) (omega arith) (start-sound words idx ends) in
     let e = ap length (start-entries words idx ends) in
     (omega (arith, k .0, e), k .1, k .2)

@@ -138,7 +138,8 @@ module _ (E : Edition) (m : Memory) (blocks : ℕ) (whole : (b : ℕ) → b < bl
   Counted room passed b i =
       let w = walk E m blocks room passed b i in
       w .sound ≡ true
-      → (length (w .entries) + i + (E .blockWords - 2) * passed ≡ w .slot + (E .blockWords - 2) * w .passed) × (w .passed ≤ passed + room) × (w .slot ≤ E .blockWords)
+      → (length (w .entries) + i + (E .blockWords - 2) * passed ≡ w .slot + (E .blockWords - 2) * w .passed) × (w .passed ≤ passed + room)
+      × (w .slot ≤ E .blockWords)
 
   counted-by :
       (room passed b i : ℕ) → b < blocks → i ≤ E .blockWords → ((r x : ℕ) → room ≡ suc r → x < blocks → Counted r (suc passed) x 2)
