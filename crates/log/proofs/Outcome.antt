@@ -52,7 +52,7 @@ module _ {words scratch : List ℕ} (p : Passed words scratch) where
   scratch-enough = ltb-false (length scratch) 1024 (p .long)
 
   first-small : firstIndex (mem words) < 1024
-  first-small = let h = first-inside words (p .index) in let k = blocks-small in omega arith
+  first-small = let h = first-inside one words (p .index) in let k = blocks-small in omega arith
 
   -- the walk begins at the log's start
   pub at-start : (st : Place) → st ≡ record { block = firstIndex (mem words) % 2 ^ 32; slot = 2; passed = 1 } → st ≡ startOf words
@@ -100,7 +100,7 @@ module _ {words scratch table : List ℕ} {size : ℕ} (h : Held words scratch t
   takable = record {
     entries = sound .width;
     inside = λ v. omega (arith, sound .inImage v, size-facts one words (h .passed .size) .2);
-    chained = inside-outside (count words) 1024 (chain (mem words)) (size-facts one words (h .passed .size) .2) (chain-inside words (h .passed .index));
+    chained = inside-outside (count words) 1024 (chain (mem words)) (size-facts one words (h .passed .size) .2) (chain-inside one words (h .passed .index));
   }
 
   pub file-small : size ≤ 131072
