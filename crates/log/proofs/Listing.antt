@@ -28,10 +28,10 @@ module _ (words scratch : List ℕ) where
 
   opened-count : openRefusal one words scratch ≡ 0 → answered ≡ count
   unfolding openedWith sharedAtOpening
-  opened-count e = ap (λ (o : Opened). o .shared .blocks) (done-opened words scratch e)
+  opened-count e = ap (λ (o : Opened). o .shared .blocks) (done-opened one words scratch e)
 
   refused-count : (n : ℕ) → openRefusal one words scratch ≡ suc n → answered ≡ 0
-  refused-count n e = ap (λ (o : Opened). o .shared .blocks) (refused-opened words scratch n e)
+  refused-count n e = ap (λ (o : Opened). o .shared .blocks) (refused-opened one words scratch n e)
 
   pub rows-refused : answered ≡ 0 → replicate 256 0 ≡ rowsOf one words scratch
   unfolding rowsOf
@@ -39,7 +39,7 @@ module _ (words scratch : List ℕ) where
     where
       go : (n : ℕ) → openRefusal one words scratch ≡ n → replicate 256 0 ≡ rowsOf one words scratch
       go (suc n) e = rw (e, rowsOf)
-      go zero e = let f = size-facts one words (refusal-passed words scratch e .0 .size) in absurd (omega (arith, f .1, opened-count e))
+      go zero e = let f = size-facts one words (refusal-passed one words scratch e .0 .size) in absurd (omega (arith, f .1, opened-count e))
 
   -- what catching up makes of the log's start
   module _ (some : answered ≢ 0) (st : Place) (es : st ≡ record { block = firstIndex (memory one words) % 2 ^ 32; slot = 2; passed = 1 }) where
@@ -57,7 +57,7 @@ module _ (words scratch : List ℕ) where
         → table ≡ rowsOf one words scratch
     unfolding rowsOf
     rows-opened table size caught =
-        let k = refusal-passed words scratch not-refused in
+        let k = refusal-passed one words scratch not-refused in
         let s = at-start (k .0) st es in
         let c : answered ≡ count = opened-count not-refused in
         let taken = rw c at caught in

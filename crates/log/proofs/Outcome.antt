@@ -38,13 +38,13 @@ count words = length words / 64
 
 -- 1 to 7 are passed, and this is the file
 pub record Held (words scratch table : List ℕ) (size : ℕ) : Type 0 where
-  pub passed : Passed words scratch
+  pub passed : Passed one words scratch
   pub legal : badEntry one (length words / 64) (log (memory one words)) ≡ false
   pub file : _≡_ {A = Mapped} (record { table = table; size = size }) (fileOf one (memory one words))
 
 -- ---- past 1 to 6
 
-module _ {words scratch : List ℕ} (p : Passed words scratch) where
+module _ {words scratch : List ℕ} (p : Passed one words scratch) where
   pub blocks-small : count words ≤ 1024
   blocks-small = size-facts one words (p .size) .2
 
@@ -63,7 +63,7 @@ module _ {words scratch : List ℕ} (p : Passed words scratch) where
 
   -- 7
   pub out-7 : badEntry one (count words) (log (mem words)) ≡ true → (opened one words scratch ≡ refusedWith 7) × (scratchAfter one words scratch ≡ scratch)
-  out-7 h = let e = is-7 words scratch p h in (refused-opened words scratch 6 e, refused-scratch words scratch 6 e (omega arith))
+  out-7 h = let e = is-7 one words scratch p h in (refused-opened one words scratch 6 e, refused-scratch one words scratch 6 e (omega arith))
 
   -- the log's length from the place where the walk ended
   pub count-is :
@@ -119,7 +119,9 @@ module _ {words scratch table : List ℕ} {size : ℕ} (h : Held words scratch t
 
     -- 8
     pub out-8 : met ≡ true → (opened one words scratch ≡ refusedWith 8) × (scratchAfter one words scratch ≡ replicate 1024 0 ++ drop 1024 scratch)
-    out-8 t = let e = is-8 words scratch (h .passed) (h .legal) (sym met-is ∙ t) in (refused-opened words scratch 7 e, refused-cleared words scratch 7 e (omega arith))
+    out-8 t =
+        let e = is-8 one words scratch (h .passed) (h .legal) (sym met-is ∙ t) in
+        (refused-opened one words scratch 7 e, refused-cleared one words scratch 7 e (omega arith))
 
     module _ (h8 : met ≡ false) (dirty : Bool) (ed : dirty ≡ dirtyEnd one (mem words) (record { table = table; size = size })) where
       dirty-is : dirty ≡ dirtyEnd one (mem words) (fileOf one (mem words))
@@ -128,20 +130,20 @@ module _ {words scratch table : List ℕ} {size : ℕ} (h : Held words scratch t
       -- 9
       pub out-9 : dirty ≡ true → (opened one words scratch ≡ refusedWith 9) × (scratchAfter one words scratch ≡ replicate 1024 0 ++ drop 1024 scratch)
       out-9 t =
-          let e = is-9 words scratch (h .passed) (h .legal) (sym met-is ∙ h8) (sym dirty-is ∙ t) in
-          (refused-opened words scratch 8 e, refused-cleared words scratch 8 e (omega arith))
+          let e = is-9 one words scratch (h .passed) (h .legal) (sym met-is ∙ h8) (sym dirty-is ∙ t) in
+          (refused-opened one words scratch 8 e, refused-cleared one words scratch 8 e (omega arith))
 
       -- done
       module _ (h9 : dirty ≡ false) where
         none : openRefusal one words scratch ≡ 0
-        none = is-0 words scratch (h .passed) (h .legal) (sym met-is ∙ h8) (sym dirty-is ∙ h9)
+        none = is-0 one words scratch (h .passed) (h .legal) (sym met-is ∙ h8) (sym dirty-is ∙ h9)
 
         pub out-opened :
             (map : List ℕ) (n free : ℕ) → map ≡ mapOf (takenAtOpening table (chain (mem words))) → n ≡ length (log (mem words)) → free ≡ freeCount map (count words)
             → opened one words scratch ≡ record { reply = Done; length = size; entries = n; free = free; shared = record { blocks = count words; taken = map; joined = 0; next = 1 } }
         unfolding openedWith sharedAtOpening
-        out-opened map n free ek en efr = done-opened words scratch none ∙ (rw (en, efr, ek, table-is, size-is))
+        out-opened map n free ek en efr = done-opened one words scratch none ∙ (rw (en, efr, ek, table-is, size-is))
 
         pub out-scratch :
             (s out : List ℕ) → s ≡ replicate 1024 0 ++ drop 1024 scratch → out ≡ listFrom 0 1024 (scratchMark table (chain (mem words))) ++ drop 1024 s → out ≡ scratchAfter one words scratch
-        out-scratch s out e eo = eo ∙ (rw (cleared-rest scratch s e, table-is)) ∙ sym (done-scratch words scratch none)
+        out-scratch s out e eo = eo ∙ (rw (cleared-rest scratch s e, table-is)) ∙ sym (done-scratch one words scratch none)
