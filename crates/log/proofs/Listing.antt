@@ -61,5 +61,5 @@ module _ (words scratch : List ℕ) where
         let s = at-start (k .0) st es in
         let c : answered ≡ count = opened-count not-refused in
         let taken = rw c at caught in
-        let h = taken-in (k .0) (k .1) st s table size (taken (blocks-small (k .0)) (seen-bad (k .0) st s ∙ k .1)) in
+        let h = taken-in (k .0) (k .1) st s table size (taken (blocks-small one (k .0)) (seen-bad (k .0) st s ∙ k .1)) in
         ap (λ (f : Mapped). f .table) (h .file) ∙ (rw (not-refused, rowsOf))
