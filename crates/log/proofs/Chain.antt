@@ -9,7 +9,7 @@ use lib.ListN.{length, getD, drop, length-drop}
 use lib.Seq.{drop-drop}
 use borrow.Author.Tests.{eq-eqb, le-ltb, ltb-true, ne-eqb, lt-ltb, lt-leb, leb-false}
 use Rattle.words.specs.BlockMap.{mark, markAll}
-use Rattle.words.specs.Edition.{one}
+use Rattle.words.specs.Edition.{Edition}
 use Rattle.words.specs.Logic.{isZero, some-of, all-of, any, upToZero}
 use Rattle.words.specs.Memory.{Memory, blockAt, wordAt}
 use Rattle.log.specs.Chain.{firstIndex, nextIndex, chainFrom, chain, badSuperblock, badIndex, endless, badLogBlock, outside}
@@ -93,13 +93,13 @@ inside-outside k l (x ∷ xs) le h =
 
 -- ---- 3 and 4
 
-pub super-mark : (m : Memory) → (wordAt m 0 0 ≡ 0x4D494C4B31 → ⊥) → badSuperblock one m ≡ true
+pub super-mark : (E : Edition) (m : Memory) → (wordAt m 0 0 ≡ E .mark → ⊥) → badSuperblock E m ≡ true
 unfolding badSuperblock any
-super-mark m h = rw (ne-eqb (wordAt m 0 0) 0x4D494C4B31 h)
+super-mark E m h = rw (ne-eqb (wordAt m 0 0) (E .mark) h)
 
-pub super-zeros : (m : Memory) → wordAt m 0 0 ≡ 0x4D494C4B31 → badSuperblock one m ≡ not (all-of isZero (drop 2 (blockAt m 0)))
+pub super-zeros : (E : Edition) (m : Memory) → wordAt m 0 0 ≡ E .mark → badSuperblock E m ≡ not (all-of isZero (drop 2 (blockAt m 0)))
 unfolding badSuperblock any
-super-zeros m h = rw (eq-eqb (wordAt m 0 0) 0x4D494C4B31 h) (or-false (not (all-of isZero (drop 2 (blockAt m 0)))))
+super-zeros E m h = rw (eq-eqb (wordAt m 0 0) (E .mark) h) (or-false (not (all-of isZero (drop 2 (blockAt m 0)))))
 
 pub index-none : (blocks : ℕ) (m : Memory) → firstIndex m ≡ 0 → badIndex blocks m ≡ true
 unfolding badIndex any

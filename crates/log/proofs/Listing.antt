@@ -3,11 +3,11 @@ use mathlib.Core.Path.{_≡_, _∙_, refl, ap}
 use mathlib.Core.Logic.{_≢_}
 use mathlib.Core.List.{List}
 use mathlib.Core.Bool.{false}
-use Prim.Native.Nat.{ℕ, zero, suc, _≤_, _/_, _%_, _^_}
+use Prim.Native.Nat.{ℕ, zero, suc, _≤_, _%_, _^_}
 use native.Mathlib.Omega.{arith}
-use lib.ListN.{length, replicate}
-use Rattle.words.specs.Edition.{one}
-use Rattle.words.specs.Memory.{memory}
+use lib.ListN.{replicate}
+use Rattle.words.specs.Edition.{Edition, one}
+use Rattle.words.specs.Memory.{memory, blockCount}
 use Rattle.log.specs.CatchUp.{ahead, broken}
 use Rattle.log.specs.Chain.{firstIndex}
 use Rattle.log.specs.Listing.{rowsOf}
@@ -19,47 +19,47 @@ use Rattle.words.proofs.Memory.{size-facts}
 use Rattle.log.proofs.Opening.{refusal-passed, refused-opened, done-opened}
 use Rattle.log.proofs.Outcome.{blocks-small, at-start, seen-bad, taken-in}
 
-module _ (words scratch : List ℕ) where
-  abbrev count : ℕ
-  count = length words / 64
-
+module _ (E : Edition) (words scratch : List ℕ) where
   abbrev answered : ℕ
-  answered = opened one words scratch .shared .blocks
+  answered = opened E words scratch .shared .blocks
 
-  opened-count : openRefusal one words scratch ≡ 0 → answered ≡ count
+  opened-count : openRefusal E words scratch ≡ 0 → answered ≡ blockCount E words
   unfolding openedWith sharedAtOpening
-  opened-count e = ap (λ (o : Opened). o .shared .blocks) (done-opened words scratch e)
+  opened-count e = ap (λ (o : Opened). o .shared .blocks) (done-opened E words scratch e)
 
-  refused-count : (n : ℕ) → openRefusal one words scratch ≡ suc n → answered ≡ 0
-  refused-count n e = ap (λ (o : Opened). o .shared .blocks) (refused-opened words scratch n e)
+  refused-count : (n : ℕ) → openRefusal E words scratch ≡ suc n → answered ≡ 0
+  refused-count n e = ap (λ (o : Opened). o .shared .blocks) (refused-opened E words scratch n e)
 
-  pub rows-refused : answered ≡ 0 → replicate 256 0 ≡ rowsOf one words scratch
+  pub rows-refused : answered ≡ 0 → replicate 256 0 ≡ rowsOf E words scratch
   unfolding rowsOf
-  rows-refused z = go (openRefusal one words scratch) refl
+  rows-refused z = go (openRefusal E words scratch) refl
     where
-      go : (n : ℕ) → openRefusal one words scratch ≡ n → replicate 256 0 ≡ rowsOf one words scratch
+      go : (n : ℕ) → openRefusal E words scratch ≡ n → replicate 256 0 ≡ rowsOf E words scratch
       go (suc n) e = rw (e, rowsOf)
-      go zero e = let f = size-facts one words (refusal-passed words scratch e .0 .size) in absurd (omega (arith, f .1, opened-count e))
+      go zero e = let f = size-facts E words (refusal-passed E words scratch e .0 .size) in absurd (omega (arith, f .1, opened-count e))
 
-  -- what catching up makes of the log's start
-  module _ (some : answered ≢ 0) (st : Place) (es : st ≡ record { block = firstIndex (memory one words) % 2 ^ 32; slot = 2; passed = 1 }) where
-    not-refused : openRefusal one words scratch ≡ 0
-    not-refused = go (openRefusal one words scratch) refl
-      where
-        go : (n : ℕ) → openRefusal one words scratch ≡ n → openRefusal one words scratch ≡ 0
-        go zero e = e
-        go (suc n) e = absurd (some (refused-count n e))
+  not-refused : answered ≢ 0 → openRefusal E words scratch ≡ 0
+  not-refused some = go (openRefusal E words scratch) refl
+    where
+      go : (n : ℕ) → openRefusal E words scratch ≡ n → openRefusal E words scratch ≡ 0
+      go zero e = e
+      go (suc n) e = absurd (some (refused-count n e))
 
-    pub rows-opened :
-        (table : List ℕ) (size : ℕ)
-        → (answered ≤ 1024 → broken one answered (ahead one (memory one words) answered st) ≡ false
-        → _≡_ {A = Mapped} (record { table = table; size = size }) (replayOn one (record { table = replicate 256 0; size = 0 }) (ahead one (memory one words) answered st .entries)))
-        → table ≡ rowsOf one words scratch
-    unfolding rowsOf
-    rows-opened table size caught =
-        let k = refusal-passed words scratch not-refused in
-        let s = at-start (k .0) st es in
-        let c : answered ≡ count = opened-count not-refused in
-        let taken = rw c at caught in
-        let h = taken-in (k .0) (k .1) st s table size (taken (blocks-small (k .0)) (seen-bad (k .0) st s ∙ k .1)) in
-        ap (λ (f : Mapped). f .table) (h .file) ∙ (rw (not-refused, rowsOf))
+-- what catching up makes of the log's start; the place of that start is edition one's (`startOf`, in the laws of Outcome)
+module _ (words scratch : List ℕ) (some : answered one words scratch ≢ 0) (st : Place)
+    (es : st ≡ record { block = firstIndex (memory one words) % 2 ^ 32; slot = 2; passed = 1 }) where
+  pub rows-opened :
+      (table : List ℕ) (size : ℕ)
+      → (answered one words scratch ≤ 1024 → broken one (answered one words scratch) (ahead one (memory one words) (answered one words scratch) st) ≡ false
+      → _≡_ {A = Mapped} (record { table = table; size = size })
+      (replayOn one (record { table = replicate 256 0; size = 0 }) (ahead one (memory one words) (answered one words scratch) st .entries)))
+      → table ≡ rowsOf one words scratch
+  unfolding rowsOf
+  rows-opened table size caught =
+      let none = not-refused one words scratch some in
+      let k = refusal-passed one words scratch none in
+      let s = at-start (k .0) st es in
+      let c : answered one words scratch ≡ blockCount one words = opened-count one words scratch none in
+      let taken = rw c at caught in
+      let h = taken-in (k .0) (k .1) st s table size (taken (blocks-small one (k .0)) (seen-bad (k .0) st s ∙ k .1)) in
+      ap (λ (f : Mapped). f .table) (h .file) ∙ (rw (none, rowsOf))

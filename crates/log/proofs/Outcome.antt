@@ -2,16 +2,16 @@
 use mathlib.Core.Path.{_≡_, _∙_, sym, ap}
 use mathlib.Core.List.{List, _++_}
 use mathlib.Core.Bool.{true, false, Bool}
-use Prim.Native.Nat.{ℕ, _+_, _≤_, _<_, _*_, _/_, _%_, _^_}
+use Prim.Native.Nat.{ℕ, _+_, _≤_, _<_, _*_, _%_, _^_}
 use native.Mathlib.Nat.{mod-eq-of-lt}
 use native.Mathlib.Omega.{arith}
 use lib.ListN.{length, drop, replicate, length-replicate, length-append}
 use lib.Seq.{drop-at}
 use borrow.Author.Tests.{ltb-false}
 use Rattle.words.specs.BlockMap.{taken, mapOf, freeCount}
-use Rattle.words.specs.Edition.{one}
+use Rattle.words.specs.Edition.{Edition, one, fileEnd}
 use Rattle.words.specs.Logic.{listFrom}
-use Rattle.words.specs.Memory.{Memory, memory}
+use Rattle.words.specs.Memory.{memory, blockCount}
 use Rattle.log.specs.CatchUp.{ahead, placeAfter, broken}
 use Rattle.log.specs.Chain.{firstIndex, chain, log}
 use Rattle.log.specs.Opening.{badEntry, fileOf, openRefusal, takenAtOpening, sharedAtOpening, openedWith, opened, scratchMark, scratchAfter}
@@ -30,81 +30,132 @@ use Rattle.log.proofs.Start.{chain-inside, first-inside, start-entries,
 cleared-rest : (scratch s : List ℕ) → s ≡ replicate 1024 0 ++ drop 1024 scratch → drop 1024 s ≡ drop 1024 scratch
 cleared-rest scratch s e = ap (drop 1024) e ∙ drop-at (replicate 1024 0) (drop 1024 scratch) 1024 (length-replicate {A = ℕ} 1024 0)
 
-abbrev mem : List ℕ → Memory
-mem words = memory one words
-
-abbrev count : List ℕ → ℕ
-count words = length words / 64
-
 -- 1 to 7 are passed, and this is the file
-pub record Held (words scratch table : List ℕ) (size : ℕ) : Type 0 where
-  pub passed : Passed words scratch
-  pub legal : badEntry one (length words / 64) (log (memory one words)) ≡ false
-  pub file : _≡_ {A = Mapped} (record { table = table; size = size }) (fileOf one (memory one words))
+pub record Held (E : Edition) (words scratch table : List ℕ) (size : ℕ) : Type 0 where
+  pub passed : Passed E words scratch
+  pub legal : badEntry E (blockCount E words) (log (memory E words)) ≡ false
+  pub file : _≡_ {A = Mapped} (record { table = table; size = size }) (fileOf E (memory E words))
 
 -- ---- past 1 to 6
 
-module _ {words scratch : List ℕ} (p : Passed words scratch) where
-  pub blocks-small : count words ≤ 1024
-  blocks-small = size-facts one words (p .size) .2
+module _ (E : Edition) {words scratch : List ℕ} (p : Passed E words scratch) where
+  pub blocks-small : blockCount E words ≤ 1024
+  blocks-small = size-facts E words (p .size) .2
 
   pub scratch-enough : 1024 ≤ length scratch
   scratch-enough = ltb-false (length scratch) 1024 (p .long)
 
-  first-small : firstIndex (mem words) < 1024
-  first-small = let h = first-inside words (p .index) in let k = blocks-small in omega arith
-
-  -- the walk begins at the log's start
-  pub at-start : (st : Place) → st ≡ record { block = firstIndex (mem words) % 2 ^ 32; slot = 2; passed = 1 } → st ≡ startOf words
-  at-start st e = e ∙ ap (λ (b : ℕ). record { block = b; slot = 2; passed = 1 }) (mod-eq-of-lt (omega (arith, first-small)))
-
-  pub seen-bad : (st : Place) → st ≡ startOf words → broken one (count words) (ahead one (mem words) (count words) st) ≡ badEntry one (count words) (log (mem words))
-  seen-bad st e = rw e (start-broken words (p .index) (p .ends))
+  first-small : firstIndex (memory E words) < 1024
+  first-small = let h = first-inside E words (p .index) in let k = blocks-small in omega arith
 
   -- 7
-  pub out-7 : badEntry one (count words) (log (mem words)) ≡ true → (opened one words scratch ≡ refusedWith 7) × (scratchAfter one words scratch ≡ scratch)
-  out-7 h = let e = is-7 words scratch p h in (refused-opened words scratch 6 e, refused-scratch words scratch 6 e (omega arith))
+  pub out-7 :
+      badEntry E (blockCount E words) (log (memory E words)) ≡ true → (opened E words scratch ≡ refusedWith 7) × (scratchAfter E words scratch ≡ scratch)
+  out-7 h = let e = is-7 E words scratch p h in (refused-opened E words scratch 6 e, refused-scratch E words scratch 6 e (omega arith))
+
+-- `startOf` is edition one's
+module _ {words scratch : List ℕ} (p : Passed one words scratch) where
+  -- the walk begins at the log's start
+  pub at-start : (st : Place) → st ≡ record { block = firstIndex (memory one words) % 2 ^ 32; slot = 2; passed = 1 } → st ≡ startOf words
+  at-start st e = e ∙ ap (λ (b : ℕ). record { block = b; slot = 2; passed = 1 }) (mod-eq-of-lt (omega (arith, first-small one p)))
+
+  pub seen-bad :
+      (st : Place) → st ≡ startOf words
+      → broken one (blockCount one words) (ahead one (memory one words) (blockCount one words) st)
+      ≡ badEntry one (blockCount one words) (log (memory one words))
+  seen-bad st e = rw e (start-broken words (p .index) (p .ends))
 
   -- the log's length from the place where the walk ended
   pub count-is :
-      (end : Place) → end ≡ placeAfter (ahead one (mem words) (count words) (startOf words))
-      → (64 ≤ end .slot + 62 * end .passed) × (end .slot ≤ 64) × (end .passed ≤ 64) × ((n : ℕ) → n + 64 ≡ end .slot + 62 * end .passed → n ≡ length (log (mem words)))
+      (end : Place) → end ≡ placeAfter (ahead one (memory one words) (blockCount one words) (startOf words))
+      → (64 ≤ end .slot + 62 * end .passed) × (end .slot ≤ 64) × (end .passed ≤ 64)
+      × ((n : ℕ) → n + 64 ≡ end .slot + 62 * end .passed → n ≡ length (log (memory one words)))
   count-is end e = let k = log-count words (p .index) (p .ends) in rw e (omega (arith, k .0), k .2, k .1, λ n h. omega (arith, k .0))
 
   -- the entries are legal, and taken in
   pub taken-in :
-      badEntry one (count words) (log (mem words)) ≡ false → (st : Place) → st ≡ startOf words → (table : List ℕ) (size : ℕ)
-      → _≡_ {A = Mapped} (record { table = table; size = size }) (replayOn one (record { table = replicate 256 0; size = 0 }) (ahead one (mem words) (count words) st .entries))
-      → Held words scratch table size
+      badEntry one (blockCount one words) (log (memory one words)) ≡ false → (st : Place) → st ≡ startOf words → (table : List ℕ) (size : ℕ)
+      → _≡_ {A = Mapped} (record { table = table; size = size })
+      (replayOn one (record { table = replicate 256 0; size = 0 }) (ahead one (memory one words) (blockCount one words) st .entries))
+      → Held one words scratch table size
   unfolding fileOf replay
   taken-in h7 st es table size ef = record {
     passed = p;
     legal = h7;
-    file = ef ∙ ap (replayOn one nothing) (ap (λ (s : Place). ahead one (mem words) (count words) s .entries) es ∙ start-entries words (p .index) (p .ends));
+    file =
+        ef ∙ ap (replayOn one nothing)
+        (ap (λ (s : Place). ahead one (memory one words) (blockCount one words) s .entries) es ∙ start-entries words (p .index) (p .ends));
   }
 
 -- ---- from the file on
 
-module _ {words scratch table : List ℕ} {size : ℕ} (h : Held words scratch table size) where
-  table-is : table ≡ fileOf one (mem words) .table
+module _ (E : Edition) {words scratch table : List ℕ} {size : ℕ} (h : Held E words scratch table size) where
+  table-is : table ≡ fileOf E (memory E words) .table
   table-is = ap (λ (f : Mapped). f .table) (h .file)
 
-  size-is : size ≡ fileOf one (mem words) .size
+  size-is : size ≡ fileOf E (memory E words) .size
   size-is = ap (λ (f : Mapped). f .size) (h .file)
 
-  sound : Sound one (count words) (record { table = table; size = size })
+  sound : Sound E (blockCount E words) (record { table = table; size = size })
   unfolding fileOf replay fresh
-  sound = rw (h .file) (sound-replay one (count words) (log (mem words)) nothing (h .legal) (sound-fresh one (count words) (omega (arith, size-facts one words (h .passed .size) .1))))
+  sound =
+      rw (h .file) (sound-replay E (blockCount E words) (log (memory E words)) nothing (h .legal)
+      (sound-fresh E (blockCount E words) (omega (arith, size-facts E words (h .passed .size) .1))))
 
+  pub file-small : size ≤ fileEnd E
+  file-small = sound .small
+
+  module _ (met : Bool) (em : met ≡ shared table (chain (memory E words))) where
+    met-is : met ≡ shared (fileOf E (memory E words) .table) (chain (memory E words))
+    met-is = em ∙ ap (λ (t : List ℕ). shared t (chain (memory E words))) table-is
+
+    -- 8
+    pub out-8 : met ≡ true → (opened E words scratch ≡ refusedWith 8) × (scratchAfter E words scratch ≡ replicate 1024 0 ++ drop 1024 scratch)
+    out-8 t =
+        let e = is-8 E words scratch (h .passed) (h .legal) (sym met-is ∙ t) in
+        (refused-opened E words scratch 7 e, refused-cleared E words scratch 7 e (omega arith))
+
+    module _ (h8 : met ≡ false) (dirty : Bool) (ed : dirty ≡ dirtyEnd E (memory E words) (record { table = table; size = size })) where
+      dirty-is : dirty ≡ dirtyEnd E (memory E words) (fileOf E (memory E words))
+      dirty-is = ed ∙ ap (dirtyEnd E (memory E words)) (h .file)
+
+      -- 9
+      pub out-9 : dirty ≡ true → (opened E words scratch ≡ refusedWith 9) × (scratchAfter E words scratch ≡ replicate 1024 0 ++ drop 1024 scratch)
+      out-9 t =
+          let e = is-9 E words scratch (h .passed) (h .legal) (sym met-is ∙ h8) (sym dirty-is ∙ t) in
+          (refused-opened E words scratch 8 e, refused-cleared E words scratch 8 e (omega arith))
+
+      -- done
+      module _ (h9 : dirty ≡ false) where
+        none : openRefusal E words scratch ≡ 0
+        none = is-0 E words scratch (h .passed) (h .legal) (sym met-is ∙ h8) (sym dirty-is ∙ h9)
+
+        pub out-opened :
+            (map : List ℕ) (n free : ℕ) → map ≡ mapOf (takenAtOpening table (chain (memory E words))) → n ≡ length (log (memory E words))
+            → free ≡ freeCount map (blockCount E words)
+            → opened E words scratch
+            ≡ record {
+              reply = Done; length = size; entries = n; free = free;
+              shared = record { blocks = blockCount E words; taken = map; joined = 0; next = 1 };
+            }
+        unfolding openedWith sharedAtOpening
+        out-opened map n free ek en efr = done-opened E words scratch none ∙ (rw (en, efr, ek, table-is, size-is))
+
+        pub out-scratch :
+            (s out : List ℕ) → s ≡ replicate 1024 0 ++ drop 1024 scratch → out ≡ listFrom 0 1024 (scratchMark table (chain (memory E words))) ++ drop 1024 s
+            → out ≡ scratchAfter E words scratch
+        out-scratch s out e eo = eo ∙ (rw (cleared-rest scratch s e, table-is)) ∙ sym (done-scratch E words scratch none)
+
+-- `Takable` and `Markable` are edition one's
+module _ {words scratch table : List ℕ} {size : ℕ} (h : Held one words scratch table size) where
   pub takable : Takable words table
   takable = record {
-    entries = sound .width;
-    inside = λ v. omega (arith, sound .inImage v, size-facts one words (h .passed .size) .2);
-    chained = inside-outside (count words) 1024 (chain (mem words)) (size-facts one words (h .passed .size) .2) (chain-inside words (h .passed .index));
+    entries = sound one h .width;
+    inside = λ v. omega (arith, sound one h .inImage v, size-facts one words (h .passed .size) .2);
+    chained =
+        inside-outside (blockCount one words) 1024 (chain (memory one words)) (size-facts one words (h .passed .size) .2)
+        (chain-inside one words (h .passed .index));
   }
-
-  pub file-small : size ≤ 131072
-  file-small = sound .small
 
   pub markable : (s : List ℕ) → s ≡ replicate 1024 0 ++ drop 1024 scratch → Markable words table s
   markable s e = record {
@@ -112,36 +163,3 @@ module _ {words scratch table : List ℕ} {size : ℕ} (h : Held words scratch t
     long = omega (arith, ap length e, length-append (replicate {A = ℕ} 1024 0) (drop 1024 scratch), length-replicate {A = ℕ} 1024 0);
     clear = e ∙ ap (λ (k : List ℕ). replicate 1024 0 ++ k) (sym (cleared-rest scratch s e));
   }
-
-  module _ (met : Bool) (em : met ≡ shared table (chain (mem words))) where
-    met-is : met ≡ shared (fileOf one (mem words) .table) (chain (mem words))
-    met-is = em ∙ ap (λ (t : List ℕ). shared t (chain (mem words))) table-is
-
-    -- 8
-    pub out-8 : met ≡ true → (opened one words scratch ≡ refusedWith 8) × (scratchAfter one words scratch ≡ replicate 1024 0 ++ drop 1024 scratch)
-    out-8 t = let e = is-8 words scratch (h .passed) (h .legal) (sym met-is ∙ t) in (refused-opened words scratch 7 e, refused-cleared words scratch 7 e (omega arith))
-
-    module _ (h8 : met ≡ false) (dirty : Bool) (ed : dirty ≡ dirtyEnd one (mem words) (record { table = table; size = size })) where
-      dirty-is : dirty ≡ dirtyEnd one (mem words) (fileOf one (mem words))
-      dirty-is = ed ∙ ap (dirtyEnd one (mem words)) (h .file)
-
-      -- 9
-      pub out-9 : dirty ≡ true → (opened one words scratch ≡ refusedWith 9) × (scratchAfter one words scratch ≡ replicate 1024 0 ++ drop 1024 scratch)
-      out-9 t =
-          let e = is-9 words scratch (h .passed) (h .legal) (sym met-is ∙ h8) (sym dirty-is ∙ t) in
-          (refused-opened words scratch 8 e, refused-cleared words scratch 8 e (omega arith))
-
-      -- done
-      module _ (h9 : dirty ≡ false) where
-        none : openRefusal one words scratch ≡ 0
-        none = is-0 words scratch (h .passed) (h .legal) (sym met-is ∙ h8) (sym dirty-is ∙ h9)
-
-        pub out-opened :
-            (map : List ℕ) (n free : ℕ) → map ≡ mapOf (takenAtOpening table (chain (mem words))) → n ≡ length (log (mem words)) → free ≡ freeCount map (count words)
-            → opened one words scratch ≡ record { reply = Done; length = size; entries = n; free = free; shared = record { blocks = count words; taken = map; joined = 0; next = 1 } }
-        unfolding openedWith sharedAtOpening
-        out-opened map n free ek en efr = done-opened words scratch none ∙ (rw (en, efr, ek, table-is, size-is))
-
-        pub out-scratch :
-            (s out : List ℕ) → s ≡ replicate 1024 0 ++ drop 1024 scratch → out ≡ listFrom 0 1024 (scratchMark table (chain (mem words))) ++ drop 1024 s → out ≡ scratchAfter one words scratch
-        out-scratch s out e eo = eo ∙ (rw (cleared-rest scratch s e, table-is)) ∙ sym (done-scratch words scratch none)
