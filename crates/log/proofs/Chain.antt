@@ -9,7 +9,7 @@ use lib.ListN.{length, getD, drop, length-drop}
 use lib.Seq.{drop-drop}
 use borrow.Author.Tests.{eq-eqb, le-ltb, ltb-true, ne-eqb, lt-ltb, lt-leb, leb-false}
 use Rattle.words.specs.BlockMap.{mark, markAll}
-use Rattle.words.specs.Edition.{Edition}
+use Rattle.words.specs.Edition.{Edition, chainMax}
 use Rattle.words.specs.Logic.{isZero, some-of, all-of, any, upToZero}
 use Rattle.words.specs.Memory.{Memory, blockAt, wordAt}
 use Rattle.log.specs.Chain.{firstIndex, nextIndex, chainFrom, chain, badSuperblock, badIndex, endless, badLogBlock, outside}
@@ -112,7 +112,7 @@ index-some blocks m h = rw (not-zero (firstIndex m) h) (or-false (some-of (outsi
 -- ---- 5, step by step
 
 module _ (m : Memory) where
-  pub endless-start : endless m ≡ ltb 64 (length (chainFrom m (suc 64) (firstIndex m)))
+  pub endless-start : endless m ≡ ltb chainMax (length (chainFrom m (suc chainMax) (firstIndex m)))
   unfolding endless
   endless-start = refl
 

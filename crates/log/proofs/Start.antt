@@ -8,7 +8,7 @@ use native.Mathlib.Omega.{arith}
 use lib.Dec.{ltb, leb}
 use lib.ListN.{length, drop}
 use borrow.Author.Tests.{ltb-false, leb-false}
-use Rattle.words.specs.Edition.{Edition, one}
+use Rattle.words.specs.Edition.{Edition, one, chainMax}
 use Rattle.words.specs.Logic.{isZero, some-of, any, upToZero}
 use Rattle.words.specs.Memory.{Memory, memory, blockCount, blockAt}
 use Rattle.log.specs.CatchUp.{Walk, walk, ahead, broken}
@@ -76,7 +76,7 @@ module _ (E : Edition) (words : List ℕ) (idx : badIndex (blockCount E words) (
 
   chain-is : chain m ≡ firstIndex m ∷ chainFrom m 63 (nextIndex m (firstIndex m))
   unfolding chain
-  chain-is = chain-next m 64 (firstIndex m) (omega arith) first-some
+  chain-is = chain-next m chainMax (firstIndex m) (omega arith) first-some
 
   pub first-inside : firstIndex m < blocks
   first-inside = leb-false blocks (firstIndex m) (or-left (leb blocks (firstIndex m)) _ (rw chain-is at chain-inside))
