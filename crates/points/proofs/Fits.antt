@@ -49,9 +49,11 @@ ors-any a (b ∷ bs) = ors-any (a || b) bs ∙ or-assoc a b (any bs)
 
 pub shared-tests :
     (E : Edition) (words : List ℕ) (s : Shared)
-    → (not (between 4 (s .blocks) 1024) || not (eqb (E .blockWords * s .blocks) (length words))) || not (leb 1 (s .next) && ltb (s .next) (s .blocks)) ≡ badShared E words s
+    → (not (between 4 (s .blocks) 1024) || not (eqb (E .blockWords * s .blocks) (length words))) || not (leb 1 (s .next) && ltb (s .next) (s .blocks))
+    ≡ badShared E words s
 unfolding badShared
-shared-tests E words s = ors-any (not (between 4 (s .blocks) 1024)) (not (eqb (E .blockWords * s .blocks) (length words)) ∷ not (leb 1 (s .next) && ltb (s .next) (s .blocks)) ∷ [])
+shared-tests E words s =
+    ors-any (not (between 4 (s .blocks) 1024)) (not (eqb (E .blockWords * s .blocks) (length words)) ∷ not (leb 1 (s .next) && ltb (s .next) (s .blocks)) ∷ [])
 
 -- ---- the head
 
@@ -61,7 +63,8 @@ module _ (E : Edition) (blocks : ℕ) (p : Place) where
   place-tests = ands-every (inside blocks (p .block) 1) (between 2 (p .slot) (E .blockWords) ∷ between 1 (p .passed) 64 ∷ [])
 
   module _ (w : Write) where
-    pub zeroing-tests : ((inside blocks (w .zeroing) 1 && leb (w .position) (E .blockWords)) && eqb (p .slot) (E .blockWords)) && ltb (p .passed) 64 ≡ zeroingFits E blocks p w
+    pub zeroing-tests :
+        ((inside blocks (w .zeroing) 1 && leb (w .position) (E .blockWords)) && eqb (p .slot) (E .blockWords)) && ltb (p .passed) 64 ≡ zeroingFits E blocks p w
     unfolding zeroingFits
     zeroing-tests = ands-every (inside blocks (w .zeroing) 1) (leb (w .position) (E .blockWords) ∷ eqb (p .slot) (E .blockWords) ∷ ltb (p .passed) 64 ∷ [])
 
@@ -73,16 +76,20 @@ module _ (E : Edition) (blocks : ℕ) (p : Place) where
 
     write-tests : runTests && positionTest ≡ writeFits E blocks p w
     unfolding writeFits
-    write-tests = ands-every (not (badText (w .size))) (not (pastEnd E (w .offset) (w .size)) ∷ inside blocks (w .run) (span E (w .offset) (w .size)) ∷ positionTest ∷ [])
+    write-tests =
+        ands-every (not (badText (w .size))) (not (pastEnd E (w .offset) (w .size)) ∷ inside blocks (w .run) (span E (w .offset) (w .size)) ∷ positionTest ∷ [])
 
     pub write-zeroing : isZeroing (w .phase) ≡ true → runTests && zeroingFits E blocks p w ≡ writeFits E blocks p w
-    write-zeroing e = ap (λ (t : Bool). runTests && t) (sym (choose-true (isZeroing (w .phase)) (zeroingFits E blocks p w) (leb (w .position) (span E (w .offset) (w .size) * E .blockWords)) e)) ∙ write-tests
+    write-zeroing e =
+        ap (λ (t : Bool). runTests && t)
+        (sym (choose-true (isZeroing (w .phase)) (zeroingFits E blocks p w) (leb (w .position) (span E (w .offset) (w .size) * E .blockWords)) e)) ∙ write-tests
 
     pub write-filling : isZeroing (w .phase) ≡ false → runTests && leb (w .position) (E .blockWords * span E (w .offset) (w .size)) ≡ writeFits E blocks p w
     write-filling e =
         let q : E .blockWords * span E (w .offset) (w .size) ≡ span E (w .offset) (w .size) * E .blockWords = omega arith in
         ap (λ (k : ℕ). runTests && leb (w .position) k) q
-        ∙ ap (λ (t : Bool). runTests && t) (sym (choose-false (isZeroing (w .phase)) (zeroingFits E blocks p w) (leb (w .position) (span E (w .offset) (w .size) * E .blockWords)) e))
+        ∙ ap (λ (t : Bool). runTests && t)
+        (sym (choose-false (isZeroing (w .phase)) (zeroingFits E blocks p w) (leb (w .position) (span E (w .offset) (w .size) * E .blockWords)) e))
         ∙ write-tests
 
 module _ (E : Edition) (blocks : ℕ) (h : Head) where
@@ -96,13 +103,16 @@ module _ (E : Edition) (blocks : ℕ) (h : Head) where
   pub head-idle : isIdle (h .write .phase) ≡ true → placeFits E blocks (h .place) && leb (h .length) (fileEnd E) ≡ headFits E blocks h
   head-idle e =
       sym (and-true _)
-      ∙ ap (λ (t : Bool). (placeFits E blocks (h .place) && leb (h .length) (fileEnd E)) && t) (sym (choose-true (isIdle (h .write .phase)) true (writeFits E blocks (h .place) (h .write)) e))
+      ∙ ap (λ (t : Bool). (placeFits E blocks (h .place) && leb (h .length) (fileEnd E)) && t)
+      (sym (choose-true (isIdle (h .write .phase)) true (writeFits E blocks (h .place) (h .write)) e))
       ∙ head-tests
 
   pub head-busy :
-      isIdle (h .write .phase) ≡ false → (placeFits E blocks (h .place) && leb (h .length) (fileEnd E)) && writeFits E blocks (h .place) (h .write) ≡ headFits E blocks h
+      isIdle (h .write .phase) ≡ false
+      → (placeFits E blocks (h .place) && leb (h .length) (fileEnd E)) && writeFits E blocks (h .place) (h .write) ≡ headFits E blocks h
   head-busy e =
-      ap (λ (t : Bool). (placeFits E blocks (h .place) && leb (h .length) (fileEnd E)) && t) (sym (choose-false (isIdle (h .write .phase)) true (writeFits E blocks (h .place) (h .write)) e))
+      ap (λ (t : Bool). (placeFits E blocks (h .place) && leb (h .length) (fileEnd E)) && t)
+      (sym (choose-false (isIdle (h .write .phase)) true (writeFits E blocks (h .place) (h .write)) e))
       ∙ head-tests
 
 -- ---- a number that is no phase's but Idle's
@@ -120,7 +130,8 @@ phase-none (suc (suc (suc (suc (suc (suc n)))))) a b c d e = refl
 
 module _ (blocks : ℕ) (table : List ℕ) where
   pub table-next :
-      (i : ℕ) (ok : Bool) → i < length table → ok && tableFits blocks (drop i table) ≡ (ok && ltb (getD table i 0) blocks) && tableFits blocks (drop (i + 1) table)
+      (i : ℕ) (ok : Bool) → i < length table
+      → ok && tableFits blocks (drop i table) ≡ (ok && ltb (getD table i 0) blocks) && tableFits blocks (drop (i + 1) table)
   unfolding tableFits
   table-next i ok h = rw (add-one, drop-cons table i 0) (sym (and-assoc ok (ltb (getD table i 0) blocks) (all-of (λ b. ltb b blocks) (drop (suc i) table))))
 
