@@ -19,6 +19,7 @@ use Rattle.points.specs.declared.Head.{Head}
 use Rattle.points.specs.Record.{span, runBlocks, firstEdge, lastEdge}
 use Rattle.points.specs.Stepping.{entryFor}
 use Rattle.log.proofs.Entry.{Valid, packed, valid-legal}
+use Rattle.points.proofs.Facts.{spanned, span-few}
 
 -- ---- the entry
 
@@ -41,15 +42,9 @@ module _ (E : Edition) (blocks v b n u p : ℕ) (few : blocks ≤ 1024) (n-low :
   entry-legal : legal E blocks (entryOf E v b n u p) ≡ true
   entry-legal = valid-legal E blocks (entryOf E v b n u p) rules
 
--- a run lies in the file, and has few blocks
-abbrev spanned : ℕ → ℕ → ℕ → ℕ
-spanned W o t = (o + t - 1) / (8 * W) - o / (8 * W) + 1
-
+-- a run lies in the file
 pub run-in-file : (E : Edition) (o t : ℕ) → 1 ≤ t → o + t ≤ fileEnd E → o / blockBytes E + span E o t ≤ 256
 run-in-file E o t = sized (λ W U. 1 ≤ t → o + t ≤ 256 * (8 * W) → o / (8 * W) + spanned W o t ≤ 256) (omega arith) E
-
-run-few : (E : Edition) (o t : ℕ) → t ≤ 1024 → span E o t ≤ 64
-run-few E o t = sized (λ W U. t ≤ 1024 → spanned W o t ≤ 64) (omega arith) E
 
 -- the used bytes of its last block and the point number fit their fields
 pub used-few : (E : Edition) (o t : ℕ) → 1 ≤ t → o + t - blockBytes E * (o / blockBytes E + span E o t - 1) ≤ blockBytes E
@@ -69,10 +64,12 @@ pub entry-for-legal :
     (E : Edition) (blocks : ℕ) (h : Head) → 1 ≤ h .write .size → h .write .size ≤ 1024 → h .write .offset + h .write .size ≤ fileEnd E → 1 ≤ h .write .run
     → h .write .run + runBlocks E (h .write) ≤ blocks → blocks ≤ 1024 → h .number < 32 → legal E blocks (entryFor E h) ≡ true
 entry-for-legal E blocks h some few ends low inside max point =
-    entry-legal E blocks (h .write .offset / blockBytes E) (h .write .run) (runBlocks E (h .write))
-    (h .write .offset + h .write .size - blockBytes E * (h .write .offset / blockBytes E + runBlocks E (h .write) - 1)) (h .number) max
-    (omega arith) (run-few E (h .write .offset) (h .write .size) few) (used-some E (h .write .offset) (h .write .size) some)
-    (used-few E (h .write .offset) (h .write .size) some) (run-in-file E (h .write .offset) (h .write .size) some ends) low inside point
+    let w = h .write in
+    let k = span-few E (w .offset) (w .size) (record { some-text = some; few-text = few; ends-inside = ends }) in
+    entry-legal E blocks (w .offset / blockBytes E) (w .run) (runBlocks E w)
+    (w .offset + w .size - blockBytes E * (w .offset / blockBytes E + runBlocks E w - 1))
+    (h .number) max (k .0) (omega arith) (used-some E (w .offset) (w .size) some) (used-few E (w .offset) (w .size) some)
+    (run-in-file E (w .offset) (w .size) some ends) low inside point
 
 -- ---- the edges
 

@@ -152,9 +152,11 @@ table-inside blocks [] l e v = omega arith
 table-inside blocks (x ∷ xs) l e zero = ltb-true x blocks (and-left (ltb x blocks) (all-of (λ b. ltb b blocks) xs) e)
 table-inside blocks (x ∷ xs) l e (suc v) = table-inside blocks xs l (and-right (ltb x blocks) (all-of (λ b. ltb b blocks) xs) e) v
 
+-- the blocks that a write spans, in numbers: W words a block
+abbrev pub spanned : ℕ → ℕ → ℕ → ℕ
+spanned W offset size = (offset + size - 1) / (8 * W) - offset / (8 * W) + 1
+
 -- a write that obeys 16 and 17 spans 1 to 3 blocks, all of the file
 pub span-few : (E : Edition) (offset size : ℕ) → TextFits E offset size → (1 ≤ span E offset size) × (span E offset size ≤ 3)
 span-few E offset size t =
-    sized
-    (λ W U. 1 ≤ size → size ≤ 1024 → (1 ≤ (offset + size - 1) / (8 * W) - offset / (8 * W) + 1) × ((offset + size - 1) / (8 * W) - offset / (8 * W) + 1 ≤ 3))
-    (omega arith) E (t .some-text) (t .few-text)
+    sized (λ W U. 1 ≤ size → size ≤ 1024 → (1 ≤ spanned W offset size) × (spanned W offset size ≤ 3)) (omega arith) E (t .some-text) (t .few-text)

@@ -115,8 +115,12 @@ module _ (E : Edition) (m : Memory) (s : Shared) (h : Head) (table text : List �
       s .blocks ≤ 1024 → seenNow .broken ≡ false
       → Settles E m s
       (resting Moved
-      (record { number = h .number; length = h .length; place = seenNow .place; write = refill (firstEdge E (h .write) && seenNow .first)
-      (lastEdge E (h .write) && seenNow .last) E (h .write) })
+      (record {
+        number = h .number;
+        length = h .length;
+        place = seenNow .place;
+        write = refill (firstEdge E (h .write) && seenNow .first) (lastEdge E (h .write) && seenNow .last) E (h .write);
+      })
       CatchUp)
       (pointOf h table text) (moveOn E (s .blocks) walk s (pointOf h table text))
   unfolding outcomeOf fileAfter allowed seenBy caughtUp refillAfter

@@ -35,8 +35,12 @@ not-18 :
 unfolding seenBy
 not-18 c = ap (λ (k : Seen). k .broken) (sym (c .before .look .ensures)) ∙ c .if5 .left
 
-text-at : (c : tie.Else5) → let a = c .before .before .before .before .before .before .before .before .before .before .before .before .args in TextFits one (a .offset) (a .size)
-text-at c = let a = c .before .before .before .before .before .before .before .before .before .before .before .before .args in text-facts one (a .offset) (a .size) (not-16 (c .before .before .before .before)) (not-17 (c .before .before))
+text-at :
+    (c : tie.Else5) → let a = c .before .before .before .before .before .before .before .before .before .before .before .before .args in
+    TextFits one (a .offset) (a .size)
+text-at c =
+    let a = c .before .before .before .before .before .before .before .before .before .before .before .before .args in
+    text-facts one (a .offset) (a .size) (not-16 (c .before .before .before .before)) (not-17 (c .before .before))
 
 unfit-requires : tie.Need-unfit-requires
 unfit-requires c κs = search needs
@@ -48,7 +52,8 @@ returns : tie.Need-returns
 returns c =
     let a = c .before .before .before .before .args in
     let u = c .before .before .unfit in
-    start-refused (a .image .now) (a .shared) (a .head) (a .table .now) (a .offset) (a .size) _ (u .result) _ _ (c .refused .ensures) (c .before .if1 .taken) (begin-unfit one (a .image .now) (a .shared) (a .head) (a .table .now) (a .offset) (a .size) (u .result) (u .ensures) (c .before .if1 .taken))
+    start-refused (a .image .now) (a .shared) (a .head) (a .table .now) (a .offset) (a .size) _ (u .result) _ _ (c .refused .ensures) (c .before .if1 .taken)
+    (begin-unfit one (a .image .now) (a .shared) (a .head) (a .table .now) (a .offset) (a .size) (u .result) (u .ensures) (c .before .if1 .taken))
 
 is-idle-requires : tie.Need-is-idle-requires
 is-idle-requires c κs = search needs
@@ -60,7 +65,8 @@ returns-2 : tie.Need-returns-2
 returns-2 c =
     let a = c .before .before .before .before .before .before .before .args in
     start-refused (a .image .now) (a .shared) (a .head) (a .table .now) (a .offset) (a .size) _ 15 _ _ (c .refused2 .ensures) (λ z. omega arith)
-    (begin-15 one (a .image .now) (a .shared) (a .head) (a .table .now) (a .offset) (a .size) (not-14 (c .before .before .before .before)) (sym (c .before .before .is-idle .ensures) ∙ not-true _ (c .before .if2 .taken)))
+    (begin-15 one (a .image .now) (a .shared) (a .head) (a .table .now) (a .offset) (a .size) (not-14 (c .before .before .before .before))
+    (sym (c .before .before .is-idle .ensures) ∙ not-true _ (c .before .if2 .taken)))
 
 bad-text-requires : tie.Need-bad-text-requires
 bad-text-requires c κs = search needs

@@ -22,7 +22,8 @@ returns c m taken table text =
     let a = c .before .before .before .args in
     let p = c .before .before .before .pre in
     rw (c .storing .ensures, c .before .committed-head .ensures, entry-for .ensures)
-    (commit-settles one m (sharedOf (a .numbers) taken) (a .head) table text (p .7) (p .5) (entry-for-legal one (a .numbers .blocks) (a .head) (p .0) (p .1) (p .2) (p .3) (p .4) (p .5) (p .6))
+    (commit-settles one m (sharedOf (a .numbers) taken) (a .head) table text (p .7) (p .5)
+    (entry-for-legal one (a .numbers .blocks) (a .head) (p .0) (p .1) (p .2) (p .3) (p .4) (p .5) (p .6))
     (run-in-file one (a .head .write .offset) (a .head .write .size) (p .0) (p .2)))
 
 pub commit-spec : {M : Type 1} → statement M

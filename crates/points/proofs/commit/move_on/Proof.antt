@@ -31,7 +31,8 @@ returns c taken table text =
     let w = c .before .before .look in
     let m = memory one (a .image .now) in
     let e : w .result ≡ seenNow one m (sharedOf (a .numbers) taken) (a .head) table text = rw (span .ensures) at (w .ensures) in
-    stop-settles one m (sharedOf (a .numbers) taken) (a .head) table text (c .refused .result) (sym (ap (λ (s : Seen). s .broken) e) ∙ c .before .if1 .taken) (c .refused .ensures m (sharedOf (a .numbers) taken) table text)
+    stop-settles one m (sharedOf (a .numbers) taken) (a .head) table text (c .refused .result) (sym (ap (λ (s : Seen). s .broken) e) ∙ c .before .if1 .taken)
+    (c .refused .ensures m (sharedOf (a .numbers) taken) table text)
 
 first-edge-requires : tie.Need-first-edge-requires
 first-edge-requires c κs = search needs

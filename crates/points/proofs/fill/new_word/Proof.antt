@@ -43,12 +43,14 @@ add-if3 c = search needs
 returns-2 : tie.Need-returns-2
 returns-2 c = let a = c .before .before .before .before .before .before .args in
     let w = c .before .copied-word in
-    sym (new-word-copied one (memory one (a .image .now)) (a .head) (a .table .now) (a .text .now) (a .k) (w .result) (w .ensures) (omega arith) (inl (c .if3 .taken)))
+    sym (new-word-copied one (memory one (a .image .now)) (a .head) (a .table .now) (a .text .now) (a .k) (w .result) (w .ensures) (omega arith)
+    (inl (c .if3 .taken)))
 
 returns-3 : tie.Need-returns-3
 returns-3 c = let a = c .before .before .before .before .before .before .before .args in
     let w = c .before .before .copied-word in
-    sym (new-word-copied one (memory one (a .image .now)) (a .head) (a .table .now) (a .text .now) (a .k) (w .result) (w .ensures) (omega arith) (inr (c .if4 .taken)))
+    sym (new-word-copied one (memory one (a .image .now)) (a .head) (a .table .now) (a .text .now) (a .k) (w .result) (w .ensures) (omega arith)
+    (inr (c .if4 .taken)))
 
 edge-word-requires : tie.Need-edge-word-requires
 edge-word-requires c κs = search needs

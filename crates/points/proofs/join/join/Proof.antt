@@ -27,7 +27,9 @@ first-index-requires : tie.Need-first-index-requires
 first-index-requires c κs = search needs
 
 cast-first : tie.Need-cast-first
-cast-first c = let a = c .before .before .before .before .args in record { fits = omega (arith, join-inside one (a .image .now) (a .shared) (a .number) (none (c .before))) }
+cast-first c =
+    let a = c .before .before .before .before .args in
+    record { fits = omega (arith, join-inside one (a .image .now) (a .shared) (a .number) (none (c .before))) }
 
 with-point-requires : tie.Need-with-point-requires
 with-point-requires c κs = let a = c .before .before .before .before .args in join-small one (a .image .now) (a .shared) (a .number) (none (c .before))

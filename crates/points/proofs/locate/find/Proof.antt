@@ -42,7 +42,9 @@ returns-2 c =
     let a = c .before .before .before .before .before .before .before .before .before .args in
     let see = c .before .before .before .before .before .before .see in
     let z = c .before .before .before .before .if1 .left in
-    c .refused2 .ensures ∙ locate-unmapped one (a .image .now) (a .shared) (a .head) (a .table .now) (a .v) _ (see .ensures .0) z _ (see .ensures .1 z) _ (c .before .before .wide .ensures) (c .before .if2 .taken)
+    c .refused2 .ensures
+    ∙ locate-unmapped one (a .image .now) (a .shared) (a .head) (a .table .now) (a .v) _ (see .ensures .0) z _ (see .ensures .1 z) _
+    (c .before .before .wide .ensures) (c .before .if2 .taken)
 
 counted-requires : tie.Need-counted-requires
 counted-requires c κs = search needs
@@ -52,7 +54,8 @@ returns-3 c =
     let a = c .before .before .before .before .before .before .before .before .before .args in
     let see = c .before .before .before .before .before .before .see in
     let z = c .before .before .before .before .if1 .left in
-    c .counted .ensures ∙ locate-found one (a .image .now) (a .shared) (a .head) (a .table .now) (a .v) _ (see .ensures .0) z _ (see .ensures .1 z) _ (c .before .before .wide .ensures) (c .before .if2 .left)
+    c .counted .ensures ∙ locate-found one (a .image .now) (a .shared) (a .head) (a .table .now) (a .v) _ (see .ensures .0) z _ (see .ensures .1 z) _
+    (c .before .before .wide .ensures) (c .before .if2 .left)
 
 pub find-spec : {M : Type 1} → statement M
 find-spec =

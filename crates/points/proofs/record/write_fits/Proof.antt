@@ -31,13 +31,17 @@ zeroing-fits-requires : tie.Need-zeroing-fits-requires
 zeroing-fits-requires c κs = search needs
 
 returns : tie.Need-returns
-returns c = let a = c .before .before .before .before .before .before .before .before .before .args in cc (write-zeroing one (a .blocks) (a .place) (a .write) (sym (c .before .before .is-zeroing .ensures) ∙ c .before .if1 .taken))
+returns c =
+    let a = c .before .before .before .before .before .before .before .before .before .args in
+    cc (write-zeroing one (a .blocks) (a .place) (a .write) (sym (c .before .before .is-zeroing .ensures) ∙ c .before .if1 .taken))
 
 mul-result : tie.Need-mul-result
 mul-result c = search needs
 
 returns-2 : tie.Need-returns-2
-returns-2 c = let a = c .before .before .before .before .before .before .before .before .before .args in cc (write-filling one (a .blocks) (a .place) (a .write) (sym (c .before .before .is-zeroing .ensures) ∙ c .before .if1 .left))
+returns-2 c =
+    let a = c .before .before .before .before .before .before .before .before .before .args in
+    cc (write-filling one (a .blocks) (a .place) (a .write) (sym (c .before .before .is-zeroing .ensures) ∙ c .before .if1 .left))
 
 pub write-fits-spec : {M : Type 1} → statement M
 write-fits-spec =
