@@ -79,16 +79,14 @@ same-order a b c d f g = agree (ltb a b) (ltb c d) (λ e. lt-ltb c d (f (ltb-tru
 -- the end of a write in the file, and from its first block on
 end-order : (E : Edition) (o t n : ℕ) → ltb (o % blockBytes E + t) (blockBytes E * n) ≡ ltb (o + t) (blockBytes E * (o / blockBytes E + n))
 end-order E o t n =
-    let k = sized
-    (λ W U.
-    (o % (8 * W) + t < 8 * W * n → o + t < 8 * W * (o / (8 * W) + n)) × (o + t < 8 * W * (o / (8 * W) + n) → o % (8 * W) + t < 8 * W * n))
-    (omega arith) E in
-    same-order _ _ _ _ (k .0) (k .1)
+    same-order (o % blockBytes E + t) (blockBytes E * n) (o + t) (blockBytes E * (o / blockBytes E + n))
+    (sized (λ W U. o % (8 * W) + t < 8 * W * n → o + t < 8 * W * (o / (8 * W) + n)) (omega arith) E)
+    (sized (λ W U. o + t < 8 * W * (o / (8 * W) + n) → o % (8 * W) + t < 8 * W * n) (omega arith) E)
 
 module _ (E : Edition) (w : Write) where
   pub first-edge : ltb 0 (w .offset % blockBytes E) || ltb (w .offset % blockBytes E + w .size) (blockBytes E) ≡ firstEdge E w
   first-edge =
-      let z = split-byte E (w .offset) in
+      let split = split-byte E (w .offset) in
       let single : blockBytes E * 1 ≡ blockBytes E = omega arith in
       ap₂ (λ (s t : Bool). s || t)
       (same-order 0 (w .offset % blockBytes E) (blockBytes E * (w .offset / blockBytes E)) (w .offset) (λ h. omega arith) (λ h. omega arith))

@@ -171,8 +171,15 @@ module _ (E : Edition) (m : Memory) (h : Head) (table text : List ℕ) (k copied
   abbrev pub Copied : Type 0
   Copied = (j : ℕ) → j < 8 → byteOf copied j ≡ mappedByte m (getD table (h .write .offset / blockBytes E + k / E .blockWords) 0) (8 * (k % E .blockWords) + j)
 
+  -- the run's bytes before the text, and those up to the text's end
+  abbrev lead : ℕ
+  lead = h .write .offset % blockBytes E
+
+  abbrev end : ℕ
+  end = h .write .offset % blockBytes E + h .write .size
+
   abbrev mixed : ℕ → ℕ
-  mixed = mixedByte copied text (h .write .offset % blockBytes E) (h .write .offset % blockBytes E + h .write .size) (8 * k)
+  mixed = mixedByte copied text lead end (8 * k)
 
   abbrev place : ℕ → ℕ
   place j = runStart E (h .write) + 8 * k + j
@@ -189,19 +196,18 @@ module _ (E : Edition) (m : Memory) (h : Head) (table text : List ℕ) (k copied
     where
       go : Dec (h .write .offset ≤ place j) → Dec (place j < h .write .offset + h .write .size) → newByte E m h table text (place j) ≡ mixed (8 * k + j)
       go (yes lo) (yes hi) =
-          let i : 8 * k + j - h .write .offset % blockBytes E ≡ place j - h .write .offset = omega (arith, split-byte E (h .write .offset)) in
+          let split = split-byte E (h .write .offset) in
+          let i : 8 * k + j - lead ≡ place j - h .write .offset = omega arith in
           laid-text E m (fileAt h table) (h .write .offset) (h .write .size) text (place j) lo hi
-          ∙ sym (mixed-text copied text (h .write .offset % blockBytes E) (h .write .offset % blockBytes E + h .write .size) (8 * k) (8 * k + j)
-          (omega (arith, split-byte E (h .write .offset))) (omega (arith, split-byte E (h .write .offset))) ∙ rw i)
+          ∙ sym (mixed-text copied text lead end (8 * k) (8 * k + j) (omega arith) (omega arith) ∙ rw i)
       go (yes lo) (no hi) =
-          laid-after E m (fileAt h table) (h .write .offset) (h .write .size) text (place j) (omega (arith, split-byte E (h .write .offset))) ∙ file-byte c j l
-          ∙ sym (mixed-after copied text (h .write .offset % blockBytes E) (h .write .offset % blockBytes E + h .write .size) (8 * k) (8 * k + j)
-          (omega (arith, split-byte E (h .write .offset))))
+          let split = split-byte E (h .write .offset) in
+          laid-after E m (fileAt h table) (h .write .offset) (h .write .size) text (place j) (omega arith)
+          ∙ file-byte c j l ∙ sym (mixed-after copied text lead end (8 * k) (8 * k + j) (omega arith))
       go (no lo) hi =
-          laid-before E m (fileAt h table) (h .write .offset) (h .write .size) text (place j) (omega (arith, split-byte E (h .write .offset)))
-          ∙ file-byte c j l ∙ sym
-          (mixed-before copied text (h .write .offset % blockBytes E) (h .write .offset % blockBytes E + h .write .size) (8 * k) (8 * k + j)
-          (omega (arith, split-byte E (h .write .offset))))
+          let split = split-byte E (h .write .offset) in
+          laid-before E m (fileAt h table) (h .write .offset) (h .write .size) text (place j) (omega arith)
+          ∙ file-byte c j l ∙ sym (mixed-before copied text lead end (8 * k) (8 * k + j) (omega arith))
 
   pub new-word : Copied → newWord E m h table text k ≡ fromBytes (listFrom (8 * k) 8 mixed)
   unfolding newWord
@@ -209,19 +215,19 @@ module _ (E : Edition) (m : Memory) (h : Head) (table text : List ℕ) (k copied
 
   -- where none of its bytes is the text's, it is the word copied
   pub new-word-copied :
-      Copied → copied < 2 ^ 64 → (8 * k + 8 ≤ h .write .offset % blockBytes E) ⊎ (h .write .offset % blockBytes E + h .write .size ≤ 8 * k)
+      Copied → copied < 2 ^ 64 → (8 * k + 8 ≤ lead) ⊎ (end ≤ 8 * k)
       → newWord E m h table text k ≡ copied
   new-word-copied c l out = new-word c ∙ same-bytes (8 * k) 0 8 mixed (byteOf copied) (byte out) ∙ word-bytes copied 8 l
     where
       byte :
-          (8 * k + 8 ≤ h .write .offset % blockBytes E) ⊎ (h .write .offset % blockBytes E + h .write .size ≤ 8 * k) → (j : ℕ) → j < 8
+          (8 * k + 8 ≤ lead) ⊎ (end ≤ 8 * k) → (j : ℕ) → j < 8
           → mixed (8 * k + j) ≡ byteOf copied (0 + j)
       byte (inl a) j l =
           let i : 8 * k + j - 8 * k ≡ 0 + j = omega arith in
-          mixed-before copied text (h .write .offset % blockBytes E) (h .write .offset % blockBytes E + h .write .size) (8 * k) (8 * k + j) (omega arith) ∙ rw i
+          mixed-before copied text lead end (8 * k) (8 * k + j) (omega arith) ∙ rw i
       byte (inr a) j l =
           let i : 8 * k + j - 8 * k ≡ 0 + j = omega arith in
-          mixed-after copied text (h .write .offset % blockBytes E) (h .write .offset % blockBytes E + h .write .size) (8 * k) (8 * k + j) (omega arith) ∙ rw i
+          mixed-after copied text lead end (8 * k) (8 * k + j) (omega arith) ∙ rw i
 
 -- where all of its bytes are the text's, they are eight in a row of it
 pub new-word-text :
@@ -235,6 +241,6 @@ new-word-text E m h table text k lo hi =
     byte : (j : ℕ) → j < 8 → newByte E m h table text (place E m h table text k 0 j) ≡ getD text (8 * k - h .write .offset % blockBytes E + j) 0
     byte j l =
         let p = place E m h table text k 0 j in
-        let i : p - h .write .offset ≡ 8 * k - h .write .offset % blockBytes E + j = omega (arith, split-byte E (h .write .offset)) in
-        laid-text E m (fileAt h table) (h .write .offset) (h .write .size) text p (omega (arith, split-byte E (h .write .offset)))
-        (omega (arith, split-byte E (h .write .offset))) ∙ rw i
+        let split = split-byte E (h .write .offset) in
+        let i : p - h .write .offset ≡ 8 * k - h .write .offset % blockBytes E + j = omega arith in
+        laid-text E m (fileAt h table) (h .write .offset) (h .write .size) text p (omega arith) (omega arith) ∙ rw i

@@ -30,8 +30,8 @@ module _ (E : Edition) (w : Write) where
 
   pub not-copied : (k : ℕ) → w .offset % blockBytes E ≤ 8 * k → 8 * k + 8 ≤ w .offset % blockBytes E + w .size → copies E w k ≡ false
   not-copied k lo hi =
-      rw (le-ltb (runStart E w + 8 * k) (w .offset) (omega (arith, split-byte E (w .offset))), le-ltb (w .offset + w .size) (runStart E w + 8 * k + 8)
-      (omega (arith, split-byte E (w .offset))))
+      let split = split-byte E (w .offset) in
+      rw (le-ltb (runStart E w + 8 * k) (w .offset) (omega arith), le-ltb (w .offset + w .size) (runStart E w + 8 * k + 8) (omega arith))
 
   -- from the second block on such a word ends past the text
   copied-late : (k : ℕ) → E .blockWords ≤ k → copies E w k ≡ true → w .offset % blockBytes E + w .size < 8 * k + 8
