@@ -1,6 +1,6 @@
 -- The plan of each part of a step stands for the part's definition: one law a part, over a plan that is written out.
 -- The definitions are opened here; a function's proof puts its callees' contracts into the plan and cites the law.
-use Prim.Native.Nat.{ℕ, _+_, _*_, _-_, _/_, _%_, _≤_, _<_}
+use Prim.Native.Nat.{ℕ, _+_, _-_, _≤_, _<_}
 use native.Mathlib.Omega.{arith}
 use native.Mathlib.Numerals.{add-one}
 use mathlib.Core.Path.{_≡_, refl, sym, ap, _∙_}
