@@ -8,7 +8,7 @@ use mathlib.Core.Bool.{true, false, not}
 use mathlib.Core.List.{List, [], _∷_}
 use lib.ListN.{length, replicate, drop, set, getD}
 use lib.Seq.{paste, paste-suc, take-length}
-use Rattle.words.specs.Edition.{one}
+use Rattle.words.specs.Edition.{Edition, one}
 use Rattle.words.specs.Logic.{Reason, isZero, first, _when_}
 use Rattle.words.specs.Memory.{memory}
 use Rattle.words.proofs.Choice.{chosen-zero}
@@ -46,10 +46,12 @@ text-length = refl
 
 -- a turn of the loop that copies, and its end
 pub text-next :
-    (text : List ℕ) (i : ℕ) (bytes : List ℕ) → i < length text → length text ≤ 1024 → bytes ≡ paste noText 0 text i → set bytes i (getD text i 0) ≡ paste noText 0 text (i + 1)
+    (text : List ℕ) (i : ℕ) (bytes : List ℕ) → i < length text → length text ≤ 1024 → bytes ≡ paste noText 0 text i
+    → set bytes i (getD text i 0) ≡ paste noText 0 text (i + 1)
 text-next text i bytes l h e =
     rw (e, add-one)
-    (subst (λ (k : ℕ). set (paste noText 0 text i) k (getD text i 0) ≡ paste noText 0 text (suc i)) (zero-add i) (paste-suc noText 0 text i 0 (omega (arith, text-length)) l))
+    (subst (λ (k : ℕ). set (paste noText 0 text i) k (getD text i 0) ≡ paste noText 0 text (suc i)) (zero-add i)
+    (paste-suc noText 0 text i 0 (omega (arith, text-length)) l))
 
 pub text-end : (text : List ℕ) → paste noText 0 text (length text) ≡ textOf text
 unfolding noText
@@ -57,28 +59,28 @@ text-end text = rw (take-length, zero-add, drop-zeros)
 
 -- ---- the reasons
 
-module _ (words : List ℕ) (s : Shared) (h : Head) (table : List ℕ) (offset size : ℕ) where
+module _ (E : Edition) (words : List ℕ) (s : Shared) (h : Head) (table : List ℕ) (offset size : ℕ) where
   abbrev refusal : ℕ
-  refusal = beginRefusal one words s h table offset size
+  refusal = beginRefusal E words s h table offset size
 
   abbrev walk : Walk
-  walk = ahead one (memory one words) (s .blocks) (h .place)
+  walk = ahead E (memory E words) (s .blocks) (h .place)
 
   -- those after 10, 11 and 14
   abbrev more : List Reason
   more =
-      15 when not (isIdle (h .write .phase)) ∷ 16 when badText size ∷ 17 when pastEnd one offset size
-      ∷ 18 when broken one (s .blocks) walk ∷ 19 when isZero (search s (span one offset size)) ∷ []
+      15 when not (isIdle (h .write .phase)) ∷ 16 when badText size ∷ 17 when pastEnd E offset size
+      ∷ 18 when broken E (s .blocks) walk ∷ 19 when isZero (search s (span E offset size)) ∷ []
 
-  pub begin-unfit : (r : ℕ) → r ≡ unfit one words s h table → (r ≡ 0 → ⊥) → r ≡ refusal
+  pub begin-unfit : (r : ℕ) → r ≡ unfit E words s h table → (r ≡ 0 → ⊥) → r ≡ refusal
   unfolding beginRefusal
   begin-unfit zero e ne = absurd (ne refl)
-  begin-unfit (suc k) e ne = sym (unfit-before words s h table more k (sym e))
+  begin-unfit (suc k) e ne = sym (unfit-before E words s h table more k (sym e))
 
-  module _ (e : unfit one words s h table ≡ 0) where
+  module _ (e : unfit E words s h table ≡ 0) where
     after-14 : refusal ≡ first more
     unfolding beginRefusal
-    after-14 = fit-goes-on words s h table e more
+    after-14 = fit-goes-on E words s h table e more
 
     pub begin-15 : isIdle (h .write .phase) ≡ false → 15 ≡ refusal
     begin-15 x = sym (after-14 ∙ rw x)
@@ -88,75 +90,80 @@ module _ (words : List ℕ) (s : Shared) (h : Head) (table : List ℕ) (offset s
       begin-16 x = sym (after-14 ∙ rw (i, x))
 
       module _ (t : badText size ≡ false) where
-        pub begin-17 : pastEnd one offset size ≡ true → 17 ≡ refusal
+        pub begin-17 : pastEnd E offset size ≡ true → 17 ≡ refusal
         begin-17 x = sym (after-14 ∙ rw (i, t, x))
 
-        module _ (p : pastEnd one offset size ≡ false) where
-          pub begin-18 : broken one (s .blocks) walk ≡ true → 18 ≡ refusal
+        module _ (p : pastEnd E offset size ≡ false) where
+          pub begin-18 : broken E (s .blocks) walk ≡ true → 18 ≡ refusal
           begin-18 x = sym (after-14 ∙ rw (i, t, p, x))
 
-          module _ (b : broken one (s .blocks) walk ≡ false) where
-            pub begin-19 : search s (span one offset size) ≡ 0 → 19 ≡ refusal
+          module _ (b : broken E (s .blocks) walk ≡ false) where
+            pub begin-19 : search s (span E offset size) ≡ 0 → 19 ≡ refusal
             begin-19 x = sym (after-14 ∙ rw (i, t, p, b, x))
 
-            pub begin-0 : (search s (span one offset size) ≡ 0 → ⊥) → 0 ≡ refusal
-            begin-0 x = sym (after-14 ∙ rw (i, t, p, b, not-zero (search s (span one offset size)) x))
+            pub begin-0 : (search s (span E offset size) ≡ 0 → ⊥) → 0 ≡ refusal
+            begin-0 x = sym (after-14 ∙ rw (i, t, p, b, not-zero (search s (span E offset size)) x))
 
-  -- what is settled: a reason; or none, with the place and the run
-  pub start-refused : (r k : ℕ) (place : Place) (run : ℕ) → r ≡ k → (k ≡ 0 → ⊥) → k ≡ refusal → Started words s h table offset size r place run
+-- what is settled: a reason; or none, with the place and the run. The contract that this serves is edition one's
+module _ (words : List ℕ) (s : Shared) (h : Head) (table : List ℕ) (offset size : ℕ) where
+  pub start-refused :
+      (r k : ℕ) (place : Place) (run : ℕ) → r ≡ k → (k ≡ 0 → ⊥) → k ≡ beginRefusal one words s h table offset size
+      → Started words s h table offset size r place run
   start-refused r k place run e ne x = record { refusal = e ∙ x; tail = λ z. absurd (ne (sym e ∙ z)); found = λ z. absurd (ne (sym e ∙ z)) }
 
 -- ---- the answers
 
-module _ (words : List ℕ) (s : Shared) (p : Point) (offset : ℕ) (text : List ℕ) (r : ℕ) (e : r ≡ beginRefusal one words s (p .head) (p .table) offset (length text)) where
-  pub begin-refused : (r ≡ 0 → ⊥) → record { reply = Refused r; shared = s; point = p } ≡ beginning one words s p offset text
+module _ (E : Edition) (words : List ℕ) (s : Shared) (p : Point) (offset : ℕ) (text : List ℕ) (r : ℕ)
+    (e : r ≡ beginRefusal E words s (p .head) (p .table) offset (length text)) where
+  pub begin-refused : (r ≡ 0 → ⊥) → record { reply = Refused r; shared = s; point = p } ≡ beginning E words s p offset text
   unfolding beginning
   begin-refused h =
-      rw e (sym (refused-so (beginRefusal one words s (p .head) (p .table) offset (length text)) _ (λ n. record { reply = Refused n; shared = s; point = p }) (λ z. h (e ∙ z))))
+      rw e (sym (refused-so (beginRefusal E words s (p .head) (p .table) offset (length text)) _ (λ n. record { reply =
+          Refused n; shared = s; point = p }) (λ z. h (e ∙ z))))
 
 -- what a beginning that is not refused has passed
-pub record Ready (words : List ℕ) (s : Shared) (p : Point) (offset : ℕ) (text : List ℕ) : Type 0 where
-  pub none : beginRefusal one words s (p .head) (p .table) offset (length text) ≡ 0
-  pub sound : broken one (s .blocks) (ahead one (memory one words) (s .blocks) (p .head .place)) ≡ false
+pub record Ready (E : Edition) (words : List ℕ) (s : Shared) (p : Point) (offset : ℕ) (text : List ℕ) : Type 0 where
+  pub none : beginRefusal E words s (p .head) (p .table) offset (length text) ≡ 0
+  pub sound : broken E (s .blocks) (ahead E (memory E words) (s .blocks) (p .head .place)) ≡ false
   pub few : s .blocks ≤ 1024
-  pub fits : TextFits offset (length text)
+  pub fits : TextFits E offset (length text)
 
-module _ (words : List ℕ) (s : Shared) (p : Point) (offset : ℕ) (text : List ℕ) where
-  pub ready : beginRefusal one words s (p .head) (p .table) offset (length text) ≡ 0 → Ready words s p offset text
+module _ (E : Edition) (words : List ℕ) (s : Shared) (p : Point) (offset : ℕ) (text : List ℕ) where
+  pub ready : beginRefusal E words s (p .head) (p .table) offset (length text) ≡ 0 → Ready E words s p offset text
   ready e =
-      let f = shared-facts words s (begin-shared one words s p offset text e) in
+      let f = shared-facts E words s (begin-shared E words s p offset text e) in
       record {
         none = e;
-        sound = begin-sound one words s p offset text e;
+        sound = begin-sound E words s p offset text e;
         few = f .few-blocks;
-        fits = text-facts offset (length text) (begin-text one words s p offset text e) (begin-end one words s p offset text e);
+        fits = text-facts E offset (length text) (begin-text E words s p offset text e) (begin-end E words s p offset text e);
       }
 
   pub begin-done :
-      Ready words s p offset text → (place : Place) (run n size : ℕ) (table bytes : List ℕ) (head : Head) (t : Shared)
-      → place ≡ placeAfter (ahead one (memory one words) (s .blocks) (p .head .place)) → run ≡ search s (span one offset (length text))
-      → record { table = table; size = size } ≡ replayOn one (fileAt (p .head) (p .table)) (ahead one (memory one words) (s .blocks) (p .head .place) .entries)
+      Ready E words s p offset text → (place : Place) (run n size : ℕ) (table bytes : List ℕ) (head : Head) (t : Shared)
+      → place ≡ placeAfter (ahead E (memory E words) (s .blocks) (p .head .place)) → run ≡ search s (span E offset (length text))
+      → record { table = table; size = size } ≡ replayOn E (fileAt (p .head) (p .table)) (ahead E (memory E words) (s .blocks) (p .head .place) .entries)
       → bytes ≡ textOf text → head ≡ record { number = p .head .number; length = size; place = place; write = newWrite offset (length text) run }
-      → n ≡ span one offset (length text) → t ≡ taking s run n
-      → record { reply = Done; shared = t; point = record { head = head; table = table; text = bytes } } ≡ beginning one words s p offset text
+      → n ≡ span E offset (length text) → t ≡ taking s run n
+      → record { reply = Done; shared = t; point = record { head = head; table = table; text = bytes } } ≡ beginning E words s p offset text
   unfolding beginning caughtUp
   begin-done r place run n size table bytes head t ep er ef eb eh en et =
       rw (et, eh, eb, en, ep, er)
-      (ap begun ef ∙ sym (chosen-zero (beginRefusal one words s (p .head) (p .table) offset (length text)) _ _ (r .none)))
+      (ap begun ef ∙ sym (chosen-zero (beginRefusal E words s (p .head) (p .table) offset (length text)) _ _ (r .none)))
     where
       begun : Mapped → Begun
       begun f =
           record {
             reply = Done;
-            shared = taking s (search s (span one offset (length text))) (span one offset (length text));
+            shared = taking s (search s (span E offset (length text))) (span E offset (length text));
             point =
                 record {
                   head =
                       record {
                         number = p .head .number;
                         length = f .size;
-                        place = placeAfter (ahead one (memory one words) (s .blocks) (p .head .place));
-                        write = newWrite offset (length text) (search s (span one offset (length text)));
+                        place = placeAfter (ahead E (memory E words) (s .blocks) (p .head .place));
+                        write = newWrite offset (length text) (search s (span E offset (length text)));
                       };
                   table = f .table;
                   text = textOf text;

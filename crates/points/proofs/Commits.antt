@@ -1,5 +1,5 @@
 -- Committing: the entry of a write that fits keeps the entry's rules, and the blocks that it replaces become free one after the other.
-use Prim.Native.Nat.{ℕ, zero, suc, _+_, _*_, _-_, _/_, _%_, _≤_, _<_}
+use Prim.Native.Nat.{ℕ, zero, suc, _+_, _*_, _-_, _/_, _%_, _^_, _≤_, _<_}
 use native.Mathlib.Omega.{arith}
 use native.Mathlib.Decide.{decLt}
 use mathlib.Core.Path.{_≡_, refl, sym, ap, ap₂, _∙_}
@@ -9,7 +9,8 @@ use lib.ListN.{length, getD, take, drop, List·getD-eq-default, drop-of-length-l
 use lib.Seq.{drop-cons}
 use lib.Dec.{ltb}
 use borrow.Author.Tests.{lt-ltb, ltb-true}
-use Rattle.words.specs.Edition.{one}
+use Rattle.words.specs.Edition.{Edition, blockBytes, fileEnd}
+use Rattle.words.proofs.Sizes.{sized, split-byte}
 use Rattle.words.specs.BlockMap.{mark, markAll}
 use Rattle.words.proofs.Logic.{agree}
 use Rattle.log.specs.Entry.{entryOf, legal}
@@ -18,13 +19,15 @@ use Rattle.points.specs.declared.Head.{Head}
 use Rattle.points.specs.Record.{span, runBlocks, firstEdge, lastEdge}
 use Rattle.points.specs.Stepping.{entryFor}
 use Rattle.log.proofs.Entry.{Valid, packed, valid-legal}
+use Rattle.points.proofs.Facts.{spanned, span-few}
 
 -- ---- the entry
 
-module _ (blocks v b n u p : ℕ) (few : blocks ≤ 1024) (n-low : 1 ≤ n) (n-high : n ≤ 64) (u-low : 1 ≤ u) (u-high : u ≤ 512) (v-end : v + n ≤ 256) (b-low : 1 ≤ b) (b-end : b + n ≤ blocks) (point : p < 32) where
-  rules : Valid one blocks (entryOf one v b n u p)
+module _ (E : Edition) (blocks v b n u p : ℕ) (few : blocks ≤ 1024) (n-low : 1 ≤ n) (n-high : n ≤ 64) (u-low : 1 ≤ u) (u-high : u ≤ blockBytes E)
+    (v-end : v + n ≤ 256) (b-low : 1 ≤ b) (b-end : b + n ≤ blocks) (point : p < 32) where
+  rules : Valid E blocks (entryOf E v b n u p)
   rules =
-      let k = packed one v b n u p (omega arith) (omega arith) (omega arith) (omega arith) point in
+      let k = packed E v b n u p (omega arith) (omega arith) (omega arith) (omega arith) point in
       record {
         count = rw (k .isCount) n-low;
         few = rw (k .isCount) n-high;
@@ -36,46 +39,61 @@ module _ (blocks v b n u p : ℕ) (few : blocks ≤ 1024) (n-low : 1 ≤ n) (n-h
         inside = rw (k .isBlock, k .isCount) b-end;
       }
 
-  entry-legal : legal one blocks (entryOf one v b n u p) ≡ true
-  entry-legal = valid-legal one blocks (entryOf one v b n u p) rules
+  entry-legal : legal E blocks (entryOf E v b n u p) ≡ true
+  entry-legal = valid-legal E blocks (entryOf E v b n u p) rules
 
 -- a run lies in the file
-pub run-in-file : (o t : ℕ) → 1 ≤ t → o + t ≤ 131072 → o / 512 + span one o t ≤ 256
-run-in-file o t some ends = omega arith
+pub run-in-file : (E : Edition) (o t : ℕ) → 1 ≤ t → o + t ≤ fileEnd E → o / blockBytes E + span E o t ≤ 256
+run-in-file E o t = sized (λ W U. 1 ≤ t → o + t ≤ 256 * (8 * W) → o / (8 * W) + spanned W o t ≤ 256) (omega arith) E
 
 -- the used bytes of its last block and the point number fit their fields
-pub used-few : (o t : ℕ) → 1 ≤ t → o + t - 512 * (o / 512 + span one o t - 1) ≤ 512
-used-few o t some = omega arith
+pub used-few : (E : Edition) (o t : ℕ) → 1 ≤ t → o + t - blockBytes E * (o / blockBytes E + span E o t - 1) ≤ blockBytes E
+used-few E o t = sized (λ W U. 1 ≤ t → o + t - 8 * W * (o / (8 * W) + spanned W o t - 1) ≤ 8 * W) (omega arith) E
 
-pub entry-kept : (v b n u p : ℕ) → u ≤ 512 → p < 32 → entryOf one v b n (u % 1024) (p % 32) ≡ entryOf one v b n u p
-entry-kept v b n u p hu hp =
-    let e : u % 1024 ≡ u = omega arith in
+used-some : (E : Edition) (o t : ℕ) → 1 ≤ t → 1 ≤ o + t - blockBytes E * (o / blockBytes E + span E o t - 1)
+used-some E o t = sized (λ W U. 1 ≤ t → 1 ≤ o + t - 8 * W * (o / (8 * W) + spanned W o t - 1)) (omega arith) E
+
+pub entry-kept :
+    (E : Edition) (v b n u p : ℕ) → u ≤ blockBytes E → p < 32 → entryOf E v b n (u % 2 ^ E .usedBits) (p % 32) ≡ entryOf E v b n u p
+entry-kept E v b n u p hu hp =
+    let e : u % 2 ^ E .usedBits ≡ u = sized (λ W U. u ≤ 8 * W → u % 2 ^ U ≡ u) (omega arith) E hu in
     let f : p % 32 ≡ p = omega arith in
     rw (e, f)
 
 pub entry-for-legal :
-    (blocks : ℕ) (h : Head) → 1 ≤ h .write .size → h .write .size ≤ 1024 → h .write .offset + h .write .size ≤ 131072 → 1 ≤ h .write .run
-    → h .write .run + runBlocks one (h .write) ≤ blocks → blocks ≤ 1024 → h .number < 32 → legal one blocks (entryFor one h) ≡ true
-entry-for-legal blocks h some few ends low inside max point =
-    entry-legal blocks (h .write .offset / 512) (h .write .run) (runBlocks one (h .write)) (h .write .offset + h .write .size - 512 * (h .write .offset / 512 + runBlocks one (h .write) - 1)) (h .number)
-    max (omega arith) (omega arith) (omega arith) (omega arith) (run-in-file (h .write .offset) (h .write .size) some ends) low inside point
+    (E : Edition) (blocks : ℕ) (h : Head) → 1 ≤ h .write .size → h .write .size ≤ 1024 → h .write .offset + h .write .size ≤ fileEnd E → 1 ≤ h .write .run
+    → h .write .run + runBlocks E (h .write) ≤ blocks → blocks ≤ 1024 → h .number < 32 → legal E blocks (entryFor E h) ≡ true
+entry-for-legal E blocks h some few ends low inside max point =
+    let w = h .write in
+    let k = span-few E (w .offset) (w .size) (record { some-text = some; few-text = few; ends-inside = ends }) in
+    entry-legal E blocks (w .offset / blockBytes E) (w .run) (runBlocks E w)
+    (w .offset + w .size - blockBytes E * (w .offset / blockBytes E + runBlocks E w - 1))
+    (h .number) max (k .0) (omega arith) (used-some E (w .offset) (w .size) some) (used-few E (w .offset) (w .size) some)
+    (run-in-file E (w .offset) (w .size) some ends) low inside point
 
 -- ---- the edges
 
 same-order : (a b c d : ℕ) → (a < b → c < d) → (c < d → a < b) → ltb a b ≡ ltb c d
 same-order a b c d f g = agree (ltb a b) (ltb c d) (λ e. lt-ltb c d (f (ltb-true a b e))) (λ e. lt-ltb a b (g (ltb-true c d e)))
 
-module _ (w : Write) where
-  pub first-edge : ltb 0 (w .offset % 512) || ltb (w .offset % 512 + w .size) 512 ≡ firstEdge one w
-  first-edge =
-      ap₂ (λ (s t : Bool). s || t) (same-order 0 (w .offset % 512) (512 * (w .offset / 512)) (w .offset) (λ h. omega arith) (λ h. omega arith))
-      (same-order (w .offset % 512 + w .size) 512 (w .offset + w .size) (512 * (w .offset / 512 + 1)) (λ h. omega arith) (λ h. omega arith))
+-- the end of a write in the file, and from its first block on
+end-order : (E : Edition) (o t n : ℕ) → ltb (o % blockBytes E + t) (blockBytes E * n) ≡ ltb (o + t) (blockBytes E * (o / blockBytes E + n))
+end-order E o t n =
+    same-order (o % blockBytes E + t) (blockBytes E * n) (o + t) (blockBytes E * (o / blockBytes E + n))
+    (sized (λ W U. o % (8 * W) + t < 8 * W * n → o + t < 8 * W * (o / (8 * W) + n)) (omega arith) E)
+    (sized (λ W U. o + t < 8 * W * (o / (8 * W) + n) → o % (8 * W) + t < 8 * W * n) (omega arith) E)
 
-  pub last-edge : (n : ℕ) → n ≡ runBlocks one w → ltb 1 n && ltb (w .offset % 512 + w .size) (512 * n) ≡ lastEdge one w
-  last-edge n e =
-      rw (← e)
-      (ap (λ (t : Bool). ltb 1 n && t)
-      (same-order (w .offset % 512 + w .size) (512 * n) (w .offset + w .size) (512 * (w .offset / 512 + n)) (λ h. omega arith) (λ h. omega arith)))
+module _ (E : Edition) (w : Write) where
+  pub first-edge : ltb 0 (w .offset % blockBytes E) || ltb (w .offset % blockBytes E + w .size) (blockBytes E) ≡ firstEdge E w
+  first-edge =
+      let split = split-byte E (w .offset) in
+      let single : blockBytes E * 1 ≡ blockBytes E = omega arith in
+      ap₂ (λ (s t : Bool). s || t)
+      (same-order 0 (w .offset % blockBytes E) (blockBytes E * (w .offset / blockBytes E)) (w .offset) (λ h. omega arith) (λ h. omega arith))
+      (rw single at (end-order E (w .offset) (w .size) 1))
+
+  pub last-edge : (n : ℕ) → n ≡ runBlocks E w → ltb 1 n && ltb (w .offset % blockBytes E + w .size) (blockBytes E * n) ≡ lastEdge E w
+  last-edge n e = rw (← e) (ap (λ (t : Bool). ltb 1 n && t) (end-order E (w .offset) (w .size) n))
 
 -- ---- the blocks replaced
 
@@ -105,8 +123,11 @@ pub free-at :
 unfolding markAll
 free-at map table at n = go (decLt at (length table))
   where
-    go : Dec (at < length table) → markAll false map (take (suc n) (drop at table)) ≡ markAll false (markAll false map (getD table at 0 ∷ [])) (take n (drop (suc at) table))
-    go (yes h) = ap (λ (l : List ℕ). markAll false map (take (suc n) l)) (drop-cons table at 0 h) ∙ free-cons map (getD table at 0) (take n (drop (suc at) table))
+    go :
+        Dec (at < length table)
+        → markAll false map (take (suc n) (drop at table)) ≡ markAll false (markAll false map (getD table at 0 ∷ [])) (take n (drop (suc at) table))
+    go (yes h) =
+        ap (λ (l : List ℕ). markAll false map (take (suc n) l)) (drop-cons table at 0 h) ∙ free-cons map (getD table at 0) (take n (drop (suc at) table))
     go (no h) =
         let z : getD table at 0 ≡ 0 = List·getD-eq-default table 0 (omega arith) in
         let d : drop at table ≡ [] = drop-of-length-le table {i = at} (omega arith) in
@@ -122,7 +143,9 @@ freed-one start map more table n v left at h inv e =
     let a : suc at ≡ at + 1 = omega arith in
     inv ∙ rw (e, ← a) (rw l at (free-at map table at (left - 1)))
 
-pub freed-all : (start map table : List ℕ) (n v left at : ℕ) → left ≤ 0 → markAll false start (take n (drop v table)) ≡ markAll false map (take left (drop at table)) → map ≡ markAll false start (take n (drop v table))
+pub freed-all :
+    (start map table : List ℕ) (n v left at : ℕ) → left ≤ 0 → markAll false start (take n (drop v table)) ≡ markAll false map (take left (drop at table))
+    → map ≡ markAll false start (take n (drop v table))
 unfolding markAll
 freed-all start map table n v left at h inv =
     let z : left ≡ 0 = omega arith in

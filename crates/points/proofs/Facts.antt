@@ -1,5 +1,5 @@
 -- What a call that passes 10 and 11 knows, as named facts on numbers, which `omega` reads. Assumes nothing.
-use Prim.Native.Nat.{ℕ, zero, suc, _+_, _*_, _≤_, _<_}
+use Prim.Native.Nat.{ℕ, zero, suc, _+_, _*_, _-_, _/_, _≤_, _<_}
 use native.Mathlib.Omega.{arith}
 use mathlib.Core.Path.{_≡_, sym, _∙_}
 use mathlib.Core.Bool.{true, false, _&&_}
@@ -7,7 +7,8 @@ use mathlib.Core.List.{List, [], _∷_}
 use lib.ListN.{length, getD}
 use lib.Dec.{leb, ltb}
 use borrow.Author.Tests.{leb-true, ltb-true, ltb-false, eqb-true, not-true, not-false}
-use Rattle.words.specs.Edition.{one}
+use Rattle.words.specs.Edition.{Edition, fileEnd}
+use Rattle.words.proofs.Sizes.{sized}
 use Rattle.words.specs.Logic.{between, all-of}
 use Rattle.words.proofs.Logic.{and-left, and-right, every-all, any-none}
 use Rattle.words.proofs.Choice.{choose-true, choose-false}
@@ -27,115 +28,116 @@ inside-facts blocks b n e = (leb-true 1 b (and-left (leb 1 b) (leb (b + n) block
 
 -- ---- 10
 
-pub record SharedFits (words : List ℕ) (s : Shared) : Type 0 where
+pub record SharedFits (E : Edition) (words : List ℕ) (s : Shared) : Type 0 where
   pub some-blocks : 4 ≤ s .blocks
   pub few-blocks : s .blocks ≤ 1024
-  pub whole : 64 * s .blocks ≡ length words
+  pub whole : E .blockWords * s .blocks ≡ length words
   pub next-some : 1 ≤ s .next
   pub next-inside : s .next < s .blocks
 
-pub shared-facts : (words : List ℕ) (s : Shared) → badShared one words s ≡ false → SharedFits words s
+pub shared-facts : (E : Edition) (words : List ℕ) (s : Shared) → badShared E words s ≡ false → SharedFits E words s
 unfolding badShared
-shared-facts words s e =
+shared-facts E words s e =
     let f = any-none _ e in
     let b = between-facts 4 (s .blocks) 1024 (not-false _ (f .0)) in
     let n : leb 1 (s .next) && ltb (s .next) (s .blocks) ≡ true = not-false _ (f .1 .1 .0) in
     record {
       some-blocks = b .0;
       few-blocks = b .1;
-      whole = eqb-true (64 * s .blocks) (length words) (not-false _ (f .1 .0));
+      whole = eqb-true (E .blockWords * s .blocks) (length words) (not-false _ (f .1 .0));
       next-some = leb-true 1 (s .next) (and-left (leb 1 (s .next)) (ltb (s .next) (s .blocks)) n);
       next-inside = ltb-true (s .next) (s .blocks) (and-right (leb 1 (s .next)) (ltb (s .next) (s .blocks)) n);
     }
 
 -- ---- 16 and 17
 
-pub record TextFits (offset size : ℕ) : Type 0 where
+pub record TextFits (E : Edition) (offset size : ℕ) : Type 0 where
   pub some-text : 1 ≤ size
   pub few-text : size ≤ 1024
-  pub ends-inside : offset + size ≤ 131072
+  pub ends-inside : offset + size ≤ fileEnd E
 
-pub text-facts : (offset size : ℕ) → badText size ≡ false → pastEnd one offset size ≡ false → TextFits offset size
-text-facts offset size e f =
+pub text-facts : (E : Edition) (offset size : ℕ) → badText size ≡ false → pastEnd E offset size ≡ false → TextFits E offset size
+text-facts E offset size e f =
     let b = between-facts 1 size 1024 (not-false _ e) in
-    record { some-text = b .0; few-text = b .1; ends-inside = ltb-false 131072 (offset + size) f }
+    record { some-text = b .0; few-text = b .1; ends-inside = ltb-false (fileEnd E) (offset + size) f }
 
 -- ---- 11
 
-pub record PlaceFits (blocks : ℕ) (p : Place) : Type 0 where
+pub record PlaceFits (E : Edition) (blocks : ℕ) (p : Place) : Type 0 where
   pub block-some : 1 ≤ p .block
   pub block-inside : p .block < blocks
   pub slot-low : 2 ≤ p .slot
-  pub slot-high : p .slot ≤ 64
+  pub slot-high : p .slot ≤ E .blockWords
   pub passed-low : 1 ≤ p .passed
   pub passed-high : p .passed ≤ 64
 
-pub place-facts : (blocks : ℕ) (p : Place) → placeFits one blocks p ≡ true → PlaceFits blocks p
+pub place-facts : (E : Edition) (blocks : ℕ) (p : Place) → placeFits E blocks p ≡ true → PlaceFits E blocks p
 unfolding placeFits
-place-facts blocks p e =
+place-facts E blocks p e =
     let f = every-all _ e in
     let i = inside-facts blocks (p .block) 1 (f .0) in
-    let s = between-facts 2 (p .slot) 64 (f .1 .0) in
+    let s = between-facts 2 (p .slot) (E .blockWords) (f .1 .0) in
     let q = between-facts 1 (p .passed) 64 (f .1 .1 .0) in
     record { block-some = i .0; block-inside = omega (arith, i .1); slot-low = s .0; slot-high = s .1; passed-low = q .0; passed-high = q .1 }
 
-pub record ZeroingFits (blocks : ℕ) (p : Place) (w : Write) : Type 0 where
+pub record ZeroingFits (E : Edition) (blocks : ℕ) (p : Place) (w : Write) : Type 0 where
   pub zeroing-some : 1 ≤ w .zeroing
   pub zeroing-inside : w .zeroing < blocks
-  pub zeroing-position : w .position ≤ 64
-  pub slot-last : p .slot ≡ 64
+  pub zeroing-position : w .position ≤ E .blockWords
+  pub slot-last : p .slot ≡ E .blockWords
   pub passed-few : p .passed < 64
 
-pub zeroing-facts : (blocks : ℕ) (p : Place) (w : Write) → zeroingFits one blocks p w ≡ true → ZeroingFits blocks p w
+pub zeroing-facts : (E : Edition) (blocks : ℕ) (p : Place) (w : Write) → zeroingFits E blocks p w ≡ true → ZeroingFits E blocks p w
 unfolding zeroingFits
-zeroing-facts blocks p w e =
+zeroing-facts E blocks p w e =
     let f = every-all _ e in
     let i = inside-facts blocks (w .zeroing) 1 (f .0) in
     record {
       zeroing-some = i .0;
       zeroing-inside = omega (arith, i .1);
-      zeroing-position = leb-true (w .position) 64 (f .1 .0);
-      slot-last = eqb-true (p .slot) 64 (f .1 .1 .0);
+      zeroing-position = leb-true (w .position) (E .blockWords) (f .1 .0);
+      slot-last = eqb-true (p .slot) (E .blockWords) (f .1 .1 .0);
       passed-few = ltb-true (p .passed) 64 (f .1 .1 .1 .0);
     }
 
-pub record RunFits (blocks : ℕ) (w : Write) : Type 0 where
-  pub text : TextFits (w .offset) (w .size)
+pub record RunFits (E : Edition) (blocks : ℕ) (w : Write) : Type 0 where
+  pub text : TextFits E (w .offset) (w .size)
   pub run-some : 1 ≤ w .run
-  pub run-inside : w .run + span one (w .offset) (w .size) ≤ blocks
+  pub run-inside : w .run + span E (w .offset) (w .size) ≤ blocks
 
-module _ (blocks : ℕ) (p : Place) (w : Write) (e : writeFits one blocks p w ≡ true) where
-  pub run-facts : RunFits blocks w
+module _ (E : Edition) (blocks : ℕ) (p : Place) (w : Write) (e : writeFits E blocks p w ≡ true) where
+  pub run-facts : RunFits E blocks w
   unfolding writeFits
   run-facts =
       let f = every-all _ e in
-      let i = inside-facts blocks (w .run) (span one (w .offset) (w .size)) (f .1 .1 .0) in
-      record { text = text-facts (w .offset) (w .size) (not-true _ (f .0)) (not-true _ (f .1 .0)); run-some = i .0; run-inside = i .1 }
+      let i = inside-facts blocks (w .run) (span E (w .offset) (w .size)) (f .1 .1 .0) in
+      record { text = text-facts E (w .offset) (w .size) (not-true _ (f .0)) (not-true _ (f .1 .0)); run-some = i .0; run-inside = i .1 }
 
-  pub write-zeroing-facts : isZeroing (w .phase) ≡ true → ZeroingFits blocks p w
+  pub write-zeroing-facts : isZeroing (w .phase) ≡ true → ZeroingFits E blocks p w
   unfolding writeFits
-  write-zeroing-facts z = zeroing-facts blocks p w (sym (choose-true (isZeroing (w .phase)) _ _ z) ∙ every-all _ e .1 .1 .1 .0)
+  write-zeroing-facts z = zeroing-facts E blocks p w (sym (choose-true (isZeroing (w .phase)) _ _ z) ∙ every-all _ e .1 .1 .1 .0)
 
-  pub write-position : isZeroing (w .phase) ≡ false → w .position ≤ 64 * span one (w .offset) (w .size)
+  pub write-position : isZeroing (w .phase) ≡ false → w .position ≤ E .blockWords * span E (w .offset) (w .size)
   unfolding writeFits
   write-position z =
-      let l = leb-true (w .position) (span one (w .offset) (w .size) * 64) (sym (choose-false (isZeroing (w .phase)) _ _ z) ∙ every-all _ e .1 .1 .1 .0) in
+      let l = leb-true (w .position) (span E (w .offset) (w .size) * E .blockWords)
+      (sym (choose-false (isZeroing (w .phase)) _ _ z) ∙ every-all _ e .1 .1 .1 .0) in
       omega arith
 
-module _ (blocks : ℕ) (h : Head) (table : List ℕ) (e : fits one blocks h table ≡ true) where
-  fits-head : headFits one blocks h ≡ true
+module _ (E : Edition) (blocks : ℕ) (h : Head) (table : List ℕ) (e : fits E blocks h table ≡ true) where
+  fits-head : headFits E blocks h ≡ true
   unfolding fits
   fits-head = every-all _ e .0
 
-  pub fits-place : PlaceFits blocks (h .place)
+  pub fits-place : PlaceFits E blocks (h .place)
   unfolding headFits
-  fits-place = place-facts blocks (h .place) (every-all _ fits-head .0)
+  fits-place = place-facts E blocks (h .place) (every-all _ fits-head .0)
 
-  pub fits-length : h .length ≤ 131072
+  pub fits-length : h .length ≤ fileEnd E
   unfolding headFits
-  fits-length = leb-true (h .length) 131072 (every-all _ fits-head .1 .0)
+  fits-length = leb-true (h .length) (fileEnd E) (every-all _ fits-head .1 .0)
 
-  pub fits-write : isIdle (h .write .phase) ≡ false → writeFits one blocks (h .place) (h .write) ≡ true
+  pub fits-write : isIdle (h .write .phase) ≡ false → writeFits E blocks (h .place) (h .write) ≡ true
   unfolding headFits
   fits-write i = sym (choose-false (isIdle (h .write .phase)) true _ i) ∙ every-all _ fits-head .1 .1 .0
 
@@ -150,6 +152,11 @@ table-inside blocks [] l e v = omega arith
 table-inside blocks (x ∷ xs) l e zero = ltb-true x blocks (and-left (ltb x blocks) (all-of (λ b. ltb b blocks) xs) e)
 table-inside blocks (x ∷ xs) l e (suc v) = table-inside blocks xs l (and-right (ltb x blocks) (all-of (λ b. ltb b blocks) xs) e) v
 
+-- the blocks that a write spans, in numbers: W words a block
+abbrev pub spanned : ℕ → ℕ → ℕ → ℕ
+spanned W offset size = (offset + size - 1) / (8 * W) - offset / (8 * W) + 1
+
 -- a write that obeys 16 and 17 spans 1 to 3 blocks, all of the file
-pub span-few : (offset size : ℕ) → TextFits offset size → (1 ≤ span one offset size) × (span one offset size ≤ 3)
-span-few offset size t = (omega arith, omega arith)
+pub span-few : (E : Edition) (offset size : ℕ) → TextFits E offset size → (1 ≤ span E offset size) × (span E offset size ≤ 3)
+span-few E offset size t =
+    sized (λ W U. 1 ≤ size → size ≤ 1024 → (1 ≤ spanned W offset size) × (spanned W offset size ≤ 3)) (omega arith) E (t .some-text) (t .few-text)

@@ -7,7 +7,8 @@ use mathlib.Core.Path.{_≡_, refl, sym, ap, _∙_}
 use mathlib.Core.Logic.{_≢_}
 use mathlib.Core.List.{List, [], _∷_}
 use lib.ListN.{length, getD}
-use Rattle.words.specs.Edition.{one}
+use Rattle.words.specs.Edition.{Edition, blockBytes}
+use Rattle.words.proofs.Sizes.{byte-on}
 use Rattle.words.specs.Logic.{listFrom}
 use Rattle.words.specs.Memory.{Memory, memory, blockAt, byteIn}
 use Rattle.words.proofs.Memory.{block-length, block-outside}
@@ -37,19 +38,19 @@ module _ (m : Memory) (b : ℕ) (part : List ℕ) (is : part ≡ partOf m b) (fr
   hole-bytes e = listFrom-same (λ _. 0) (byteIn part) 0 from n (λ k _. sym (no-byte part e (from + k))) ∙ part-bytes
 
 -- a part is a whole block, or empty
-pub part-whole : (words : List ℕ) (b : ℕ) (part : List ℕ) → part ≡ partOf (memory one words) b → length part ≢ 0 → length part ≡ 64
-part-whole words zero part e h = absurd (h (ap length e))
-part-whole words (suc b) part e h = go (decLt (suc b) (length words / 64))
+pub part-whole : (E : Edition) (words : List ℕ) (b : ℕ) (part : List ℕ) → part ≡ partOf (memory E words) b → length part ≢ 0 → length part ≡ E .blockWords
+part-whole E words zero part e h = absurd (h (ap length e))
+part-whole E words (suc b) part e h = go (decLt (suc b) (length words / E .blockWords))
   where
-    go : Dec (suc b < length words / 64) → length part ≡ 64
-    go (yes l) = ap length e ∙ block-length one words (suc b) l
-    go (no n) = absurd (h (ap length (e ∙ block-outside one words (suc b) (omega arith))))
+    go : Dec (suc b < length words / E .blockWords) → length part ≡ E .blockWords
+    go (yes l) = ap length e ∙ block-length E words (suc b) l
+    go (no n) = absurd (h (ap length (e ∙ block-outside E words (suc b) (omega arith))))
 
 -- n bytes of the file from byte p on, in one block
 pub file-piece :
-    (m : Memory) (f : Mapped) (p n b : ℕ) → b ≡ getD (f .table) (p / 512) 0 → p % 512 + n ≤ 512
-    → listFrom (p % 512) n (mappedByte m b) ≡ listFrom p n (fileByte one m f)
+    (E : Edition) (m : Memory) (f : Mapped) (p n b : ℕ) → b ≡ getD (f .table) (p / blockBytes E) 0 → p % blockBytes E + n ≤ blockBytes E
+    → listFrom (p % blockBytes E) n (mappedByte m b) ≡ listFrom p n (fileByte E m f)
 unfolding fileByte
-file-piece m f p n b e h =
-    listFrom-same (mappedByte m b) (fileByte one m f) (p % 512) p n
-    (λ k l. let q : (p + k) / 512 ≡ p / 512 = omega arith in let r : (p + k) % 512 ≡ p % 512 + k = omega arith in rw (q, r, e))
+file-piece E m f p n b e h =
+    listFrom-same (mappedByte m b) (fileByte E m f) (p % blockBytes E) p n
+    (λ k l. let on = byte-on E p k (omega arith) in rw (on .0, on .1, e))

@@ -13,7 +13,7 @@ use lib.Pow.{shr-lt, pow-mono}
 use native.Mathlib.Nat.{lt-of-lt-of-le, zero-add}
 use native.Mathlib.Decide.{decLt}
 use borrow.Author.Tests.{lt-ltb, le-ltb, ltb-true}
-use Rattle.words.specs.Edition.{one}
+use Rattle.words.specs.Edition.{Edition, fileEnd}
 use Rattle.words.specs.Logic.{every, any, all-of, between}
 use Rattle.words.proofs.Choice.{choose-true, choose-false}
 use Rattle.words.proofs.Logic.{agree}
@@ -48,61 +48,71 @@ ors-any a (b ∷ bs) = ors-any (a || b) bs ∙ or-assoc a b (any bs)
 -- ---- the shared record
 
 pub shared-tests :
-    (words : List ℕ) (s : Shared)
-    → (not (between 4 (s .blocks) 1024) || not (eqb (64 * s .blocks) (length words))) || not (leb 1 (s .next) && ltb (s .next) (s .blocks)) ≡ badShared one words s
+    (E : Edition) (words : List ℕ) (s : Shared)
+    → (not (between 4 (s .blocks) 1024) || not (eqb (E .blockWords * s .blocks) (length words))) || not (leb 1 (s .next) && ltb (s .next) (s .blocks))
+    ≡ badShared E words s
 unfolding badShared
-shared-tests words s = ors-any (not (between 4 (s .blocks) 1024)) (not (eqb (64 * s .blocks) (length words)) ∷ not (leb 1 (s .next) && ltb (s .next) (s .blocks)) ∷ [])
+shared-tests E words s =
+    ors-any (not (between 4 (s .blocks) 1024)) (not (eqb (E .blockWords * s .blocks) (length words)) ∷ not (leb 1 (s .next) && ltb (s .next) (s .blocks)) ∷ [])
 
 -- ---- the head
 
-module _ (blocks : ℕ) (p : Place) where
-  pub place-tests : (inside blocks (p .block) 1 && between 2 (p .slot) 64) && between 1 (p .passed) 64 ≡ placeFits one blocks p
+module _ (E : Edition) (blocks : ℕ) (p : Place) where
+  pub place-tests : (inside blocks (p .block) 1 && between 2 (p .slot) (E .blockWords)) && between 1 (p .passed) 64 ≡ placeFits E blocks p
   unfolding placeFits
-  place-tests = ands-every (inside blocks (p .block) 1) (between 2 (p .slot) 64 ∷ between 1 (p .passed) 64 ∷ [])
+  place-tests = ands-every (inside blocks (p .block) 1) (between 2 (p .slot) (E .blockWords) ∷ between 1 (p .passed) 64 ∷ [])
 
   module _ (w : Write) where
-    pub zeroing-tests : ((inside blocks (w .zeroing) 1 && leb (w .position) 64) && eqb (p .slot) 64) && ltb (p .passed) 64 ≡ zeroingFits one blocks p w
+    pub zeroing-tests :
+        ((inside blocks (w .zeroing) 1 && leb (w .position) (E .blockWords)) && eqb (p .slot) (E .blockWords)) && ltb (p .passed) 64 ≡ zeroingFits E blocks p w
     unfolding zeroingFits
-    zeroing-tests = ands-every (inside blocks (w .zeroing) 1) (leb (w .position) 64 ∷ eqb (p .slot) 64 ∷ ltb (p .passed) 64 ∷ [])
+    zeroing-tests = ands-every (inside blocks (w .zeroing) 1) (leb (w .position) (E .blockWords) ∷ eqb (p .slot) (E .blockWords) ∷ ltb (p .passed) 64 ∷ [])
 
     abbrev pub runTests : Bool
-    runTests = (not (badText (w .size)) && not (pastEnd one (w .offset) (w .size))) && inside blocks (w .run) (span one (w .offset) (w .size))
+    runTests = (not (badText (w .size)) && not (pastEnd E (w .offset) (w .size))) && inside blocks (w .run) (span E (w .offset) (w .size))
 
     abbrev pub positionTest : Bool
-    positionTest = elim (isZeroing (w .phase)) [ true ↦ zeroingFits one blocks p w | false ↦ leb (w .position) (span one (w .offset) (w .size) * 64) ]
+    positionTest = elim (isZeroing (w .phase)) [ true ↦ zeroingFits E blocks p w | false ↦ leb (w .position) (span E (w .offset) (w .size) * E .blockWords) ]
 
-    write-tests : runTests && positionTest ≡ writeFits one blocks p w
+    write-tests : runTests && positionTest ≡ writeFits E blocks p w
     unfolding writeFits
-    write-tests = ands-every (not (badText (w .size))) (not (pastEnd one (w .offset) (w .size)) ∷ inside blocks (w .run) (span one (w .offset) (w .size)) ∷ positionTest ∷ [])
+    write-tests =
+        ands-every (not (badText (w .size))) (not (pastEnd E (w .offset) (w .size)) ∷ inside blocks (w .run) (span E (w .offset) (w .size)) ∷ positionTest ∷ [])
 
-    pub write-zeroing : isZeroing (w .phase) ≡ true → runTests && zeroingFits one blocks p w ≡ writeFits one blocks p w
-    write-zeroing e = ap (λ (t : Bool). runTests && t) (sym (choose-true (isZeroing (w .phase)) (zeroingFits one blocks p w) (leb (w .position) (span one (w .offset) (w .size) * 64)) e)) ∙ write-tests
+    pub write-zeroing : isZeroing (w .phase) ≡ true → runTests && zeroingFits E blocks p w ≡ writeFits E blocks p w
+    write-zeroing e =
+        ap (λ (t : Bool). runTests && t)
+        (sym (choose-true (isZeroing (w .phase)) (zeroingFits E blocks p w) (leb (w .position) (span E (w .offset) (w .size) * E .blockWords)) e)) ∙ write-tests
 
-    pub write-filling : isZeroing (w .phase) ≡ false → runTests && leb (w .position) (64 * span one (w .offset) (w .size)) ≡ writeFits one blocks p w
+    pub write-filling : isZeroing (w .phase) ≡ false → runTests && leb (w .position) (E .blockWords * span E (w .offset) (w .size)) ≡ writeFits E blocks p w
     write-filling e =
-        let q : 64 * span one (w .offset) (w .size) ≡ span one (w .offset) (w .size) * 64 = omega arith in
+        let q : E .blockWords * span E (w .offset) (w .size) ≡ span E (w .offset) (w .size) * E .blockWords = omega arith in
         ap (λ (k : ℕ). runTests && leb (w .position) k) q
-        ∙ ap (λ (t : Bool). runTests && t) (sym (choose-false (isZeroing (w .phase)) (zeroingFits one blocks p w) (leb (w .position) (span one (w .offset) (w .size) * 64)) e))
+        ∙ ap (λ (t : Bool). runTests && t)
+        (sym (choose-false (isZeroing (w .phase)) (zeroingFits E blocks p w) (leb (w .position) (span E (w .offset) (w .size) * E .blockWords)) e))
         ∙ write-tests
 
-module _ (blocks : ℕ) (h : Head) where
+module _ (E : Edition) (blocks : ℕ) (h : Head) where
   abbrev writeTest : Bool
-  writeTest = elim (isIdle (h .write .phase)) [ true ↦ true | false ↦ writeFits one blocks (h .place) (h .write) ]
+  writeTest = elim (isIdle (h .write .phase)) [ true ↦ true | false ↦ writeFits E blocks (h .place) (h .write) ]
 
-  head-tests : (placeFits one blocks (h .place) && leb (h .length) 131072) && writeTest ≡ headFits one blocks h
+  head-tests : (placeFits E blocks (h .place) && leb (h .length) (fileEnd E)) && writeTest ≡ headFits E blocks h
   unfolding headFits
-  head-tests = ands-every (placeFits one blocks (h .place)) (leb (h .length) 131072 ∷ writeTest ∷ [])
+  head-tests = ands-every (placeFits E blocks (h .place)) (leb (h .length) (fileEnd E) ∷ writeTest ∷ [])
 
-  pub head-idle : isIdle (h .write .phase) ≡ true → placeFits one blocks (h .place) && leb (h .length) 131072 ≡ headFits one blocks h
+  pub head-idle : isIdle (h .write .phase) ≡ true → placeFits E blocks (h .place) && leb (h .length) (fileEnd E) ≡ headFits E blocks h
   head-idle e =
       sym (and-true _)
-      ∙ ap (λ (t : Bool). (placeFits one blocks (h .place) && leb (h .length) 131072) && t) (sym (choose-true (isIdle (h .write .phase)) true (writeFits one blocks (h .place) (h .write)) e))
+      ∙ ap (λ (t : Bool). (placeFits E blocks (h .place) && leb (h .length) (fileEnd E)) && t)
+      (sym (choose-true (isIdle (h .write .phase)) true (writeFits E blocks (h .place) (h .write)) e))
       ∙ head-tests
 
   pub head-busy :
-      isIdle (h .write .phase) ≡ false → (placeFits one blocks (h .place) && leb (h .length) 131072) && writeFits one blocks (h .place) (h .write) ≡ headFits one blocks h
+      isIdle (h .write .phase) ≡ false
+      → (placeFits E blocks (h .place) && leb (h .length) (fileEnd E)) && writeFits E blocks (h .place) (h .write) ≡ headFits E blocks h
   head-busy e =
-      ap (λ (t : Bool). (placeFits one blocks (h .place) && leb (h .length) 131072) && t) (sym (choose-false (isIdle (h .write .phase)) true (writeFits one blocks (h .place) (h .write)) e))
+      ap (λ (t : Bool). (placeFits E blocks (h .place) && leb (h .length) (fileEnd E)) && t)
+      (sym (choose-false (isIdle (h .write .phase)) true (writeFits E blocks (h .place) (h .write)) e))
       ∙ head-tests
 
 -- ---- a number that is no phase's but Idle's
@@ -120,7 +130,8 @@ phase-none (suc (suc (suc (suc (suc (suc n)))))) a b c d e = refl
 
 module _ (blocks : ℕ) (table : List ℕ) where
   pub table-next :
-      (i : ℕ) (ok : Bool) → i < length table → ok && tableFits blocks (drop i table) ≡ (ok && ltb (getD table i 0) blocks) && tableFits blocks (drop (i + 1) table)
+      (i : ℕ) (ok : Bool) → i < length table
+      → ok && tableFits blocks (drop i table) ≡ (ok && ltb (getD table i 0) blocks) && tableFits blocks (drop (i + 1) table)
   unfolding tableFits
   table-next i ok h = rw (add-one, drop-cons table i 0) (sym (and-assoc ok (ltb (getD table i 0) blocks) (all-of (λ b. ltb b blocks) (drop (suc i) table))))
 
@@ -148,14 +159,14 @@ table-first blocks (x ∷ xs) h = twice (ltb x blocks)
 
 -- ---- the end of the file, and bits past a number's width
 
-pub end-past : (offset size : ℕ) → 131072 < size → pastEnd one offset size ≡ true
-end-past offset size h = lt-ltb 131072 (offset + size) (omega arith)
+pub end-past : (E : Edition) (offset size : ℕ) → fileEnd E < size → pastEnd E offset size ≡ true
+end-past E offset size h = lt-ltb (fileEnd E) (offset + size) (omega arith)
 
-pub end-left : (offset size : ℕ) → size ≤ 131072 → ltb (131072 - size) offset ≡ pastEnd one offset size
-end-left offset size h =
-    agree (ltb (131072 - size) offset) (pastEnd one offset size)
-    (λ e. let l = ltb-true (131072 - size) offset e in lt-ltb 131072 (offset + size) (omega arith))
-    (λ e. let l = ltb-true 131072 (offset + size) e in lt-ltb (131072 - size) offset (omega arith))
+pub end-left : (E : Edition) (offset size : ℕ) → size ≤ fileEnd E → ltb (fileEnd E - size) offset ≡ pastEnd E offset size
+end-left E offset size h =
+    agree (ltb (fileEnd E - size) offset) (pastEnd E offset size)
+    (λ e. let l = ltb-true (fileEnd E - size) offset e in lt-ltb (fileEnd E) (offset + size) (omega arith))
+    (λ e. let l = ltb-true (fileEnd E) (offset + size) e in lt-ltb (fileEnd E - size) offset (omega arith))
 
 pub no-bit : (n w j : ℕ) → w < 2 ^ n → n ≤ j → bit w j ≡ false
 no-bit n w j l h =

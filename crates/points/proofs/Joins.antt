@@ -6,7 +6,7 @@ use mathlib.Core.Bool.{Bool, true, _||_}
 use mathlib.Core.List.{List}
 use lib.Dec.{leb, eqb}
 use borrow.Author.Tests.{ne-eqb, leb-false, ltb-false}
-use Rattle.words.specs.Edition.{one}
+use Rattle.words.specs.Edition.{Edition}
 use Rattle.words.specs.Logic.{isZero}
 use Rattle.words.specs.Memory.{Memory, memory}
 use Rattle.words.specs.BlockMap.{withBit}
@@ -33,22 +33,23 @@ first-tests blocks m = ap (λ (t : Bool). t || leb blocks (firstIndex m)) (zero-
 
 -- ---- the answers
 
-module _ (words : List ℕ) (s : Shared) (number : ℕ) where
+module _ (E : Edition) (words : List ℕ) (s : Shared) (number : ℕ) where
   pub join-refused :
-      (r : ℕ) (p : Point) → r ≡ joinRefusal one words s number → (r ≡ 0 → ⊥) → p ≡ noPoint
-      → record { reply = Refused r; shared = s; point = p } ≡ joining one words s number
+      (r : ℕ) (p : Point) → r ≡ joinRefusal E words s number → (r ≡ 0 → ⊥) → p ≡ noPoint
+      → record { reply = Refused r; shared = s; point = p } ≡ joining E words s number
   unfolding joining
-  join-refused r p e h ep = rw (ep, e) (sym (refused-so (joinRefusal one words s number) _ (λ n. record { reply = Refused n; shared = s; point = noPoint }) (λ z. h (e ∙ z))))
+  join-refused r p e h ep =
+      rw (ep, e) (sym (refused-so (joinRefusal E words s number) _ (λ n. record { reply = Refused n; shared = s; point = noPoint }) (λ z. h (e ∙ z))))
 
-  module _ (none : joinRefusal one words s number ≡ 0) where
+  module _ (none : joinRefusal E words s number ≡ 0) where
     pub join-done :
-        (j f : ℕ) (t : Shared) (p : Point) → j ≡ withBit true (s .joined) number → t ≡ withJoined s j → f ≡ firstIndex (memory one words) → p ≡ newPoint number f
-        → record { reply = Done; shared = t; point = p } ≡ joining one words s number
+        (j f : ℕ) (t : Shared) (p : Point) → j ≡ withBit true (s .joined) number → t ≡ withJoined s j → f ≡ firstIndex (memory E words) → p ≡ newPoint number f
+        → record { reply = Done; shared = t; point = p } ≡ joining E words s number
     unfolding joining
-    join-done j f t p ej et ef ep = rw (ep, et, ej, ef) (sym (chosen-zero (joinRefusal one words s number) _ _ none))
+    join-done j f t p ej et ef ep = rw (ep, et, ej, ef) (sym (chosen-zero (joinRefusal E words s number) _ _ none))
 
     pub join-small : number < 32
-    join-small = omega (arith, ltb-false 31 number (join-number one words s number none))
+    join-small = omega (arith, ltb-false 31 number (join-number E words s number none))
 
-    pub join-inside : firstIndex (memory one words) < s .blocks
-    join-inside = leb-false (s .blocks) (firstIndex (memory one words)) (or-right (isZero (firstIndex (memory one words))) _ (join-first one words s number none))
+    pub join-inside : firstIndex (memory E words) < s .blocks
+    join-inside = leb-false (s .blocks) (firstIndex (memory E words)) (or-right (isZero (firstIndex (memory E words))) _ (join-first E words s number none))

@@ -5,7 +5,7 @@ use native.Mathlib.Decide.{decLt}
 use mathlib.Core.Path.{_≡_, sym, _∙_}
 use mathlib.Core.Bool.{true, false}
 use mathlib.Core.List.{List}
-use Rattle.words.specs.Edition.{one}
+use Rattle.words.specs.Edition.{Edition}
 use Rattle.words.specs.Word.{bit}
 use Rattle.words.specs.BlockMap.{withBit, mark}
 use Rattle.words.proofs.Choice.{choose-true, choose-false, chosen-zero}
@@ -23,17 +23,17 @@ use Rattle.points.proofs.Unfit.{refused-so}
 
 -- ---- what a point holds
 
-module _ (map : List ℕ) (w : Write) where
-  pub held-idle : isIdle (w .phase) ≡ true → map ≡ withoutHeld one map w
+module _ (E : Edition) (map : List ℕ) (w : Write) where
+  pub held-idle : isIdle (w .phase) ≡ true → map ≡ withoutHeld E map w
   unfolding withoutHeld
   held-idle e = sym (choose-true (isIdle (w .phase)) map _ e)
 
-  module _ (busy : isIdle (w .phase) ≡ false) (freed : List ℕ) (run : freed ≡ withoutRun one map w) where
-    pub held-run : isZeroing (w .phase) ≡ false → freed ≡ withoutHeld one map w
+  module _ (busy : isIdle (w .phase) ≡ false) (freed : List ℕ) (run : freed ≡ withoutRun E map w) where
+    pub held-run : isZeroing (w .phase) ≡ false → freed ≡ withoutHeld E map w
     unfolding withoutHeld
     held-run e = run ∙ sym (choose-false (isIdle (w .phase)) map _ busy ∙ choose-false (isZeroing (w .phase)) _ _ e)
 
-    pub held-both : (left : List ℕ) → isZeroing (w .phase) ≡ true → left ≡ mark false freed (w .zeroing) → left ≡ withoutHeld one map w
+    pub held-both : (left : List ℕ) → isZeroing (w .phase) ≡ true → left ≡ mark false freed (w .zeroing) → left ≡ withoutHeld E map w
     unfolding withoutHeld
     held-both left e l = l ∙ rw run (sym (choose-false (isIdle (w .phase)) map _ busy ∙ choose-true (isZeroing (w .phase)) _ _ e))
 
@@ -47,13 +47,13 @@ joined-small joined number l e = go (decLt number 32)
 
 -- ---- the answers
 
-module _ (words : List ℕ) (s : Shared) (p : Point) where
-  pub leave-refused : (r : ℕ) → r ≡ unfit one words s (p .head) (p .table) → (r ≡ 0 → ⊥) → record { reply = Refused r; shared = s } ≡ leaving one words s p
+module _ (E : Edition) (words : List ℕ) (s : Shared) (p : Point) where
+  pub leave-refused : (r : ℕ) → r ≡ unfit E words s (p .head) (p .table) → (r ≡ 0 → ⊥) → record { reply = Refused r; shared = s } ≡ leaving E words s p
   unfolding leaving leaveRefusal unfit
-  leave-refused r e h = rw e (sym (refused-so (unfit one words s (p .head) (p .table)) _ (λ n. record { reply = Refused n; shared = s }) (λ z. h (e ∙ z))))
+  leave-refused r e h = rw e (sym (refused-so (unfit E words s (p .head) (p .table)) _ (λ n. record { reply = Refused n; shared = s }) (λ z. h (e ∙ z))))
 
   pub leave-done :
-      unfit one words s (p .head) (p .table) ≡ 0 → (map : List ℕ) (j : ℕ) (t u : Shared) → map ≡ withoutHeld one (s .taken) (p .head .write) → t ≡ withTaken s map
-      → j ≡ withBit false (s .joined) (p .head .number) → u ≡ withJoined t j → record { reply = Done; shared = u } ≡ leaving one words s p
+      unfit E words s (p .head) (p .table) ≡ 0 → (map : List ℕ) (j : ℕ) (t u : Shared) → map ≡ withoutHeld E (s .taken) (p .head .write) → t ≡ withTaken s map
+      → j ≡ withBit false (s .joined) (p .head .number) → u ≡ withJoined t j → record { reply = Done; shared = u } ≡ leaving E words s p
   unfolding leaving leaveRefusal unfit
-  leave-done e map j t u em et ej eu = rw (eu, et, em, ej) (sym (chosen-zero (unfit one words s (p .head) (p .table)) _ _ e))
+  leave-done e map j t u em et ej eu = rw (eu, et, em, ej) (sym (chosen-zero (unfit E words s (p .head) (p .table)) _ _ e))

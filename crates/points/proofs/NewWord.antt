@@ -19,7 +19,8 @@ use Rattle.words.specs.Memory.{Memory, wordAt}
 use Rattle.words.proofs.Word.{cat}
 use Rattle.log.specs.Replay.{Mapped, mappedByte, fileByte}
 use native.Mathlib.Decide.{decLe, decLt}
-use Rattle.words.specs.Edition.{one}
+use Rattle.words.specs.Edition.{Edition, blockBytes}
+use Rattle.words.proofs.Sizes.{split-byte, word-byte}
 use Rattle.words.proofs.WordBytes.{bytes-view}
 use Rattle.points.specs.declared.Head.{Head}
 use Rattle.points.specs.Fill.{newWord, newByte, laidByte, runStart}
@@ -29,7 +30,8 @@ use Rattle.points.specs.Plan.{mixedByte}
 -- eight bytes, each shifted to its place
 pub eight-bytes :
     (a b c d e f g h : ℕ) → a < 256 → b < 256 → c < 256 → d < 256 → e < 256 → f < 256 → g < 256 → h < 256
-    → bitOr (bitOr (bitOr (bitOr (bitOr (bitOr (bitOr a (b * 2 ^ 8 % 2 ^ 64)) (c * 2 ^ 16 % 2 ^ 64)) (d * 2 ^ 24 % 2 ^ 64)) (e * 2 ^ 32 % 2 ^ 64)) (f * 2 ^ 40 % 2 ^ 64)) (g * 2 ^ 48 % 2 ^ 64)) (h * 2 ^ 56 % 2 ^ 64)
+    → bitOr (bitOr (bitOr (bitOr (bitOr (bitOr (bitOr a (b * 2 ^ 8 % 2 ^ 64)) (c * 2 ^ 16 % 2 ^ 64)) (d * 2 ^ 24 % 2 ^ 64)) (e * 2 ^ 32 % 2 ^ 64))
+    (f * 2 ^ 40 % 2 ^ 64)) (g * 2 ^ 48 % 2 ^ 64)) (h * 2 ^ 56 % 2 ^ 64)
     ≡ fromBytes (a ∷ b ∷ c ∷ d ∷ e ∷ f ∷ g ∷ h ∷ [])
 eight-bytes a b c d e f g h la lb lc ld le lf lg lh =
     rw (
@@ -107,18 +109,18 @@ module _ (copied : ℕ) (text : List ℕ) (lead end at p : ℕ) where
   unfolding mixedByte
   mixed-after = behind lead p end (getD text (p - lead) 0) (byteOf copied (p - at))
 
-module _ (m : Memory) (f : Mapped) (offset size : ℕ) (text : List ℕ) (p : ℕ) where
-  laid-text : offset ≤ p → p < offset + size → laidByte one m f offset size text p ≡ getD text (p - offset) 0
+module _ (E : Edition) (m : Memory) (f : Mapped) (offset size : ℕ) (text : List ℕ) (p : ℕ) where
+  laid-text : offset ≤ p → p < offset + size → laidByte E m f offset size text p ≡ getD text (p - offset) 0
   unfolding laidByte
-  laid-text = from-to offset p (offset + size) (getD text (p - offset) 0) (fileByte one m f p)
+  laid-text = from-to offset p (offset + size) (getD text (p - offset) 0) (fileByte E m f p)
 
-  laid-before : p < offset → laidByte one m f offset size text p ≡ fileByte one m f p
+  laid-before : p < offset → laidByte E m f offset size text p ≡ fileByte E m f p
   unfolding laidByte
-  laid-before = before offset p (offset + size) (getD text (p - offset) 0) (fileByte one m f p)
+  laid-before = before offset p (offset + size) (getD text (p - offset) 0) (fileByte E m f p)
 
-  laid-after : offset + size ≤ p → laidByte one m f offset size text p ≡ fileByte one m f p
+  laid-after : offset + size ≤ p → laidByte E m f offset size text p ≡ fileByte E m f p
   unfolding laidByte
-  laid-after = behind offset p (offset + size) (getD text (p - offset) 0) (fileByte one m f p)
+  laid-after = behind offset p (offset + size) (getD text (p - offset) 0) (fileByte E m f p)
 
 -- ---- from the last byte down: the byte before those that are done is put below them
 
@@ -164,58 +166,81 @@ word-bytes w (suc n) h =
         let e : 8 * (1 + k) ≡ 8 + 8 * (0 + k) = omega arith in
         rw (e, ← shr-shr w 8 (8 * (0 + k)))
 
-module _ (m : Memory) (h : Head) (table text : List ℕ) (k copied : ℕ) where
+module _ (E : Edition) (m : Memory) (h : Head) (table text : List ℕ) (k copied : ℕ) where
   -- the word copied is the mapped block's at the run's word k
   abbrev pub Copied : Type 0
-  Copied = (j : ℕ) → j < 8 → byteOf copied j ≡ mappedByte m (getD table (h .write .offset / 512 + k / 64) 0) (8 * (k % 64) + j)
+  Copied = (j : ℕ) → j < 8 → byteOf copied j ≡ mappedByte m (getD table (h .write .offset / blockBytes E + k / E .blockWords) 0) (8 * (k % E .blockWords) + j)
+
+  -- the run's bytes before the text, and those up to the text's end
+  abbrev lead : ℕ
+  lead = h .write .offset % blockBytes E
+
+  abbrev end : ℕ
+  end = h .write .offset % blockBytes E + h .write .size
 
   abbrev mixed : ℕ → ℕ
-  mixed = mixedByte copied text (h .write .offset % 512) (h .write .offset % 512 + h .write .size) (8 * k)
+  mixed = mixedByte copied text lead end (8 * k)
 
   abbrev place : ℕ → ℕ
-  place j = h .write .offset / 512 * 512 + 8 * k + j
+  place j = runStart E (h .write) + 8 * k + j
 
-  file-byte : Copied → (j : ℕ) → j < 8 → fileByte one m (fileAt h table) (place j) ≡ byteOf copied (8 * k + j - 8 * k)
+  file-byte : Copied → (j : ℕ) → j < 8 → fileByte E m (fileAt h table) (place j) ≡ byteOf copied (8 * k + j - 8 * k)
   unfolding fileByte
   file-byte c j l =
-      let b : place j / 512 ≡ h .write .offset / 512 + k / 64 = omega arith in
-      let q : place j % 512 ≡ 8 * (k % 64) + j = omega arith in
+      let at = word-byte E (h .write .offset / blockBytes E) k j l in
       let i : 8 * k + j - 8 * k ≡ j = omega arith in
-      rw (b, q, i) (sym (c j l))
+      rw (at .0, at .1, i) (sym (c j l))
 
-  new-byte : Copied → (j : ℕ) → j < 8 → newByte one m h table text (place j) ≡ mixed (8 * k + j)
+  new-byte : Copied → (j : ℕ) → j < 8 → newByte E m h table text (place j) ≡ mixed (8 * k + j)
   new-byte c j l = go (decLe (h .write .offset) (place j)) (decLt (place j) (h .write .offset + h .write .size))
     where
-      go : Dec (h .write .offset ≤ place j) → Dec (place j < h .write .offset + h .write .size) → newByte one m h table text (place j) ≡ mixed (8 * k + j)
+      go : Dec (h .write .offset ≤ place j) → Dec (place j < h .write .offset + h .write .size) → newByte E m h table text (place j) ≡ mixed (8 * k + j)
       go (yes lo) (yes hi) =
-          let i : 8 * k + j - h .write .offset % 512 ≡ place j - h .write .offset = omega arith in
-          laid-text m (fileAt h table) (h .write .offset) (h .write .size) text (place j) lo hi ∙ sym (mixed-text copied text (h .write .offset % 512) (h .write .offset % 512 + h .write .size) (8 * k) (8 * k + j) (omega arith) (omega arith) ∙ rw i)
+          let split = split-byte E (h .write .offset) in
+          let i : 8 * k + j - lead ≡ place j - h .write .offset = omega arith in
+          laid-text E m (fileAt h table) (h .write .offset) (h .write .size) text (place j) lo hi
+          ∙ sym (mixed-text copied text lead end (8 * k) (8 * k + j) (omega arith) (omega arith) ∙ rw i)
       go (yes lo) (no hi) =
-          laid-after m (fileAt h table) (h .write .offset) (h .write .size) text (place j) (omega arith) ∙ file-byte c j l ∙ sym (mixed-after copied text (h .write .offset % 512) (h .write .offset % 512 + h .write .size) (8 * k) (8 * k + j) (omega arith))
+          let split = split-byte E (h .write .offset) in
+          laid-after E m (fileAt h table) (h .write .offset) (h .write .size) text (place j) (omega arith)
+          ∙ file-byte c j l ∙ sym (mixed-after copied text lead end (8 * k) (8 * k + j) (omega arith))
       go (no lo) hi =
-          laid-before m (fileAt h table) (h .write .offset) (h .write .size) text (place j) (omega arith) ∙ file-byte c j l ∙ sym (mixed-before copied text (h .write .offset % 512) (h .write .offset % 512 + h .write .size) (8 * k) (8 * k + j) (omega arith))
+          let split = split-byte E (h .write .offset) in
+          laid-before E m (fileAt h table) (h .write .offset) (h .write .size) text (place j) (omega arith)
+          ∙ file-byte c j l ∙ sym (mixed-before copied text lead end (8 * k) (8 * k + j) (omega arith))
 
-  pub new-word : Copied → newWord one m h table text k ≡ fromBytes (listFrom (8 * k) 8 mixed)
+  pub new-word : Copied → newWord E m h table text k ≡ fromBytes (listFrom (8 * k) 8 mixed)
   unfolding newWord
-  new-word c = same-bytes (runStart one (h .write) + 8 * k) (8 * k) 8 (newByte one m h table text) mixed (new-byte c)
+  new-word c = same-bytes (runStart E (h .write) + 8 * k) (8 * k) 8 (newByte E m h table text) mixed (new-byte c)
 
   -- where none of its bytes is the text's, it is the word copied
-  pub new-word-copied : Copied → copied < 2 ^ 64 → (8 * k + 8 ≤ h .write .offset % 512) ⊎ (h .write .offset % 512 + h .write .size ≤ 8 * k) → newWord one m h table text k ≡ copied
+  pub new-word-copied :
+      Copied → copied < 2 ^ 64 → (8 * k + 8 ≤ lead) ⊎ (end ≤ 8 * k)
+      → newWord E m h table text k ≡ copied
   new-word-copied c l out = new-word c ∙ same-bytes (8 * k) 0 8 mixed (byteOf copied) (byte out) ∙ word-bytes copied 8 l
     where
-      byte : (8 * k + 8 ≤ h .write .offset % 512) ⊎ (h .write .offset % 512 + h .write .size ≤ 8 * k) → (j : ℕ) → j < 8 → mixed (8 * k + j) ≡ byteOf copied (0 + j)
-      byte (inl a) j l = let i : 8 * k + j - 8 * k ≡ 0 + j = omega arith in mixed-before copied text (h .write .offset % 512) (h .write .offset % 512 + h .write .size) (8 * k) (8 * k + j) (omega arith) ∙ rw i
-      byte (inr a) j l = let i : 8 * k + j - 8 * k ≡ 0 + j = omega arith in mixed-after copied text (h .write .offset % 512) (h .write .offset % 512 + h .write .size) (8 * k) (8 * k + j) (omega arith) ∙ rw i
+      byte :
+          (8 * k + 8 ≤ lead) ⊎ (end ≤ 8 * k) → (j : ℕ) → j < 8
+          → mixed (8 * k + j) ≡ byteOf copied (0 + j)
+      byte (inl a) j l =
+          let i : 8 * k + j - 8 * k ≡ 0 + j = omega arith in
+          mixed-before copied text lead end (8 * k) (8 * k + j) (omega arith) ∙ rw i
+      byte (inr a) j l =
+          let i : 8 * k + j - 8 * k ≡ 0 + j = omega arith in
+          mixed-after copied text lead end (8 * k) (8 * k + j) (omega arith) ∙ rw i
 
 -- where all of its bytes are the text's, they are eight in a row of it
 pub new-word-text :
-    (m : Memory) (h : Head) (table text : List ℕ) (k : ℕ) → h .write .offset % 512 ≤ 8 * k → 8 * k + 8 ≤ h .write .offset % 512 + h .write .size
-    → newWord one m h table text k ≡ fromBytes (listFrom (8 * k - h .write .offset % 512) 8 (λ i. getD text i 0))
+    (E : Edition) (m : Memory) (h : Head) (table text : List ℕ) (k : ℕ) → h .write .offset % blockBytes E ≤ 8 * k
+    → 8 * k + 8 ≤ h .write .offset % blockBytes E + h .write .size
+    → newWord E m h table text k ≡ fromBytes (listFrom (8 * k - h .write .offset % blockBytes E) 8 (λ i. getD text i 0))
 unfolding newWord
-new-word-text m h table text k lo hi = same-bytes (runStart one (h .write) + 8 * k) (8 * k - h .write .offset % 512) 8 (newByte one m h table text) (λ i. getD text i 0) byte
+new-word-text E m h table text k lo hi =
+    same-bytes (runStart E (h .write) + 8 * k) (8 * k - h .write .offset % blockBytes E) 8 (newByte E m h table text) (λ i. getD text i 0) byte
   where
-    byte : (j : ℕ) → j < 8 → newByte one m h table text (place m h table text k 0 j) ≡ getD text (8 * k - h .write .offset % 512 + j) 0
+    byte : (j : ℕ) → j < 8 → newByte E m h table text (place E m h table text k 0 j) ≡ getD text (8 * k - h .write .offset % blockBytes E + j) 0
     byte j l =
-        let p = place m h table text k 0 j in
-        let i : p - h .write .offset ≡ 8 * k - h .write .offset % 512 + j = omega arith in
-        laid-text m (fileAt h table) (h .write .offset) (h .write .size) text p (omega arith) (omega arith) ∙ rw i
+        let p = place E m h table text k 0 j in
+        let split = split-byte E (h .write .offset) in
+        let i : p - h .write .offset ≡ 8 * k - h .write .offset % blockBytes E + j = omega arith in
+        laid-text E m (fileAt h table) (h .write .offset) (h .write .size) text p (omega arith) (omega arith) ∙ rw i

@@ -9,7 +9,7 @@ use lib.ListN.{length, getD, drop}
 use lib.Seq.{sets}
 use lib.Dec.{leb}
 use borrow.Author.Tests.{leb-false}
-use Rattle.words.specs.Edition.{one}
+use Rattle.words.specs.Edition.{Edition}
 use Rattle.words.specs.Logic.{Reason, isZero, listFrom, first, _when_}
 use Rattle.words.specs.Memory.{Memory, memory, blockAt}
 use Rattle.words.proofs.Tests.{is-zero, not-zero, nonzero, passes}
@@ -44,47 +44,50 @@ view-answer : (m : Memory) (r n b : ℕ) → b ≡ answer r n .count → (r ≡ 
 view-answer m zero n b e ne = part-block m b (λ z. ne refl (sym e ∙ z))
 view-answer m (suc r) n b e ne = ap (partOf m) e
 
-module _ (I : List ℕ) (s : Shared) (h : Head) (table : List ℕ) where
+module _ (E : Edition) (I : List ℕ) (s : Shared) (h : Head) (table : List ℕ) where
   abbrev file : Mapped
-  file = seen one I s h table
+  file = seen E I s h table
 
   -- ---- reading: it has no reason of its own
 
-  read-sight : readRefusal one I s h table ≡ sightRefusal one I s h table false
+  read-sight : readRefusal E I s h table ≡ sightRefusal E I s h table false
   unfolding readRefusal sightRefusal
   read-sight = refl
 
   module _ (offset : ℕ) (buffer : List ℕ) where
-    module _ (k : ℕ) (e : k ≡ sightRefusal one I s h table false) (ne : k ≢ 0) where
-      pub read-refused : record { reply = Refused k; count = 0 } ≡ reading one I s h table offset (length buffer)
+    module _ (k : ℕ) (e : k ≡ sightRefusal E I s h table false) (ne : k ≢ 0) where
+      pub read-refused : record { reply = Refused k; count = 0 } ≡ reading E I s h table offset (length buffer)
       unfolding reading readCount
-      read-refused = answer-refused (readRefusal one I s h table) (min (length buffer) (file .size - offset)) k (e ∙ sym read-sight) ne
+      read-refused = answer-refused (readRefusal E I s h table) (min (length buffer) (file .size - offset)) k (e ∙ sym read-sight) ne
 
-      no-bytes : readCount one I s h table offset (length buffer) ≡ 0
+      no-bytes : readCount E I s h table offset (length buffer) ≡ 0
       unfolding reading
       no-bytes = ap (λ (c : Count). c .count) (sym read-refused)
 
-      pub read-untouched : buffer ≡ bufferAfter one I s h table offset buffer
+      pub read-untouched : buffer ≡ bufferAfter E I s h table offset buffer
       unfolding bufferAfter
       read-untouched = rw no-bytes
 
-    module _ (k : ℕ) (e : k ≡ sightRefusal one I s h table false) (z : k ≡ 0) (f : Mapped) (is : f ≡ file) (n : ℕ) (l : n ≡ min (length buffer) (f .size - offset)) where
-      pub read-done : record { reply = Done; count = n } ≡ reading one I s h table offset (length buffer)
+    module _ (k : ℕ) (e : k ≡ sightRefusal E I s h table false) (z : k ≡ 0) (f : Mapped) (is : f ≡ file) (n : ℕ)
+        (l : n ≡ min (length buffer) (f .size - offset)) where
+      pub read-done : record { reply = Done; count = n } ≡ reading E I s h table offset (length buffer)
       unfolding reading readCount
       read-done =
-          answer-done (readRefusal one I s h table) (min (length buffer) (file .size - offset)) n (read-sight ∙ sym e ∙ z)
+          answer-done (readRefusal E I s h table) (min (length buffer) (file .size - offset)) n (read-sight ∙ sym e ∙ z)
           (l ∙ ap (λ (g : Mapped). min (length buffer) (g .size - offset)) is)
 
-      some-bytes : n ≡ readCount one I s h table offset (length buffer)
+      some-bytes : n ≡ readCount E I s h table offset (length buffer)
       unfolding reading
       some-bytes = ap (λ (c : Count). c .count) read-done
 
       pub read-filled :
-          (out : List ℕ) → out ≡ sets buffer 0 (listFrom offset n (fileByte one (memory one I) (record { table = f .table; size = 0 }))) → out ≡ bufferAfter one I s h table offset buffer
+          (out : List ℕ) → out ≡ sets buffer 0 (listFrom offset n (fileByte E (memory E I) (record { table = f .table; size = 0 })))
+          → out ≡ bufferAfter E I s h table offset buffer
       unfolding bufferAfter fileByte
       read-filled out o =
-          let g : ℕ → ℕ = fileByte one (memory one I) (record { table = f .table; size = 0 }) in
-          let same : listFrom offset n g ≡ listFrom offset n (fileByte one (memory one I) file) = listFrom-same g (fileByte one (memory one I) file) offset offset n (λ i _. rw is) in
+          let g : ℕ → ℕ = fileByte E (memory E I) (record { table = f .table; size = 0 }) in
+          let same : listFrom offset n g
+          ≡ listFrom offset n (fileByte E (memory E I) file) = listFrom-same g (fileByte E (memory E I) file) offset offset n (λ i _. rw is) in
           rw (← some-bytes, o) (sets-front g buffer offset n (omega arith) ∙ ap (λ (bytes : List ℕ). bytes ++ drop n buffer) same)
 
   -- ---- locating: 22 is its own
@@ -96,49 +99,49 @@ module _ (I : List ℕ) (s : Shared) (h : Head) (table : List ℕ) where
     abbrev unmapped : List Reason
     unmapped = 22 when isZero (getD (file .table) v 0) ∷ []
 
-    locate-settled : (k : ℕ) → k ≡ sightRefusal one I s h table past → k ≢ 0 → k ≡ locateRefusal one I s h table v
+    locate-settled : (k : ℕ) → k ≡ sightRefusal E I s h table past → k ≢ 0 → k ≡ locateRefusal E I s h table v
     unfolding sightRefusal locateRefusal
     locate-settled zero e ne = absurd (ne refl)
-    locate-settled (suc k) e ne = sym (settled-before (sight-reasons I s h table past) unmapped k (sym e))
+    locate-settled (suc k) e ne = sym (settled-before (sight-reasons E I s h table past) unmapped k (sym e))
 
-    pub locate-early : (k : ℕ) → k ≡ sightRefusal one I s h table past → k ≢ 0 → record { reply = Refused k; count = 0 } ≡ locating one I s h table v
+    pub locate-early : (k : ℕ) → k ≡ sightRefusal E I s h table past → k ≢ 0 → record { reply = Refused k; count = 0 } ≡ locating E I s h table v
     unfolding locating located
-    locate-early k e ne = answer-refused (locateRefusal one I s h table v) (getD (file .table) v 0) k (locate-settled k e ne) ne
+    locate-early k e ne = answer-refused (locateRefusal E I s h table v) (getD (file .table) v 0) k (locate-settled k e ne) ne
 
-    module _ (k : ℕ) (e : k ≡ sightRefusal one I s h table past) (z : k ≡ 0) where
+    module _ (k : ℕ) (e : k ≡ sightRefusal E I s h table past) (z : k ≡ 0) where
       pub locate-inside : v < 256
-      locate-inside = leb-false 256 v (sight-inside I s h table past (sym e ∙ z))
+      locate-inside = leb-false 256 v (sight-inside E I s h table past (sym e ∙ z))
 
-      locate-late : locateRefusal one I s h table v ≡ first unmapped
+      locate-late : locateRefusal E I s h table v ≡ first unmapped
       unfolding locateRefusal
-      locate-late = failed-before (sight-reasons I s h table past) unmapped (sight-passed I s h table past (sym e ∙ z))
+      locate-late = failed-before (sight-reasons E I s h table past) unmapped (sight-passed E I s h table past (sym e ∙ z))
 
       module _ (f : Mapped) (is : f ≡ file) (b : ℕ) (at : b ≡ getD (f .table) v 0) where
         index-is : b ≡ getD (file .table) v 0
         index-is = at ∙ ap (λ (g : Mapped). getD (g .table) v 0) is
 
-        pub locate-unmapped : b ≡ 0 → record { reply = Refused 22; count = 0 } ≡ locating one I s h table v
+        pub locate-unmapped : b ≡ 0 → record { reply = Refused 22; count = 0 } ≡ locating E I s h table v
         unfolding locating located
         locate-unmapped n =
-            answer-refused (locateRefusal one I s h table v) (getD (file .table) v 0) 22
+            answer-refused (locateRefusal E I s h table v) (getD (file .table) v 0) 22
             (sym (locate-late ∙ first-settled 22 (isZero (getD (file .table) v 0)) [] (is-zero (getD (file .table) v 0) (sym index-is ∙ n)))) (omega arith)
 
-        pub locate-found : b ≢ 0 → record { reply = Done; count = b } ≡ locating one I s h table v
+        pub locate-found : b ≢ 0 → record { reply = Done; count = b } ≡ locating E I s h table v
         unfolding locating located
         locate-found n =
-            answer-done (locateRefusal one I s h table v) (getD (file .table) v 0) b
+            answer-done (locateRefusal E I s h table v) (getD (file .table) v 0) b
             (locate-late ∙ first-goes-on 22 (isZero (getD (file .table) v 0)) [] (not-zero (getD (file .table) v 0) (λ m. n (index-is ∙ m)))) index-is
 
     -- ---- viewing: the located block, which is 0 exactly when locating refuses
 
-    locate-some : locateRefusal one I s h table v ≡ 0 → getD (file .table) v 0 ≢ 0
+    locate-some : locateRefusal E I s h table v ≡ 0 → getD (file .table) v 0 ≢ 0
     unfolding locateRefusal
-    locate-some r = nonzero (getD (file .table) v 0) (passes (sight-reasons I s h table past ++ unmapped) refl r 5)
+    locate-some r = nonzero (getD (file .table) v 0) (passes (sight-reasons E I s h table past ++ unmapped) refl r 5)
 
-    located-is : located one I s h table v ≡ answer (locateRefusal one I s h table v) (getD (file .table) v 0) .count
+    located-is : located E I s h table v ≡ answer (locateRefusal E I s h table v) (getD (file .table) v 0) .count
     unfolding located
     located-is = refl
 
-    pub view-part : partOf (memory one I) (located one I s h table v) ≡ viewed one I s h table v
+    pub view-part : partOf (memory E I) (located E I s h table v) ≡ viewed E I s h table v
     unfolding viewed
-    view-part = view-answer (memory one I) (locateRefusal one I s h table v) (getD (file .table) v 0) (located one I s h table v) located-is locate-some
+    view-part = view-answer (memory E I) (locateRefusal E I s h table v) (getD (file .table) v 0) (located E I s h table v) located-is locate-some

@@ -5,7 +5,7 @@ use mathlib.Core.Logic.{_≢_}
 use mathlib.Core.Bool.{Bool, true, false}
 use mathlib.Core.List.{List, [], _∷_, _++_}
 use lib.ListN.{getD}
-use Rattle.words.specs.Edition.{one}
+use Rattle.words.specs.Edition.{Edition}
 use Rattle.words.specs.Logic.{Reason, first, _when_}
 use Rattle.words.specs.Memory.{memory}
 use Rattle.words.proofs.Tests.{no-reason, passes}
@@ -28,38 +28,38 @@ pub unseen-so : {P : Type 0} (r n R : ℕ) → r ≡ n → n ≢ 0 → n ≡ R �
 unseen-so r n R e ne f = (e ∙ f, λ z. absurd (ne (sym e ∙ z)))
 
 -- what the walk saw
-pub look-broken : (seen : Seen) (blocks x y : ℕ) (w : Walk) → seen ≡ seenBy one blocks x y w → seen .broken ≡ broken one blocks w
+pub look-broken : (E : Edition) (seen : Seen) (blocks x y : ℕ) (w : Walk) → seen ≡ seenBy E blocks x y w → seen .broken ≡ broken E blocks w
 unfolding seenBy
-look-broken seen blocks x y w e = ap (λ (s : Seen). s .broken) e
+look-broken E seen blocks x y w e = ap (λ (s : Seen). s .broken) e
 
-module _ (I : List ℕ) (s : Shared) (h : Head) (table : List ℕ) (past : Bool) where
+module _ (E : Edition) (I : List ℕ) (s : Shared) (h : Head) (table : List ℕ) (past : Bool) where
   abbrev aheadBroken : Bool
-  aheadBroken = broken one (s .blocks) (ahead one (memory one I) (s .blocks) (h .place))
+  aheadBroken = broken E (s .blocks) (ahead E (memory E I) (s .blocks) (h .place))
 
   abbrev pub sight-reasons : List Reason
-  sight-reasons = shared-reasons I s h table ++ 17 when past ∷ 18 when aheadBroken ∷ []
+  sight-reasons = shared-reasons E I s h table ++ 17 when past ∷ 18 when aheadBroken ∷ []
 
-  pub sight-unfit : (n : ℕ) → n ≡ unfit one I s h table → n ≢ 0 → n ≡ sightRefusal one I s h table past
+  pub sight-unfit : (n : ℕ) → n ≡ unfit E I s h table → n ≢ 0 → n ≡ sightRefusal E I s h table past
   unfolding sightRefusal
   sight-unfit zero e ne = absurd (ne refl)
-  sight-unfit (suc n) e ne = sym (unfit-before I s h table (17 when past ∷ 18 when aheadBroken ∷ []) n (sym e))
+  sight-unfit (suc n) e ne = sym (unfit-before E I s h table (17 when past ∷ 18 when aheadBroken ∷ []) n (sym e))
 
-  module _ (fit : unfit one I s h table ≡ 0) where
-    pub sight-past : past ≡ true → 17 ≡ sightRefusal one I s h table past
+  module _ (fit : unfit E I s h table ≡ 0) where
+    pub sight-past : past ≡ true → 17 ≡ sightRefusal E I s h table past
     unfolding sightRefusal
-    sight-past p = sym (fit-goes-on I s h table fit (17 when past ∷ 18 when aheadBroken ∷ []) ∙ first-settled 17 past (18 when aheadBroken ∷ []) p)
+    sight-past p = sym (fit-goes-on E I s h table fit (17 when past ∷ 18 when aheadBroken ∷ []) ∙ first-settled 17 past (18 when aheadBroken ∷ []) p)
 
-    sight-late : past ≡ false → sightRefusal one I s h table past ≡ first (18 when aheadBroken ∷ [])
+    sight-late : past ≡ false → sightRefusal E I s h table past ≡ first (18 when aheadBroken ∷ [])
     unfolding sightRefusal
-    sight-late p = fit-goes-on I s h table fit (17 when past ∷ 18 when aheadBroken ∷ []) ∙ first-goes-on 17 past (18 when aheadBroken ∷ []) p
+    sight-late p = fit-goes-on E I s h table fit (17 when past ∷ 18 when aheadBroken ∷ []) ∙ first-goes-on 17 past (18 when aheadBroken ∷ []) p
 
-    pub sight-broken : past ≡ false → aheadBroken ≡ true → 18 ≡ sightRefusal one I s h table past
+    pub sight-broken : past ≡ false → aheadBroken ≡ true → 18 ≡ sightRefusal E I s h table past
     sight-broken p b = sym (sight-late p ∙ first-settled 18 aheadBroken [] b)
 
-    pub sight-clear : past ≡ false → aheadBroken ≡ false → 0 ≡ sightRefusal one I s h table past
+    pub sight-clear : past ≡ false → aheadBroken ≡ false → 0 ≡ sightRefusal E I s h table past
     sight-clear p b = sym (sight-late p ∙ first-goes-on 18 aheadBroken [] b)
 
-  module _ (clear : sightRefusal one I s h table past ≡ 0) where
+  module _ (clear : sightRefusal E I s h table past ≡ 0) where
     pub sight-passed : (i : ℕ) → getD sight-reasons i no-reason .holds ≡ false
     unfolding sightRefusal
     sight-passed = passes sight-reasons refl clear

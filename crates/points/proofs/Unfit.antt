@@ -7,7 +7,7 @@ use mathlib.Core.Bool.{Bool, true, false, not}
 use mathlib.Core.List.{List, [], _∷_, _++_}
 use lib.ListN.{getD}
 use borrow.Author.Tests.{not-false}
-use Rattle.words.specs.Edition.{one}
+use Rattle.words.specs.Edition.{Edition}
 use Rattle.words.specs.Logic.{Reason, first, _when_}
 use Rattle.words.proofs.Choice.{choose-true, choose-false}
 use Rattle.words.proofs.Tests.{no-reason, passes}
@@ -41,24 +41,24 @@ refused-so (suc n) done refused h = refl
 
 -- ---- 10, 11 and 14
 
-module _ (words : List ℕ) (s : Shared) (h : Head) (table : List ℕ) where
+module _ (E : Edition) (words : List ℕ) (s : Shared) (h : Head) (table : List ℕ) where
   abbrev pub shared-reasons : List Reason
-  shared-reasons = 10 when badShared one words s ∷ 11 when not (fits one (s .blocks) h table) ∷ 14 when not (isJoined s (h .number)) ∷ []
+  shared-reasons = 10 when badShared E words s ∷ 11 when not (fits E (s .blocks) h table) ∷ 14 when not (isJoined s (h .number)) ∷ []
 
-  pub unfit-before : (more : List Reason) (k : ℕ) → unfit one words s h table ≡ suc k → first (shared-reasons ++ more) ≡ suc k
+  pub unfit-before : (more : List Reason) (k : ℕ) → unfit E words s h table ≡ suc k → first (shared-reasons ++ more) ≡ suc k
   unfolding unfit
   unfit-before more k e = settled-before shared-reasons more k e
 
-  module _ (e : unfit one words s h table ≡ 0) where
+  module _ (e : unfit E words s h table ≡ 0) where
     passed : (i : ℕ) → getD shared-reasons i no-reason .holds ≡ false
     unfolding unfit
     passed = passes shared-reasons refl e
 
-    pub fit-shared : badShared one words s ≡ false
+    pub fit-shared : badShared E words s ≡ false
     fit-shared = passed 0
 
-    pub fit-record : fits one (s .blocks) h table ≡ true
-    fit-record = not-false (fits one (s .blocks) h table) (passed 1)
+    pub fit-record : fits E (s .blocks) h table ≡ true
+    fit-record = not-false (fits E (s .blocks) h table) (passed 1)
 
     pub fit-joined : isJoined s (h .number) ≡ true
     fit-joined = not-false (isJoined s (h .number)) (passed 2)

@@ -1,9 +1,9 @@
 -- A fact of numbers for every edition: shown at the four block sizes, each a numeral. `sized (λ W U. ..) (omega arith) E` is the whole proof:
 -- one `omega` answers all four. W stands for the words of a block, U for the bits of the used bytes.
 use mathlib.Core.Path.{_≡_}
-use Prim.Native.Nat.{ℕ, _+_, _*_, _/_, _≤_, _<_}
+use Prim.Native.Nat.{ℕ, _+_, _*_, _/_, _%_, _≤_, _<_}
 use native.Mathlib.Omega.{arith}
-use Rattle.words.specs.Edition.{Edition, Shape, words64, words128, words256, words512}
+use Rattle.words.specs.Edition.{Edition, blockBytes, Shape, words64, words128, words256, words512}
 
 pub record Four (P : ℕ → ℕ → Type 0) : Type 0 where
   pub at64 : P 64 10
@@ -42,3 +42,29 @@ module _ (E : Edition) (a b : ℕ) where
 -- the place of a word gives its block and its word
 pub same-place : (E : Edition) (b i c j : ℕ) → i < E .blockWords → j < E .blockWords → E .blockWords * b + i ≡ E .blockWords * c + j → (b ≡ c) × (i ≡ j)
 same-place E b i c j = sized (λ W U. i < W → j < W → W * b + i ≡ W * c + j → (b ≡ c) × (i ≡ j)) (omega arith) E
+
+-- ---- quotients and remainders by the size of a block
+
+module _ (E : Edition) where
+  -- a word that is counted from the first of block b on: it lies in this block, or in a later one
+  pub in-block : (b i : ℕ) → i < E .blockWords → (b + i / E .blockWords ≡ b) × (i % E .blockWords ≡ i)
+  in-block b i = sized (λ W U. i < W → (b + i / W ≡ b) × (i % W ≡ i)) (omega arith) E
+
+  pub from-block : (b i : ℕ) → b * E .blockWords + i ≡ (b + i / E .blockWords) * E .blockWords + i % E .blockWords
+  from-block b i = sized (λ W U. b * W + i ≡ (b + i / W) * W + i % W) (omega arith) E
+
+  -- a byte of the file: the first of its block, and its place there
+  pub split-byte : (x : ℕ) → (blockBytes E * (x / blockBytes E) + x % blockBytes E ≡ x) × (x % blockBytes E < blockBytes E)
+  split-byte x = sized (λ W U. (8 * W * (x / (8 * W)) + x % (8 * W) ≡ x) × (x % (8 * W) < 8 * W)) (omega arith) E
+
+  -- k bytes on, still in its block
+  pub byte-on :
+      (x k : ℕ) → x % blockBytes E + k < blockBytes E → ((x + k) / blockBytes E ≡ x / blockBytes E) × ((x + k) % blockBytes E ≡ x % blockBytes E + k)
+  byte-on x k = sized (λ W U. x % (8 * W) + k < 8 * W → ((x + k) / (8 * W) ≡ x / (8 * W)) × ((x + k) % (8 * W) ≡ x % (8 * W) + k)) (omega arith) E
+
+  -- byte j of word k from block v on
+  pub word-byte :
+      (v k j : ℕ) → j < 8
+      → ((v * blockBytes E + 8 * k + j) / blockBytes E ≡ v + k / E .blockWords) × ((v * blockBytes E + 8 * k + j) % blockBytes E ≡ 8 * (k % E .blockWords) + j)
+  word-byte v k j =
+      sized (λ W U. j < 8 → ((v * (8 * W) + 8 * k + j) / (8 * W) ≡ v + k / W) × ((v * (8 * W) + 8 * k + j) % (8 * W) ≡ 8 * (k % W) + j)) (omega arith) E

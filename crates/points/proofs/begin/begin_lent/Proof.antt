@@ -3,16 +3,20 @@
 use native.Mathlib.Omega.{arith}
 use mathlib.Core.Path.{sym, _∙_}
 use borrow.Author.Needs.{needs}
+use Rattle.words.specs.Edition.{one}
 use Rattle.points.specs.Plan.{pointOf}
 use Rattle.points.proofs.Begins.{Ready, ready, begin-refused, begin-done}
 use Rattle.points.proofs.begin.begin_lent.Statement.{statement}
 use Rattle.points.proofs.begin.begin_lent.Tie as tie
 
-passed : (c : tie.Else1) → let a = c .before .before .before .before .before .before .args in Ready (a .image .now) (a .shared) (pointOf (a .head) (a .table .now) (a .text .now)) (a .offset) (a .bytes .now)
+passed :
+    (c : tie.Else1) → let a = c .before .before .before .before .before .before .args in
+    Ready one (a .image .now) (a .shared) (pointOf (a .head) (a .table .now) (a .text .now)) (a .offset) (a .bytes .now)
 passed c =
     let a = c .before .before .before .before .before .before .args in
     let q = c .before .before .settle in
-    ready (a .image .now) (a .shared) (pointOf (a .head) (a .table .now) (a .text .now)) (a .offset) (a .bytes .now) (sym (q .ensures .refusal) ∙ c .if1 .left)
+    ready one (a .image .now) (a .shared) (pointOf (a .head) (a .table .now) (a .text .now)) (a .offset) (a .bytes .now)
+    (sym (q .ensures .refusal) ∙ c .if1 .left)
 
 settle-requires : tie.Need-settle-requires
 settle-requires c κs = search needs
@@ -21,7 +25,8 @@ returns : tie.Need-returns
 returns c =
     let a = c .before .before .before .before .before .before .args in
     let q = c .before .before .settle in
-    begin-refused (a .image .now) (a .shared) (pointOf (a .head) (a .table .now) (a .text .now)) (a .offset) (a .bytes .now) (q .result .reason) (q .ensures .refusal) (c .if1 .taken)
+    begin-refused one (a .image .now) (a .shared) (pointOf (a .head) (a .table .now) (a .text .now)) (a .offset) (a .bytes .now) (q .result .reason)
+    (q .ensures .refusal) (c .if1 .taken)
 
 catch-up-requires : tie.Need-catch-up-requires
 catch-up-requires c κs = search needs
@@ -50,7 +55,8 @@ returns-2 c =
     let q = c .before .before .before .before .before .before .before .before .settle in
     let z = c .before .before .before .before .before .before .if1 .left in
     let r = passed (c .before .before .before .before .before .before) in
-    begin-done (a .image .now) (a .shared) (pointOf (a .head) (a .table .now) (a .text .now)) (a .offset) (a .bytes .now) r _ _ _ _ _ _ _ _ (q .ensures .tail z) (q .ensures .found z) (c .before .before .before .before .catch-up .ensures (r .few) (r .sound))
+    begin-done one (a .image .now) (a .shared) (pointOf (a .head) (a .table .now) (a .text .now)) (a .offset) (a .bytes .now) r _ _ _ _ _ _ _ _
+    (q .ensures .tail z) (q .ensures .found z) (c .before .before .before .before .catch-up .ensures (r .few) (r .sound))
     (c .before .before .before .text-of .ensures) (c .begun .ensures) (c .before .before .span .ensures) (c .before .take .ensures)
 
 pub begin-lent-spec : {M : Type 1} → statement M

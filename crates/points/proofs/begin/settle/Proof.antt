@@ -35,8 +35,12 @@ not-18 :
 unfolding seenBy
 not-18 c = ap (λ (k : Seen). k .broken) (sym (c .before .look .ensures)) ∙ c .if5 .left
 
-text-at : (c : tie.Else5) → let a = c .before .before .before .before .before .before .before .before .before .before .before .before .args in TextFits (a .offset) (a .size)
-text-at c = let a = c .before .before .before .before .before .before .before .before .before .before .before .before .args in text-facts (a .offset) (a .size) (not-16 (c .before .before .before .before)) (not-17 (c .before .before))
+text-at :
+    (c : tie.Else5) → let a = c .before .before .before .before .before .before .before .before .before .before .before .before .args in
+    TextFits one (a .offset) (a .size)
+text-at c =
+    let a = c .before .before .before .before .before .before .before .before .before .before .before .before .args in
+    text-facts one (a .offset) (a .size) (not-16 (c .before .before .before .before)) (not-17 (c .before .before))
 
 unfit-requires : tie.Need-unfit-requires
 unfit-requires c κs = search needs
@@ -48,7 +52,8 @@ returns : tie.Need-returns
 returns c =
     let a = c .before .before .before .before .args in
     let u = c .before .before .unfit in
-    start-refused (a .image .now) (a .shared) (a .head) (a .table .now) (a .offset) (a .size) _ (u .result) _ _ (c .refused .ensures) (c .before .if1 .taken) (begin-unfit (a .image .now) (a .shared) (a .head) (a .table .now) (a .offset) (a .size) (u .result) (u .ensures) (c .before .if1 .taken))
+    start-refused (a .image .now) (a .shared) (a .head) (a .table .now) (a .offset) (a .size) _ (u .result) _ _ (c .refused .ensures) (c .before .if1 .taken)
+    (begin-unfit one (a .image .now) (a .shared) (a .head) (a .table .now) (a .offset) (a .size) (u .result) (u .ensures) (c .before .if1 .taken))
 
 is-idle-requires : tie.Need-is-idle-requires
 is-idle-requires c κs = search needs
@@ -60,7 +65,8 @@ returns-2 : tie.Need-returns-2
 returns-2 c =
     let a = c .before .before .before .before .before .before .before .args in
     start-refused (a .image .now) (a .shared) (a .head) (a .table .now) (a .offset) (a .size) _ 15 _ _ (c .refused2 .ensures) (λ z. omega arith)
-    (begin-15 (a .image .now) (a .shared) (a .head) (a .table .now) (a .offset) (a .size) (not-14 (c .before .before .before .before)) (sym (c .before .before .is-idle .ensures) ∙ not-true _ (c .before .if2 .taken)))
+    (begin-15 one (a .image .now) (a .shared) (a .head) (a .table .now) (a .offset) (a .size) (not-14 (c .before .before .before .before))
+    (sym (c .before .before .is-idle .ensures) ∙ not-true _ (c .before .if2 .taken)))
 
 bad-text-requires : tie.Need-bad-text-requires
 bad-text-requires c κs = search needs
@@ -73,7 +79,7 @@ returns-3 c =
     let a = c .before .before .before .before .before .before .before .before .before .args in
     let e = c .before .before .before in
     start-refused (a .image .now) (a .shared) (a .head) (a .table .now) (a .offset) (a .size) _ 16 _ _ (c .refused3 .ensures) (λ z. omega arith)
-    (begin-16 (a .image .now) (a .shared) (a .head) (a .table .now) (a .offset) (a .size)
+    (begin-16 one (a .image .now) (a .shared) (a .head) (a .table .now) (a .offset) (a .size)
     (not-14 (e .before .before .before)) (not-15 e)
     (sym (c .before .before .bad-text .ensures) ∙ c .before .if3 .taken))
 
@@ -88,7 +94,7 @@ returns-4 c =
     let a = c .before .before .before .before .before .before .before .before .before .before .before .args in
     let e = c .before .before .before in
     start-refused (a .image .now) (a .shared) (a .head) (a .table .now) (a .offset) (a .size) _ 17 _ _ (c .refused4 .ensures) (λ z. omega arith)
-    (begin-17 (a .image .now) (a .shared) (a .head) (a .table .now) (a .offset) (a .size)
+    (begin-17 one (a .image .now) (a .shared) (a .head) (a .table .now) (a .offset) (a .size)
     (not-14 (e .before .before .before .before .before)) (not-15 (e .before .before)) (not-16 e)
     (sym (c .before .before .past-end .ensures) ∙ c .before .if4 .taken))
 
@@ -104,7 +110,7 @@ returns-5 c =
     let a = c .before .before .before .before .before .before .before .before .before .before .before .before .before .args in
     let e = c .before .before .before in
     start-refused (a .image .now) (a .shared) (a .head) (a .table .now) (a .offset) (a .size) _ 18 _ _ (c .refused5 .ensures) (λ z. omega arith)
-    (begin-18 (a .image .now) (a .shared) (a .head) (a .table .now) (a .offset) (a .size)
+    (begin-18 one (a .image .now) (a .shared) (a .head) (a .table .now) (a .offset) (a .size)
     (not-14 (e .before .before .before .before .before .before .before)) (not-15 (e .before .before .before .before)) (not-16 (e .before .before)) (not-17 e)
     (ap (λ (k : Seen). k .broken) (sym (c .before .before .look .ensures)) ∙ c .before .if5 .taken))
 
@@ -129,7 +135,7 @@ returns-6 c =
     let e = c .before .before .before .before in
     let run = c .before .before .search .ensures ∙ ap (found-by (a .shared)) (c .before .before .before .span .ensures) in
     start-refused (a .image .now) (a .shared) (a .head) (a .table .now) (a .offset) (a .size) _ 19 _ _ (c .refused6 .ensures) (λ z. omega arith)
-    (begin-19 (a .image .now) (a .shared) (a .head) (a .table .now) (a .offset) (a .size)
+    (begin-19 one (a .image .now) (a .shared) (a .head) (a .table .now) (a .offset) (a .size)
     (not-14 (e .before .before .before .before .before .before .before .before .before)) (not-15 (e .before .before .before .before .before .before)) (not-16 (e .before .before .before .before)) (not-17 (e .before .before)) (not-18 e)
     (sym run ∙ c .before .if6 .taken))
 
@@ -141,7 +147,7 @@ returns-7 c =
     let run = c .before .before .search .ensures ∙ ap (found-by (a .shared)) (c .before .before .before .span .ensures) in
     record {
       refusal =
-          begin-0 (a .image .now) (a .shared) (a .head) (a .table .now) (a .offset) (a .size)
+          begin-0 one (a .image .now) (a .shared) (a .head) (a .table .now) (a .offset) (a .size)
           (not-14 (e .before .before .before .before .before .before .before .before .before)) (not-15 (e .before .before .before .before .before .before)) (not-16 (e .before .before .before .before)) (not-17 (e .before .before)) (not-18 e)
           (λ z. c .before .if6 .left (run ∙ z));
       tail = λ z. ap (λ (k : Seen). k .place) (e .before .look .ensures);

@@ -1,5 +1,6 @@
 -- `points::commit::at_end`: 20, 21 or a block to zero, in the order of the reasons.
 use mathlib.Core.Path.{sym, _∙_}
+use Rattle.words.specs.Edition.{one}
 use Rattle.points.specs.Plan.{pointOf, sharedOf}
 use Rattle.points.proofs.Planned.{settles-as, end-full, end-none, end-free}
 use borrow.Author.Needs.{needs}
@@ -11,7 +12,8 @@ give-up-requires c κs = search needs
 
 returns : tie.Need-returns
 returns c m table text = let a = c .before .before .before .args in
-    settles-as (c .give-up .ensures m (sharedOf (a .numbers) (a .taken .now)) table text) (end-full m (sharedOf (a .numbers) (a .taken .now)) (pointOf (a .head) table text) (c .before .if1 .taken))
+    settles-as (c .give-up .ensures m (sharedOf (a .numbers) (a .taken .now)) table text)
+    (end-full one m (sharedOf (a .numbers) (a .taken .now)) (pointOf (a .head) table text) (c .before .if1 .taken))
 
 search-lent-requires : tie.Need-search-lent-requires
 search-lent-requires c κs = search needs
@@ -24,7 +26,8 @@ returns-2 c m table text =
     let if1 = c .before .before .before .if1 in
     let search = c .before .before .search-lent in
     let a = c .before .before .before .before .before .args in
-    settles-as (c .give-up2 .ensures m (sharedOf (a .numbers) (a .taken .now)) table text) (end-none m (sharedOf (a .numbers) (a .taken .now)) (pointOf (a .head) table text) (if1 .left) (sym (search .ensures) ∙ c .before .if2 .taken))
+    settles-as (c .give-up2 .ensures m (sharedOf (a .numbers) (a .taken .now)) table text)
+    (end-none one m (sharedOf (a .numbers) (a .taken .now)) (pointOf (a .head) table text) (if1 .left) (sym (search .ensures) ∙ c .before .if2 .taken))
 
 extend-requires : tie.Need-extend-requires
 extend-requires c κs = search needs
@@ -34,7 +37,8 @@ returns-3 c m table text =
     let if1 = c .before .before .before .if1 in
     let search = c .before .before .search-lent in
     let a = c .before .before .before .before .before .args in
-    settles-as (c .extend .ensures m (sharedOf (a .numbers) (a .taken .now)) table text (search .ensures)) (end-free m (sharedOf (a .numbers) (a .taken .now)) (pointOf (a .head) table text) (if1 .left) (λ e. c .before .if2 .left (search .ensures ∙ e)))
+    settles-as (c .extend .ensures m (sharedOf (a .numbers) (a .taken .now)) table text (search .ensures))
+    (end-free one m (sharedOf (a .numbers) (a .taken .now)) (pointOf (a .head) table text) (if1 .left) (λ e. c .before .if2 .left (search .ensures ∙ e)))
 
 pub at-end-spec : {M : Type 1} → statement M
 at-end-spec =

@@ -31,7 +31,7 @@ commit-requires c κs =
     let pre = c .before .before .before .before .before .before .before .pre in
     let if1 = c .before .before .if1 in
     let a = c .before .before .before .before .before .before .before .args in
-    let f = ready (a .image .now) (sharedOf (a .numbers) (a .taken .now)) (a .head) (a .table .now) pre in
+    let f = ready one (a .image .now) (sharedOf (a .numbers) (a .taken .now)) (a .head) (a .table .now) pre in
     let r = f .run in
     (r .text .some-text, r .text .few-text, r .text .ends-inside, r .run-some, r .run-inside, f .shared .few-blocks, joined-small (a .numbers .joined) (a .head .number) (omega arith) (f .joined), if1 .taken)
 
@@ -42,13 +42,15 @@ returns c text =
     let word = c .before .before .word in
     let a = c .before .before .before .before .before .before .before .before .args in
     let m = memory one (a .image .now) in
-    settles-as (c .commit .ensures m (a .taken .now) (a .table .now) text) (slot-empty m (sharedOf (a .numbers) (a .taken .now)) (pointOf (a .head) (a .table .now) text) (if1 .taken) (sym (word .ensures ∙ ap (λ (part : List ℕ). getD part (a .head .place .slot) 0) (block .ensures)) ∙ c .before .if2 .taken))
+    settles-as (c .commit .ensures m (a .taken .now) (a .table .now) text)
+    (slot-empty one m (sharedOf (a .numbers) (a .taken .now)) (pointOf (a .head) (a .table .now) text) (if1 .taken)
+    (sym (word .ensures ∙ ap (λ (part : List ℕ). getD part (a .head .place .slot) 0) (block .ensures)) ∙ c .before .if2 .taken))
 
 move-on-requires : tie.Need-move-on-requires
 move-on-requires c κs =
     let pre = c .before .before .before .before .before .before .before .pre in
     let a = c .before .before .before .before .before .before .before .args in
-    let f = ready (a .image .now) (sharedOf (a .numbers) (a .taken .now)) (a .head) (a .table .now) pre in
+    let f = ready one (a .image .now) (sharedOf (a .numbers) (a .taken .now)) (a .head) (a .table .now) pre in
     f .shared .few-blocks
 
 returns-2 : tie.Need-returns-2
@@ -58,7 +60,9 @@ returns-2 c text =
     let word = c .before .before .word in
     let a = c .before .before .before .before .before .before .before .before .args in
     let m = memory one (a .image .now) in
-    settles-as (c .move-on .ensures (a .taken .now) (a .table .now) text) (slot-taken m (sharedOf (a .numbers) (a .taken .now)) (pointOf (a .head) (a .table .now) text) (if1 .taken) (λ e. c .before .if2 .left (word .ensures ∙ ap (λ (part : List ℕ). getD part (a .head .place .slot) 0) (block .ensures) ∙ e)))
+    settles-as (c .move-on .ensures (a .taken .now) (a .table .now) text)
+    (slot-taken one m (sharedOf (a .numbers) (a .taken .now)) (pointOf (a .head) (a .table .now) text) (if1 .taken)
+    (λ e. c .before .if2 .left (word .ensures ∙ ap (λ (part : List ℕ). getD part (a .head .place .slot) 0) (block .ensures) ∙ e)))
 
 word-requires-2 : tie.Need-word-requires-2
 word-requires-2 c κs = search needs
@@ -74,14 +78,16 @@ returns-3 c text =
     let word2 = c .before .before .word2 in
     let a = c .before .before .before .before .before .before .before .before .args in
     let m = memory one (a .image .now) in
-    let f = ready (a .image .now) (sharedOf (a .numbers) (a .taken .now)) (a .head) (a .table .now) pre in
-    settles-as (c .at-end .ensures m (a .table .now) text) (chain-ends m (sharedOf (a .numbers) (a .taken .now)) (pointOf (a .head) (a .table .now) text) (omega (arith, if1 .left, f .place .slot-high)) (sym (word2 .ensures ∙ ap (λ (part : List ℕ). getD part 0 0) (block .ensures)) ∙ c .before .if3 .taken))
+    let f = ready one (a .image .now) (sharedOf (a .numbers) (a .taken .now)) (a .head) (a .table .now) pre in
+    settles-as (c .at-end .ensures m (a .table .now) text)
+    (chain-ends one m (sharedOf (a .numbers) (a .taken .now)) (pointOf (a .head) (a .table .now) text) (omega (arith, if1 .left, f .place .slot-high))
+    (sym (word2 .ensures ∙ ap (λ (part : List ℕ). getD part 0 0) (block .ensures)) ∙ c .before .if3 .taken))
 
 move-on-requires-2 : tie.Need-move-on-requires-2
 move-on-requires-2 c κs =
     let pre = c .before .before .before .before .before .before .before .pre in
     let a = c .before .before .before .before .before .before .before .args in
-    let f = ready (a .image .now) (sharedOf (a .numbers) (a .taken .now)) (a .head) (a .table .now) pre in
+    let f = ready one (a .image .now) (sharedOf (a .numbers) (a .taken .now)) (a .head) (a .table .now) pre in
     f .shared .few-blocks
 
 returns-4 : tie.Need-returns-4
@@ -92,8 +98,10 @@ returns-4 c text =
     let word2 = c .before .before .word2 in
     let a = c .before .before .before .before .before .before .before .before .args in
     let m = memory one (a .image .now) in
-    let f = ready (a .image .now) (sharedOf (a .numbers) (a .taken .now)) (a .head) (a .table .now) pre in
-    settles-as (c .move-on2 .ensures (a .taken .now) (a .table .now) text) (chain-goes-on m (sharedOf (a .numbers) (a .taken .now)) (pointOf (a .head) (a .table .now) text) (omega (arith, if1 .left, f .place .slot-high)) (λ e. c .before .if3 .left (word2 .ensures ∙ ap (λ (part : List ℕ). getD part 0 0) (block .ensures) ∙ e)))
+    let f = ready one (a .image .now) (sharedOf (a .numbers) (a .taken .now)) (a .head) (a .table .now) pre in
+    settles-as (c .move-on2 .ensures (a .taken .now) (a .table .now) text)
+    (chain-goes-on one m (sharedOf (a .numbers) (a .taken .now)) (pointOf (a .head) (a .table .now) text) (omega (arith, if1 .left, f .place .slot-high))
+    (λ e. c .before .if3 .left (word2 .ensures ∙ ap (λ (part : List ℕ). getD part 0 0) (block .ensures) ∙ e)))
 
 pub committing-spec : {M : Type 1} → statement M
 committing-spec =

@@ -51,7 +51,9 @@ returns c =
     let w = args .head .write in
     let p = c .before .before .before .before .before .before .before .pre in
     let n = span one (w .offset) (w .size) in
-    c .entry .ensures ∙ rw (span-call .ensures) (entry-kept (w .offset / 512) (w .run) n (w .offset + w .size - 512 * (w .offset / 512 + n - 1)) (args .head .number) (used-few (w .offset) (w .size) (p .0)) (p .4))
+    c .entry .ensures ∙ rw (span-call .ensures)
+    (entry-kept one (w .offset / 512) (w .run) n (w .offset + w .size - 512 * (w .offset / 512 + n - 1)) (args .head .number)
+    (used-few one (w .offset) (w .size) (p .0)) (p .4))
 
 pub entry-for-spec : {M : Type 1} → statement M
 entry-for-spec =

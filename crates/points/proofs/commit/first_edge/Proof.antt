@@ -1,4 +1,5 @@
 -- `points::commit::first_edge`: the definition's two orders, counted from the run's start.
+use Rattle.words.specs.Edition.{one}
 use Rattle.points.proofs.Commits.{first-edge}
 use borrow.Author.Needs.{needs}
 use Rattle.points.proofs.commit.first_edge.Statement.{statement}
@@ -16,7 +17,7 @@ add-result c = search needs
 returns : tie.Need-returns
 returns c =
     let args = c .before .before .args in
-    first-edge (args .write)
+    first-edge one (args .write)
 
 pub first-edge-spec : {M : Type 1} → statement M
 first-edge-spec = tie.close (tie.spec cast-lead cast-result add-result returns)

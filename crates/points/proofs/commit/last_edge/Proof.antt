@@ -1,4 +1,5 @@
 -- `points::commit::last_edge`: the definition's order, counted from the run's start.
+use Rattle.words.specs.Edition.{one}
 use Rattle.points.proofs.Commits.{last-edge}
 use borrow.Author.Needs.{needs}
 use Rattle.points.proofs.commit.last_edge.Statement.{statement}
@@ -25,7 +26,7 @@ mul-result c = search needs
 returns : tie.Need-returns
 returns c =
     let args = c .before .before .before .args in
-    last-edge (args .write) (c .before .span .result) (c .before .span .ensures)
+    last-edge one (args .write) (c .before .span .result) (c .before .span .ensures)
 
 pub last-edge-spec : {M : Type 1} → statement M
 last-edge-spec =

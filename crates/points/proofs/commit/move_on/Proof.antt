@@ -30,8 +30,9 @@ returns c taken table text =
     let a = c .before .before .before .before .before .before .before .args in
     let w = c .before .before .look in
     let m = memory one (a .image .now) in
-    let e : w .result ≡ seenNow m (sharedOf (a .numbers) taken) (a .head) table text = rw (span .ensures) at (w .ensures) in
-    stop-settles m (sharedOf (a .numbers) taken) (a .head) table text (c .refused .result) (sym (ap (λ (s : Seen). s .broken) e) ∙ c .before .if1 .taken) (c .refused .ensures m (sharedOf (a .numbers) taken) table text)
+    let e : w .result ≡ seenNow one m (sharedOf (a .numbers) taken) (a .head) table text = rw (span .ensures) at (w .ensures) in
+    stop-settles one m (sharedOf (a .numbers) taken) (a .head) table text (c .refused .result) (sym (ap (λ (s : Seen). s .broken) e) ∙ c .before .if1 .taken)
+    (c .refused .ensures m (sharedOf (a .numbers) taken) table text)
 
 first-edge-requires : tie.Need-first-edge-requires
 first-edge-requires c κs = search needs
@@ -56,9 +57,9 @@ returns-2 c taken table text =
     let a = c .before .before .before .before .before .before .before .before .before .before .before .before .before .args in
     let w = c .before .before .before .before .before .before .before .before .look in
     let m = memory one (a .image .now) in
-    let e : w .result ≡ seenNow m (sharedOf (a .numbers) taken) (a .head) table text = rw (span .ensures) at (w .ensures) in
+    let e : w .result ≡ seenNow one m (sharedOf (a .numbers) taken) (a .head) table text = rw (span .ensures) at (w .ensures) in
     rw (c .resting .ensures, refill .ensures, first-edge .ensures, last-edge .ensures, e)
-    (move-settles m (sharedOf (a .numbers) taken) (a .head) table text pre (sym (ap (λ (s : Seen). s .broken) e) ∙ if1 .left))
+    (move-settles one m (sharedOf (a .numbers) taken) (a .head) table text pre (sym (ap (λ (s : Seen). s .broken) e) ∙ if1 .left))
 
 pub move-on-spec : {M : Type 1} → statement M
 move-on-spec =

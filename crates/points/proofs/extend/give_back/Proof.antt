@@ -1,4 +1,5 @@
 -- `points::extend::give_back`: the zeroed block becomes free, and the step counts as moved.
+use Rattle.words.specs.Edition.{one}
 use Rattle.points.proofs.Planned.{give-back-settles}
 use borrow.Author.Needs.{needs}
 use Rattle.points.proofs.extend.give_back.Statement.{statement}
@@ -21,7 +22,7 @@ returns c m s table text =
     let retried = c .before .before .before .retried in
     let to-commit = c .before .before .to-commit in
     let a = c .before .before .before .before .before .args in
-    rw (c .resting .ensures, c .before .writing .ensures, to-commit .ensures, retried .ensures) (give-back-settles m s (a .head) table text)
+    rw (c .resting .ensures, c .before .writing .ensures, to-commit .ensures, retried .ensures) (give-back-settles one m s (a .head) table text)
 
 pub give-back-spec : {M : Type 1} → statement M
 give-back-spec = tie.close (tie.spec retried-requires to-commit-requires writing-requires resting-requires returns)

@@ -1,4 +1,5 @@
 -- `points::extend::link`: the zeroed block's index is stored in word 0 of the log block.
+use Rattle.words.specs.Edition.{one}
 use Rattle.points.proofs.Planned.{link-settles}
 use borrow.Author.Needs.{needs}
 use Rattle.points.proofs.extend.link.Statement.{statement}
@@ -15,7 +16,7 @@ storing-requires c κs = search needs
 
 returns : tie.Need-returns
 returns c m s table text = let a = c .before .before .before .args in
-    rw (c .storing .ensures, c .before .linked-head .ensures) (link-settles m s (a .head) table text)
+    rw (c .storing .ensures, c .before .linked-head .ensures) (link-settles one m s (a .head) table text)
 
 pub link-spec : {M : Type 1} → statement M
 link-spec = tie.close (tie.spec cast-zeroing linked-head-requires storing-requires returns)

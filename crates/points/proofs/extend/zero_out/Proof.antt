@@ -1,5 +1,6 @@
 -- `points::extend::zero_out`: the word at the position gets 0.
 use native.Mathlib.Omega.{arith}
+use Rattle.words.specs.Edition.{one}
 use Rattle.points.proofs.Planned.{zero-settles}
 use borrow.Author.Needs.{needs}
 use Rattle.points.proofs.extend.zero_out.Statement.{statement}
@@ -21,7 +22,7 @@ returns : tie.Need-returns
 returns c m s table text =
     let turned = c .before .before .turned in
     let a = c .before .before .before .before .args in
-    rw (c .storing .ensures, c .before .writing .ensures, turned .ensures) (zero-settles m s (a .head) table text (omega arith))
+    rw (c .storing .ensures, c .before .writing .ensures, turned .ensures) (zero-settles one m s (a .head) table text (omega arith))
 
 pub zero-out-spec : {M : Type 1} → statement M
 zero-out-spec =

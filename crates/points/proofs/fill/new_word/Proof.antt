@@ -29,7 +29,7 @@ text-word-requires c κs = search needs
 
 returns : tie.Need-returns
 returns c = let a = c .before .before .before .before .before .before .args in
-    c .text-word .ensures ∙ sym (new-word-text (memory one (a .image .now)) (a .head) (a .table .now) (a .text .now) (a .k) (omega arith) (omega arith))
+    c .text-word .ensures ∙ sym (new-word-text one (memory one (a .image .now)) (a .head) (a .table .now) (a .text .now) (a .k) (omega arith) (omega arith))
 
 add-copied-word : tie.Need-add-copied-word
 add-copied-word c = search needs
@@ -43,12 +43,14 @@ add-if3 c = search needs
 returns-2 : tie.Need-returns-2
 returns-2 c = let a = c .before .before .before .before .before .before .args in
     let w = c .before .copied-word in
-    sym (new-word-copied (memory one (a .image .now)) (a .head) (a .table .now) (a .text .now) (a .k) (w .result) (w .ensures) (omega arith) (inl (c .if3 .taken)))
+    sym (new-word-copied one (memory one (a .image .now)) (a .head) (a .table .now) (a .text .now) (a .k) (w .result) (w .ensures) (omega arith)
+    (inl (c .if3 .taken)))
 
 returns-3 : tie.Need-returns-3
 returns-3 c = let a = c .before .before .before .before .before .before .before .args in
     let w = c .before .before .copied-word in
-    sym (new-word-copied (memory one (a .image .now)) (a .head) (a .table .now) (a .text .now) (a .k) (w .result) (w .ensures) (omega arith) (inr (c .if4 .taken)))
+    sym (new-word-copied one (memory one (a .image .now)) (a .head) (a .table .now) (a .text .now) (a .k) (w .result) (w .ensures) (omega arith)
+    (inr (c .if4 .taken)))
 
 edge-word-requires : tie.Need-edge-word-requires
 edge-word-requires c κs = search needs
@@ -56,7 +58,7 @@ edge-word-requires c κs = search needs
 returns-4 : tie.Need-returns-4
 returns-4 c = let a = c .before .before .before .before .before .before .before .before .args in
     let w = c .before .before .before .copied-word in
-    c .edge-word .ensures ∙ sym (new-word (memory one (a .image .now)) (a .head) (a .table .now) (a .text .now) (a .k) (w .result) (w .ensures))
+    c .edge-word .ensures ∙ sym (new-word one (memory one (a .image .now)) (a .head) (a .table .now) (a .text .now) (a .k) (w .result) (w .ensures))
 
 pub new-word-spec : {M : Type 1} → statement M
 new-word-spec =

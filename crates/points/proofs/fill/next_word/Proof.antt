@@ -1,6 +1,7 @@
 -- `points::fill::next_word`: by the phase, the definition seeks what that phase wants.
 use mathlib.Core.Path.{refl, sym, _∙_}
 use native.Mathlib.Omega.{arith}
+use Rattle.words.specs.Edition.{one}
 use Rattle.points.specs.declared.Phase.the-variants.{Idle, RefillFirst, RefillLast, RefillBoth, Zeroing}
 use Rattle.points.proofs.NextWord.{next-in, next-filling, next-none}
 use borrow.Author.Needs.{needs}
@@ -38,33 +39,33 @@ returns : tie.Need-returns
 returns c =
     let pre = c .before .before .pre in
     let args = c .before .before .args in
-    pre .4 ∙ sym (next-none (args .write) Idle (c .enum-told .given .1) (λ k. refl) (omega arith))
+    pre .4 ∙ sym (next-none one (args .write) Idle (c .enum-told .given .1) (λ k. refl) (omega arith))
 
 returns-2 : tie.Need-returns-2
 returns-2 c =
     let args = c .before .before .args in
-    sym (next-filling (args .write) (c .enum-told2 .given .1))
+    sym (next-filling one (args .write) (c .enum-told2 .given .1))
 
 returns-3 : tie.Need-returns-3
 returns-3 c =
     let args = c .before .before .before .args in
-    c .next-in-first .ensures ∙ sym (next-in (args .write) RefillFirst (c .before .enum-told3 .given .1))
+    c .next-in-first .ensures ∙ sym (next-in one (args .write) RefillFirst (c .before .enum-told3 .given .1))
 
 returns-4 : tie.Need-returns-4
 returns-4 c =
     let args = c .before .before .before .args in
-    c .next-in-last .ensures ∙ sym (next-in (args .write) RefillLast (c .before .enum-told4 .given .1))
+    c .next-in-last .ensures ∙ sym (next-in one (args .write) RefillLast (c .before .enum-told4 .given .1))
 
 returns-5 : tie.Need-returns-5
 returns-5 c =
     let args = c .before .before .before .args in
-    c .next-in-both .ensures ∙ sym (next-in (args .write) RefillBoth (c .before .enum-told5 .given .1))
+    c .next-in-both .ensures ∙ sym (next-in one (args .write) RefillBoth (c .before .enum-told5 .given .1))
 
 returns-6 : tie.Need-returns-6
 returns-6 c =
     let pre = c .before .before .pre in
     let args = c .before .before .args in
-    pre .4 ∙ sym (next-none (args .write) Zeroing (c .enum-told6 .given .1) (λ k. refl) (omega arith))
+    pre .4 ∙ sym (next-none one (args .write) Zeroing (c .enum-told6 .given .1) (λ k. refl) (omega arith))
 
 pub next-word-spec : {M : Type 1} → statement M
 next-word-spec =

@@ -21,16 +21,18 @@ returns : tie.Need-returns
 returns c =
     let a = c .before .before .before .before .args in
     let j = c .before .before .join-refusal in
-    join-refused (a .image .now) (a .shared) (a .number) (j .result) (c .idle-at .result) (j .ensures) (c .before .if1 .taken) (c .idle-at .ensures)
+    join-refused one (a .image .now) (a .shared) (a .number) (j .result) (c .idle-at .result) (j .ensures) (c .before .if1 .taken) (c .idle-at .ensures)
 
 first-index-requires : tie.Need-first-index-requires
 first-index-requires c κs = search needs
 
 cast-first : tie.Need-cast-first
-cast-first c = let a = c .before .before .before .before .args in record { fits = omega (arith, join-inside (a .image .now) (a .shared) (a .number) (none (c .before))) }
+cast-first c =
+    let a = c .before .before .before .before .args in
+    record { fits = omega (arith, join-inside one (a .image .now) (a .shared) (a .number) (none (c .before))) }
 
 with-point-requires : tie.Need-with-point-requires
-with-point-requires c κs = let a = c .before .before .before .before .args in join-small (a .image .now) (a .shared) (a .number) (none (c .before))
+with-point-requires c κs = let a = c .before .before .before .before .args in join-small one (a .image .now) (a .shared) (a .number) (none (c .before))
 
 with-joined-requires : tie.Need-with-joined-requires
 with-joined-requires c κs = search needs
@@ -41,7 +43,7 @@ idle-at-requires-2 c κs = search needs
 returns-2 : tie.Need-returns-2
 returns-2 c =
     let a = c .before .before .before .before .before .before .before .args in
-    join-done (a .image .now) (a .shared) (a .number) (none (c .before .before .before .before)) _ _ _ _ (c .before .before .with-point .ensures)
+    join-done one (a .image .now) (a .shared) (a .number) (none (c .before .before .before .before)) _ _ _ _ (c .before .before .with-point .ensures)
     (c .before .with-joined .ensures) (c .before .before .before .first-index .ensures) (c .idle-at2 .ensures)
 
 pub join-spec : {M : Type 1} → statement M

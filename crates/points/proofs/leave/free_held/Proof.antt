@@ -2,6 +2,7 @@
 use mathlib.Core.Path.{_≡_, sym, _∙_}
 use mathlib.Core.Bool.{false}
 use borrow.Author.Needs.{needs}
+use Rattle.words.specs.Edition.{one}
 use Rattle.points.specs.Record.{isIdle}
 use Rattle.points.proofs.Leaves.{held-idle, held-run, held-both}
 use Rattle.points.proofs.leave.free_held.Statement.{statement}
@@ -14,7 +15,7 @@ is-idle-requires : tie.Need-is-idle-requires
 is-idle-requires c κs = search needs
 
 returns : tie.Need-returns
-returns c = let a = c .before .before .before .args in held-idle (a .map .now) (a .write) (sym (c .before .is-idle .ensures) ∙ c .if1 .taken)
+returns c = let a = c .before .before .before .args in held-idle one (a .map .now) (a .write) (sym (c .before .is-idle .ensures) ∙ c .if1 .taken)
 
 free-run-requires : tie.Need-free-run-requires
 free-run-requires c κs = search needs
@@ -35,7 +36,7 @@ returns-2 : tie.Need-returns-2
 returns-2 c =
     let f = c .before .before .before .before .before .before .before .before .before in
     let a = f .before .before .before .before .before .args in
-    held-both (a .map .now) (a .write) (busy (f .before .before)) _ (f .free-run .ensures) _
+    held-both one (a .map .now) (a .write) (busy (f .before .before)) _ (f .free-run .ensures) _
     (sym (c .before .before .before .before .before .before .is-zeroing .ensures) ∙ c .before .before .before .before .before .if2 .taken) (c .before .before .free-block .ensures)
 
 same-length-2 : tie.Need-same-length-2
@@ -45,7 +46,7 @@ returns-3 : tie.Need-returns-3
 returns-3 c =
     let f = c .before .before .before .before in
     let a = f .before .before .before .before .before .args in
-    held-run (a .map .now) (a .write) (busy (f .before .before)) _ (f .free-run .ensures)
+    held-run one (a .map .now) (a .write) (busy (f .before .before)) _ (f .free-run .ensures)
     (sym (c .before .is-zeroing .ensures) ∙ c .if2 .left)
 
 pub free-held-spec : {M : Type 1} → statement M

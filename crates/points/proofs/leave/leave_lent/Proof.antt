@@ -20,7 +20,7 @@ returns : tie.Need-returns
 returns c =
     let a = c .before .before .before .args in
     let u = c .before .unfit in
-    λ text. leave-refused (a .image .now) (a .shared) (pointOf (a .head) (a .table .now) text) (u .result) (u .ensures) (c .if1 .taken)
+    λ text. leave-refused one (a .image .now) (a .shared) (pointOf (a .head) (a .table .now) text) (u .result) (u .ensures) (c .if1 .taken)
 
 slice-aggregate-free-held : tie.Need-slice-aggregate-free-held
 slice-aggregate-free-held c = search needs
@@ -34,7 +34,8 @@ with-taken-requires c κs = search needs
 without-point-requires : tie.Need-without-point-requires
 without-point-requires c κs =
     let a = c .before .before .before .before .before .before .before .before .args in
-    joined-small (a .shared .joined) (a .head .number) (omega arith) (fit-joined (a .image .now) (a .shared) (a .head) (a .table .now) (none (c .before .before .before .before .before)))
+    joined-small (a .shared .joined) (a .head .number) (omega arith)
+    (fit-joined one (a .image .now) (a .shared) (a .head) (a .table .now) (none (c .before .before .before .before .before)))
 
 with-joined-requires : tie.Need-with-joined-requires
 with-joined-requires c κs = search needs
@@ -42,7 +43,9 @@ with-joined-requires c κs = search needs
 returns-2 : tie.Need-returns-2
 returns-2 c =
     let a = c .before .before .before .before .before .before .before .before .before .before .args in
-    λ text. leave-done (a .image .now) (a .shared) (pointOf (a .head) (a .table .now) text) (none (c .before .before .before .before .before .before .before)) _ _ _ _ (c .before .before .before .before .free-held .ensures) (c .before .before .with-taken .ensures)
+    λ text. leave-done one (a .image .now) (a .shared) (pointOf (a .head) (a .table .now) text)
+    (none (c .before .before .before .before .before .before .before)) _ _ _ _ (c .before .before .before .before .free-held .ensures)
+    (c .before .before .with-taken .ensures)
     (c .before .without-point .ensures) (c .with-joined .ensures)
 
 pub leave-lent-spec : {M : Type 1} → statement M

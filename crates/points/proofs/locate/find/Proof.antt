@@ -1,6 +1,7 @@
 -- `points::locate::find` meets its contract: 22 is asked where the file is seen. Assumes nothing.
 use native.Mathlib.Omega.{arith}
 use mathlib.Core.Path.{_∙_}
+use Rattle.words.specs.Edition.{one}
 use Rattle.points.proofs.ReadAnswers.{locate-early, locate-inside, locate-unmapped, locate-found}
 use borrow.Author.Needs.{needs}
 use Rattle.points.proofs.locate.find.Statement.{statement}
@@ -16,18 +17,18 @@ returns : tie.Need-returns
 returns c =
     let a = c .before .before .before .before .before .before .args in
     let ne = c .before .if1 .taken in
-    c .refused .ensures ∙ locate-early (a .image .now) (a .shared) (a .head) (a .table .now) (a .v) _ (c .before .before .before .see .ensures .0) ne
+    c .refused .ensures ∙ locate-early one (a .image .now) (a .shared) (a .head) (a .table .now) (a .v) _ (c .before .before .before .see .ensures .0) ne
 
 mul-wide : tie.Need-mul-wide
 mul-wide c =
     let a = c .before .before .before .before .before .args in
-    let l = locate-inside (a .image .now) (a .shared) (a .head) (a .table .now) (a .v) _ (c .before .before .see .ensures .0) (c .if1 .left) in
+    let l = locate-inside one (a .image .now) (a .shared) (a .head) (a .table .now) (a .v) _ (c .before .before .see .ensures .0) (c .if1 .left) in
     omega arith
 
 element-copy-out-wide : tie.Need-element-copy-out-wide
 element-copy-out-wide c =
     let a = c .before .before .before .before .before .args in
-    let l = locate-inside (a .image .now) (a .shared) (a .head) (a .table .now) (a .v) _ (c .before .before .see .ensures .0) (c .if1 .left) in
+    let l = locate-inside one (a .image .now) (a .shared) (a .head) (a .table .now) (a .v) _ (c .before .before .see .ensures .0) (c .if1 .left) in
     omega arith
 
 wide-requires : tie.Need-wide-requires
@@ -41,7 +42,9 @@ returns-2 c =
     let a = c .before .before .before .before .before .before .before .before .before .args in
     let see = c .before .before .before .before .before .before .see in
     let z = c .before .before .before .before .if1 .left in
-    c .refused2 .ensures ∙ locate-unmapped (a .image .now) (a .shared) (a .head) (a .table .now) (a .v) _ (see .ensures .0) z _ (see .ensures .1 z) _ (c .before .before .wide .ensures) (c .before .if2 .taken)
+    c .refused2 .ensures
+    ∙ locate-unmapped one (a .image .now) (a .shared) (a .head) (a .table .now) (a .v) _ (see .ensures .0) z _ (see .ensures .1 z) _
+    (c .before .before .wide .ensures) (c .before .if2 .taken)
 
 counted-requires : tie.Need-counted-requires
 counted-requires c κs = search needs
@@ -51,7 +54,8 @@ returns-3 c =
     let a = c .before .before .before .before .before .before .before .before .before .args in
     let see = c .before .before .before .before .before .before .see in
     let z = c .before .before .before .before .if1 .left in
-    c .counted .ensures ∙ locate-found (a .image .now) (a .shared) (a .head) (a .table .now) (a .v) _ (see .ensures .0) z _ (see .ensures .1 z) _ (c .before .before .wide .ensures) (c .before .if2 .left)
+    c .counted .ensures ∙ locate-found one (a .image .now) (a .shared) (a .head) (a .table .now) (a .v) _ (see .ensures .0) z _ (see .ensures .1 z) _
+    (c .before .before .wide .ensures) (c .before .if2 .left)
 
 pub find-spec : {M : Type 1} → statement M
 find-spec =

@@ -24,7 +24,8 @@ unfolding locating
 returns c =
     let a = c .before .before .before .before .before .before .before .args in
     let found = c .before .before .locate-lent in
-    c .part .ensures ∙ ap (λ (r : Count). partOf (memory one (a .image .now)) (r .count)) (found .ensures) ∙ view-part (a .image .now) (a .shared) (a .t3 .head) (a .t3 .table) (a .v)
+    c .part .ensures ∙ ap (λ (r : Count). partOf (memory one (a .image .now)) (r .count)) (found .ensures)
+    ∙ view-part one (a .image .now) (a .shared) (a .t3 .head) (a .t3 .table) (a .v)
 
 pub view-spec : {M : Type 1} → statement M
 view-spec = tie.close (tie.spec locate-lent-requires cast-part part-requires returns)

@@ -26,7 +26,7 @@ returns c =
 copy-requires : tie.Need-copy-requires
 copy-requires c κs =
     let a = c .before .before .before .before .before .args in
-    let whole = part-whole (a .image .now) (a .b) _ (c .before .before .part .ensures) (c .before .if1 .left) in
+    let whole = part-whole one (a .image .now) (a .b) _ (c .before .before .part .ensures) (c .before .if1 .left) in
     (omega arith, omega arith)
 
 same-length-2 : tie.Need-same-length-2

@@ -56,7 +56,7 @@ loop-again c =
     let p = a .offset + l .done in
     let f : Mapped = record { table = a .table .now; size = 0 } in
     let z : 0 + l .done ≡ l .done = omega arith in
-    let piece = file-piece (memory one (a .image .now)) f p n _ (c .before .before .before .before .before .mapped .ensures) (omega arith) in
+    let piece = file-piece one (memory one (a .image .now)) f p n _ (c .before .before .before .before .before .mapped .ensures) (omega arith) in
     copied-more (byteFrom (a .image .now) (a .table .now)) (a .buffer .now) 0 (a .offset) (a .n) (l .buffer) (l .done) (l .inv) _ n (omega arith)
     (rw z (c .before .before .copy-block .ensures ∙ ap (sets (l .buffer) (l .done)) piece))
 

@@ -1,5 +1,6 @@
 -- `points::read::read_lent` meets its contract: refused, and the buffer as it was; or the bytes that are left, at the buffer's front. Assumes nothing.
 use mathlib.Core.Path.{_∙_}
+use Rattle.words.specs.Edition.{one}
 use Rattle.points.proofs.ReadAnswers.{read-refused, read-untouched, read-done, read-filled}
 use borrow.Author.Needs.{needs}
 use Rattle.points.proofs.read.read_lent.Statement.{statement}
@@ -16,7 +17,8 @@ returns c =
     let a = c .before .before .before .before .before .before .before .before .args in
     let e = c .before .before .before .see .ensures .0 in
     let ne = c .before .if1 .taken in
-    (c .refused .ensures ∙ read-refused (a .image .now) (a .shared) (a .head) (a .table .now) (a .offset) (a .buffer .now) _ e ne, read-untouched (a .image .now) (a .shared) (a .head) (a .table .now) (a .offset) (a .buffer .now) _ e ne)
+    (c .refused .ensures ∙ read-refused one (a .image .now) (a .shared) (a .head) (a .table .now) (a .offset) (a .buffer .now) _ e ne,
+    read-untouched one (a .image .now) (a .shared) (a .head) (a .table .now) (a .offset) (a .buffer .now) _ e ne)
 
 left-requires : tie.Need-left-requires
 left-requires c κs = search needs
@@ -39,8 +41,10 @@ returns-2 c =
     let see = c .before .before .before .before .before .before .before .before .before .see in
     let z = c .before .before .before .before .before .before .before .if1 .left in
     let n = c .before .before .before .before .before .before .left in (
-      c .counted .ensures ∙ read-done (a .image .now) (a .shared) (a .head) (a .table .now) (a .offset) (a .buffer .now) _ (see .ensures .0) z _ (see .ensures .1 z) _ (n .ensures),
-      read-filled (a .image .now) (a .shared) (a .head) (a .table .now) (a .offset) (a .buffer .now) _ (see .ensures .0) z _ (see .ensures .1 z) _ (n .ensures) _ (c .before .before .before .fill .ensures),
+      c .counted .ensures ∙ read-done one (a .image .now) (a .shared) (a .head) (a .table .now) (a .offset) (a .buffer .now) _ (see .ensures .0) z _
+      (see .ensures .1 z) _ (n .ensures),
+      read-filled one (a .image .now) (a .shared) (a .head) (a .table .now) (a .offset) (a .buffer .now) _ (see .ensures .0) z _ (see .ensures .1 z) _
+      (n .ensures) _ (c .before .before .before .fill .ensures),
     )
 
 pub read-lent-spec : {M : Type 1} → statement M

@@ -1,5 +1,6 @@
 -- `points::record::bad_numbers` meets its contract: its tests are those of the list, from the first on. Assumes nothing.
 use borrow.Author.Needs.{needs}
+use Rattle.words.specs.Edition.{one}
 use Rattle.points.specs.Plan.{sharedOf}
 use Rattle.points.proofs.Fits.{shared-tests}
 use Rattle.points.proofs.record.bad_numbers.Statement.{statement}
@@ -15,7 +16,7 @@ mul-result : tie.Need-mul-result
 mul-result c = search needs
 
 returns : tie.Need-returns
-returns c taken = let a = c .before .before .before .before .before .args in cc (shared-tests (a .image .now) (sharedOf (a .numbers) taken))
+returns c taken = let a = c .before .before .before .before .before .args in cc (shared-tests one (a .image .now) (sharedOf (a .numbers) taken))
 
 pub bad-numbers-spec : {M : Type 1} → statement M
 bad-numbers-spec = tie.close (tie.spec between-requires cast-result mul-result returns)

@@ -1,6 +1,7 @@
 -- `points::record::head_fits` meets its contract: its tests are those of the list, the write's only where one is under way. Assumes nothing.
 use mathlib.Core.Path.{sym, _∙_}
 use borrow.Author.Needs.{needs}
+use Rattle.words.specs.Edition.{one}
 use Rattle.points.proofs.Fits.{head-idle, head-busy}
 use Rattle.points.proofs.record.head_fits.Statement.{statement}
 use Rattle.points.proofs.record.head_fits.Tie as tie
@@ -12,13 +13,16 @@ is-idle-requires : tie.Need-is-idle-requires
 is-idle-requires c κs = search needs
 
 returns : tie.Need-returns
-returns c = let a = c .before .before .before .before .before .args in cc (head-idle (a .blocks) (a .head) (sym (c .before .is-idle .ensures) ∙ c .if1 .taken))
+returns c =
+    let a = c .before .before .before .before .before .args in cc (head-idle one (a .blocks) (a .head) (sym (c .before .is-idle .ensures) ∙ c .if1 .taken))
 
 write-fits-requires : tie.Need-write-fits-requires
 write-fits-requires c κs = search needs
 
 returns-2 : tie.Need-returns-2
-returns-2 c = let a = c .before .before .before .before .before .before .args in cc (head-busy (a .blocks) (a .head) (sym (c .before .before .is-idle .ensures) ∙ c .before .if1 .left))
+returns-2 c =
+    let a = c .before .before .before .before .before .before .args in
+    cc (head-busy one (a .blocks) (a .head) (sym (c .before .before .is-idle .ensures) ∙ c .before .if1 .left))
 
 pub head-fits-spec : {M : Type 1} → statement M
 head-fits-spec =

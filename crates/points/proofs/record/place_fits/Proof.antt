@@ -1,5 +1,6 @@
 -- `points::record::place_fits` meets its contract: its tests are those of the list, from the first on. Assumes nothing.
 use borrow.Author.Needs.{needs}
+use Rattle.words.specs.Edition.{one}
 use Rattle.points.proofs.Fits.{place-tests}
 use Rattle.points.proofs.record.place_fits.Statement.{statement}
 use Rattle.points.proofs.record.place_fits.Tie as tie
@@ -14,7 +15,7 @@ between-requires-2 : tie.Need-between-requires-2
 between-requires-2 c κs = search needs
 
 returns : tie.Need-returns
-returns c = let a = c .before .before .before .args in cc (place-tests (a .blocks) (a .place))
+returns c = let a = c .before .before .before .args in cc (place-tests one (a .blocks) (a .place))
 
 pub place-fits-spec : {M : Type 1} → statement M
 place-fits-spec = tie.close (tie.spec inside-requires between-requires between-requires-2 returns)

@@ -1,6 +1,7 @@
 -- `points::record::write_fits` meets its contract: its tests are those of the list; the last one goes by the phase. Assumes nothing.
 use mathlib.Core.Path.{sym, _∙_}
 use borrow.Author.Needs.{needs}
+use Rattle.words.specs.Edition.{one}
 use Rattle.points.proofs.Fits.{write-zeroing, write-filling}
 use Rattle.points.proofs.record.write_fits.Statement.{statement}
 use Rattle.points.proofs.record.write_fits.Tie as tie
@@ -30,13 +31,17 @@ zeroing-fits-requires : tie.Need-zeroing-fits-requires
 zeroing-fits-requires c κs = search needs
 
 returns : tie.Need-returns
-returns c = let a = c .before .before .before .before .before .before .before .before .before .args in cc (write-zeroing (a .blocks) (a .place) (a .write) (sym (c .before .before .is-zeroing .ensures) ∙ c .before .if1 .taken))
+returns c =
+    let a = c .before .before .before .before .before .before .before .before .before .args in
+    cc (write-zeroing one (a .blocks) (a .place) (a .write) (sym (c .before .before .is-zeroing .ensures) ∙ c .before .if1 .taken))
 
 mul-result : tie.Need-mul-result
 mul-result c = search needs
 
 returns-2 : tie.Need-returns-2
-returns-2 c = let a = c .before .before .before .before .before .before .before .before .before .args in cc (write-filling (a .blocks) (a .place) (a .write) (sym (c .before .before .is-zeroing .ensures) ∙ c .before .if1 .left))
+returns-2 c =
+    let a = c .before .before .before .before .before .before .before .before .before .args in
+    cc (write-filling one (a .blocks) (a .place) (a .write) (sym (c .before .before .is-zeroing .ensures) ∙ c .before .if1 .left))
 
 pub write-fits-spec : {M : Type 1} → statement M
 write-fits-spec =

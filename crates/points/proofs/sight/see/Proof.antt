@@ -22,7 +22,8 @@ returns : tie.Need-returns
 returns c =
     let a = c .before .before .before .before .before .args in
     let u = c .before .before .unfit in
-    unseen-so _ _ _ (c .unseen .ensures) (c .before .if1 .taken) (sight-unfit (a .image .now) (a .shared) (a .head) (a .table .now) (a .past) (u .result) (u .ensures) (c .before .if1 .taken))
+    unseen-so _ _ _ (c .unseen .ensures) (c .before .if1 .taken)
+    (sight-unfit one (a .image .now) (a .shared) (a .head) (a .table .now) (a .past) (u .result) (u .ensures) (c .before .if1 .taken))
 
 unseen-requires-2 : tie.Need-unseen-requires-2
 unseen-requires-2 c κs = search needs
@@ -31,7 +32,8 @@ returns-2 : tie.Need-returns-2
 returns-2 c =
     let a = c .before .before .before .before .before .before .args in
     let fit = sym (c .before .before .before .unfit .ensures) ∙ c .before .before .if1 .left in
-    unseen-so _ 17 _ (c .unseen2 .ensures) (omega arith) (sight-past (a .image .now) (a .shared) (a .head) (a .table .now) (a .past) fit (c .before .if2 .taken))
+    unseen-so _ 17 _ (c .unseen2 .ensures) (omega arith)
+    (sight-past one (a .image .now) (a .shared) (a .head) (a .table .now) (a .past) fit (c .before .if2 .taken))
 
 look-requires : tie.Need-look-requires
 look-requires c κs = search needs
@@ -44,8 +46,10 @@ returns-3 c =
     let a = c .before .before .before .before .before .before .before .before .before .args in
     let fit = sym (c .before .before .before .before .before .before .unfit .ensures) ∙ c .before .before .before .before .before .if1 .left in
     let walk = ahead one (memory one (a .image .now)) (a .shared .blocks) (a .head .place) in
-    let seen = look-broken _ (a .shared .blocks) 0 0 walk (c .before .before .look .ensures) in
-    unseen-so _ 18 _ (c .unseen3 .ensures) (omega arith) (sight-broken (a .image .now) (a .shared) (a .head) (a .table .now) (a .past) fit (c .before .before .before .before .if2 .left) (sym seen ∙ c .before .if3 .taken))
+    let seen = look-broken one _ (a .shared .blocks) 0 0 walk (c .before .before .look .ensures) in
+    unseen-so _ 18 _ (c .unseen3 .ensures) (omega arith)
+    (sight-broken one (a .image .now) (a .shared) (a .head) (a .table .now) (a .past) fit (c .before .before .before .before .if2 .left)
+    (sym seen ∙ c .before .if3 .taken))
 
 catch-up-requires : tie.Need-catch-up-requires
 catch-up-requires c κs = search needs
@@ -56,10 +60,11 @@ returns-4 c =
     let a = c .before .before .before .before .before .before .before .before .before .before .args in
     let fit = sym (c .before .before .before .before .before .before .before .unfit .ensures) ∙ c .before .before .before .before .before .before .if1 .left in
     let walk = ahead one (memory one (a .image .now)) (a .shared .blocks) (a .head .place) in
-    let seen = look-broken _ (a .shared .blocks) 0 0 walk (c .before .before .before .look .ensures) in
+    let seen = look-broken one _ (a .shared .blocks) 0 0 walk (c .before .before .before .look .ensures) in
     let sound = sym seen ∙ c .before .before .if3 .left in
-    let facts = shared-facts (a .image .now) (a .shared) (fit-shared (a .image .now) (a .shared) (a .head) (a .table .now) fit) in
-    (sight-clear (a .image .now) (a .shared) (a .head) (a .table .now) (a .past) fit (c .before .before .before .before .before .if2 .left) sound, λ _. c .catch-up .ensures (facts .few-blocks) sound)
+    let facts = shared-facts one (a .image .now) (a .shared) (fit-shared one (a .image .now) (a .shared) (a .head) (a .table .now) fit) in
+    (sight-clear one (a .image .now) (a .shared) (a .head) (a .table .now) (a .past) fit (c .before .before .before .before .before .if2 .left) sound,
+    λ _. c .catch-up .ensures (facts .few-blocks) sound)
 
 pub see-spec : {M : Type 1} → statement M
 see-spec =

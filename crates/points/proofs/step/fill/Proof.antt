@@ -27,7 +27,7 @@ returns c s =
     let turned = c .before .before .turned in
     let a = c .before .before .before .before .before .before .args in
     rw (c .storing .ensures, c .before .writing .ensures, turned .ensures, new-word .ensures)
-    (fill-settles (memory one (a .image .now)) s (a .head) (a .table .now) (a .text .now) (a .k))
+    (fill-settles one (memory one (a .image .now)) s (a .head) (a .table .now) (a .text .now) (a .k))
 
 pub fill-spec : {M : Type 1} → statement M
 fill-spec =

@@ -17,18 +17,20 @@ next-word-requires : tie.Need-next-word-requires
 next-word-requires c κs =
     let pre = c .before .before .pre in
     let a = c .before .before .args in
-    let f = ready (a .image .now) (sharedOf (a .numbers) (a .taken .now)) (a .head) (a .table .now) (pre .0) in
+    let f = ready one (a .image .now) (sharedOf (a .numbers) (a .taken .now)) (a .head) (a .table .now) (pre .0) in
     let t = f .run .text in
-    let n = span-few (a .head .write .offset) (a .head .write .size) t in
+    let n = span-few one (a .head .write .offset) (a .head .write .size) t in
     let w = c .run-words .ensures in
-    (t .some-text, t .few-text, rw w (ready-position (a .image .now) (sharedOf (a .numbers) (a .taken .now)) (a .head) (a .table .now) (pre .0) (pre .1)), rw w (omega (arith, n .1)), w)
+    (t .some-text, t .few-text,
+    rw w (ready-position one (a .image .now) (sharedOf (a .numbers) (a .taken .now)) (a .head) (a .table .now) (pre .0) (pre .1)),
+    rw w (omega (arith, n .1)), w)
 
 fill-requires : tie.Need-fill-requires
 fill-requires c κs =
     let pre = c .before .before .before .before .pre in
     let run-words = c .before .before .run-words in
     let a = c .before .before .before .before .args in
-    let f = ready (a .image .now) (sharedOf (a .numbers) (a .taken .now)) (a .head) (a .table .now) (pre .0) in
+    let f = ready one (a .image .now) (sharedOf (a .numbers) (a .taken .now)) (a .head) (a .table .now) (pre .0) in
     let t = f .run .text in
     (t .some-text, t .few-text, t .ends-inside, rw (run-words .ensures) at (c .if1 .taken))
 
@@ -38,7 +40,9 @@ returns c =
     let next-word = c .before .before .next-word in
     let a = c .before .before .before .before .before .args in
     let m = memory one (a .image .now) in
-    settles-as (c .fill .ensures (sharedOf (a .numbers) (a .taken .now))) (fills m (sharedOf (a .numbers) (a .taken .now)) (pointOf (a .head) (a .table .now) (a .text .now)) (next-word .result) (run-words .result) (next-word .ensures) (run-words .ensures) (c .before .if1 .taken))
+    settles-as (c .fill .ensures (sharedOf (a .numbers) (a .taken .now)))
+    (fills one m (sharedOf (a .numbers) (a .taken .now)) (pointOf (a .head) (a .table .now) (a .text .now)) (next-word .result) (run-words .result)
+    (next-word .ensures) (run-words .ensures) (c .before .if1 .taken))
 
 committing-requires : tie.Need-committing-requires
 committing-requires c κs =
@@ -51,7 +55,9 @@ returns-2 c =
     let next-word = c .before .before .next-word in
     let a = c .before .before .before .before .before .args in
     let m = memory one (a .image .now) in
-    settles-as (c .committing .ensures (a .text .now)) (commits m (sharedOf (a .numbers) (a .taken .now)) (pointOf (a .head) (a .table .now) (a .text .now)) (next-word .result) (run-words .result) (next-word .ensures) (run-words .ensures) (c .before .if1 .left))
+    settles-as (c .committing .ensures (a .text .now))
+    (commits one m (sharedOf (a .numbers) (a .taken .now)) (pointOf (a .head) (a .table .now) (a .text .now)) (next-word .result) (run-words .result)
+    (next-word .ensures) (run-words .ensures) (c .before .if1 .left))
 
 pub filling-spec : {M : Type 1} → statement M
 filling-spec =

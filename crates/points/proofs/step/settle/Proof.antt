@@ -20,7 +20,9 @@ returns c =
     let unfit = c .before .before .unfit-numbers in
     let a = c .before .before .before .before .args in
     let m = memory one (a .image .now) in
-    settles-as (c .refused .ensures m (sharedOf (a .numbers) (a .taken .now)) (a .table .now) (a .text .now)) (turned-down (a .image .now) (sharedOf (a .numbers) (a .taken .now)) (pointOf (a .head) (a .table .now) (a .text .now)) (unfit .result) (unfit .ensures (a .taken .now)) (c .before .if1 .taken))
+    settles-as (c .refused .ensures m (sharedOf (a .numbers) (a .taken .now)) (a .table .now) (a .text .now))
+    (turned-down one (a .image .now) (sharedOf (a .numbers) (a .taken .now)) (pointOf (a .head) (a .table .now) (a .text .now)) (unfit .result)
+    (unfit .ensures (a .taken .now)) (c .before .if1 .taken))
 
 is-idle-requires : tie.Need-is-idle-requires
 is-idle-requires c κs = search needs
@@ -35,14 +37,17 @@ returns-2 c =
     let is-idle = c .before .before .is-idle in
     let a = c .before .before .before .before .before .before .before .args in
     let m = memory one (a .image .now) in
-    settles-as (c .refused2 .ensures m (sharedOf (a .numbers) (a .taken .now)) (a .table .now) (a .text .now)) (none-under-way (a .image .now) (sharedOf (a .numbers) (a .taken .now)) (pointOf (a .head) (a .table .now) (a .text .now)) (sym (unfit .ensures (a .taken .now)) ∙ if1 .left) (sym (is-idle .ensures) ∙ c .before .if2 .taken))
+    settles-as (c .refused2 .ensures m (sharedOf (a .numbers) (a .taken .now)) (a .table .now) (a .text .now))
+    (none-under-way one (a .image .now) (sharedOf (a .numbers) (a .taken .now)) (pointOf (a .head) (a .table .now) (a .text .now))
+    (sym (unfit .ensures (a .taken .now)) ∙ if1 .left) (sym (is-idle .ensures) ∙ c .before .if2 .taken))
 
 write-on-requires : tie.Need-write-on-requires
 write-on-requires c κs =
     let unfit = c .before .before .before .before .unfit-numbers in
     let if1 = c .before .before .before .if1 in
     let a = c .before .before .before .before .before .before .args in
-    under-way (a .image .now) (sharedOf (a .numbers) (a .taken .now)) (pointOf (a .head) (a .table .now) (a .text .now)) (sym (unfit .ensures (a .taken .now)) ∙ if1 .left) (sym (c .before .is-idle .ensures) ∙ c .if2 .left)
+    under-way one (a .image .now) (sharedOf (a .numbers) (a .taken .now)) (pointOf (a .head) (a .table .now) (a .text .now))
+    (sym (unfit .ensures (a .taken .now)) ∙ if1 .left) (sym (c .before .is-idle .ensures) ∙ c .if2 .left)
 
 returns-3 : tie.Need-returns-3
 returns-3 c =
@@ -50,7 +55,10 @@ returns-3 c =
     let if1 = c .before .before .before .before .if1 in
     let is-idle = c .before .before .is-idle in
     let a = c .before .before .before .before .before .before .before .args in
-    settles-as (c .write-on .ensures) (goes-on (a .image .now) (sharedOf (a .numbers) (a .taken .now)) (pointOf (a .head) (a .table .now) (a .text .now)) (under-way (a .image .now) (sharedOf (a .numbers) (a .taken .now)) (pointOf (a .head) (a .table .now) (a .text .now)) (sym (unfit .ensures (a .taken .now)) ∙ if1 .left) (sym (is-idle .ensures) ∙ c .before .if2 .left)))
+    settles-as (c .write-on .ensures)
+    (goes-on one (a .image .now) (sharedOf (a .numbers) (a .taken .now)) (pointOf (a .head) (a .table .now) (a .text .now))
+    (under-way one (a .image .now) (sharedOf (a .numbers) (a .taken .now)) (pointOf (a .head) (a .table .now) (a .text .now))
+    (sym (unfit .ensures (a .taken .now)) ∙ if1 .left) (sym (is-idle .ensures) ∙ c .before .if2 .left)))
 
 pub settle-spec : {M : Type 1} → statement M
 settle-spec =

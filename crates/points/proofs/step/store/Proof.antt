@@ -1,5 +1,6 @@
 -- `points::step::store`: a word counted from the block's first on is the definition's word of a later block.
 use mathlib.Core.Path.{_∙_}
+use Rattle.words.specs.Edition.{one}
 use Rattle.words.specs.Memory.{after}
 use Rattle.points.proofs.Planned.{placed-put}
 use borrow.Author.Needs.{needs}
@@ -18,7 +19,7 @@ returns c =
     let if1 = c .before .before .before .before .if1 in
     let store = c .before .before .store in
     let a = c .before .before .before .before .before .before .args in
-    store .ensures ∙ rw (if1 .taken) (placed-put (a .image .now) (a .block) (a .word) (a .value))
+    store .ensures ∙ rw (if1 .taken) (placed-put one (a .image .now) (a .block) (a .word) (a .value))
 
 returns-2 : tie.Need-returns-2
 unfolding after

@@ -50,7 +50,7 @@ returns-3 c =
     let pre = c .before .before .before .before .before .pre in
     let enum-told3 = c .before .before .enum-told3 in
     let a = c .before .before .before .before .before .args in
-    let f = allowed-entry (memory one (a .image .now)) (a .blocks) (a .head .place) (a .entry) (rw (enum-told3 .given .1) at pre) in
+    let f = allowed-entry one (memory one (a .image .now)) (a .blocks) (a .head .place) (a .entry) (rw (enum-told3 .given .1) at pre) in
     c .take-entry .ensures (f .0) (f .1) ∙
     ap (λ (x : Change). fileAfter x one (memory one (a .image .now)) (a .blocks) (a .head .place) (a .entry) (fileAt (a .head) (a .table .now))) (sym (enum-told3 .given .1))
 
@@ -60,7 +60,7 @@ returns-4 c =
     let pre = c .before .before .before .before .before .pre in
     let enum-told4 = c .before .before .enum-told4 in
     let a = c .before .before .before .before .before .args in
-    let f = allowed-walk (memory one (a .image .now)) (a .blocks) (a .head .place) (a .entry) (rw (enum-told4 .given .1) at pre) in
+    let f = allowed-walk one (memory one (a .image .now)) (a .blocks) (a .head .place) (a .entry) (rw (enum-told4 .given .1) at pre) in
     c .catch-up .ensures (f .0) (f .1)
     ∙ ap (λ (x : Change). fileAfter x one (memory one (a .image .now)) (a .blocks) (a .head .place) (a .entry) (fileAt (a .head) (a .table .now))) (sym (enum-told4 .given .1))
 

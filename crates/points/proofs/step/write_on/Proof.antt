@@ -17,7 +17,8 @@ extending-requires : tie.Need-extending-requires
 extending-requires c κs =
     let pre = c .before .before .before .before .pre in
     let a = c .before .before .before .before .args in
-    let z = ready-zeroing (a .image .now) (sharedOf (a .numbers) (a .taken .now)) (a .head) (a .table .now) pre (sym (c .before .is-zeroing .ensures) ∙ c .if1 .taken) in
+    let z = ready-zeroing one (a .image .now) (sharedOf (a .numbers) (a .taken .now)) (a .head) (a .table .now) pre
+    (sym (c .before .is-zeroing .ensures) ∙ c .if1 .taken) in
     z .passed-few
 
 returns : tie.Need-returns
