@@ -135,7 +135,10 @@ module _ (E : Edition) {words scratch table : List ℕ} {size : ℕ} (h : Held E
             → free ≡ freeCount map (blockCount E words)
             → opened E words scratch
             ≡ record {
-              reply = Done; length = size; entries = n; free = free;
+              reply = Done;
+              length = size;
+              entries = n;
+              free = free;
               shared = record { blocks = blockCount E words; taken = map; joined = 0; next = 1 };
             }
         unfolding openedWith sharedAtOpening

@@ -118,8 +118,8 @@ module _ (E : Edition) (words : List ℕ) (s : Shared) (p : Point) (offset : ℕ
   pub begin-refused : (r ≡ 0 → ⊥) → record { reply = Refused r; shared = s; point = p } ≡ beginning E words s p offset text
   unfolding beginning
   begin-refused h =
-      rw e (sym (refused-so (beginRefusal E words s (p .head) (p .table) offset (length text)) _ (λ n. record { reply =
-          Refused n; shared = s; point = p }) (λ z. h (e ∙ z))))
+      rw e (sym (refused-so (beginRefusal E words s (p .head) (p .table) offset (length text)) _
+      (λ n. record { reply = Refused n; shared = s; point = p }) (λ z. h (e ∙ z))))
 
 -- what a beginning that is not refused has passed
 pub record Ready (E : Edition) (words : List ℕ) (s : Shared) (p : Point) (offset : ℕ) (text : List ℕ) : Type 0 where

@@ -7,7 +7,7 @@ use mathlib.Core.List.{List, [], _∷_}
 use lib.ListN.{length, getD}
 use lib.Dec.{leb, ltb}
 use borrow.Author.Tests.{leb-true, ltb-true, ltb-false, eqb-true, not-true, not-false}
-use Rattle.words.specs.Edition.{Edition, fileEnd}
+use Rattle.words.specs.Edition.{Edition, fileEnd, chainMax}
 use Rattle.words.proofs.Sizes.{sized}
 use Rattle.words.specs.Logic.{between, all-of}
 use Rattle.words.proofs.Logic.{and-left, and-right, every-all, any-none}
@@ -69,7 +69,7 @@ pub record PlaceFits (E : Edition) (blocks : ℕ) (p : Place) : Type 0 where
   pub slot-low : 2 ≤ p .slot
   pub slot-high : p .slot ≤ E .blockWords
   pub passed-low : 1 ≤ p .passed
-  pub passed-high : p .passed ≤ 64
+  pub passed-high : p .passed ≤ chainMax
 
 pub place-facts : (E : Edition) (blocks : ℕ) (p : Place) → placeFits E blocks p ≡ true → PlaceFits E blocks p
 unfolding placeFits
@@ -77,7 +77,7 @@ place-facts E blocks p e =
     let f = every-all _ e in
     let i = inside-facts blocks (p .block) 1 (f .0) in
     let s = between-facts 2 (p .slot) (E .blockWords) (f .1 .0) in
-    let q = between-facts 1 (p .passed) 64 (f .1 .1 .0) in
+    let q = between-facts 1 (p .passed) chainMax (f .1 .1 .0) in
     record { block-some = i .0; block-inside = omega (arith, i .1); slot-low = s .0; slot-high = s .1; passed-low = q .0; passed-high = q .1 }
 
 pub record ZeroingFits (E : Edition) (blocks : ℕ) (p : Place) (w : Write) : Type 0 where
@@ -85,7 +85,7 @@ pub record ZeroingFits (E : Edition) (blocks : ℕ) (p : Place) (w : Write) : Ty
   pub zeroing-inside : w .zeroing < blocks
   pub zeroing-position : w .position ≤ E .blockWords
   pub slot-last : p .slot ≡ E .blockWords
-  pub passed-few : p .passed < 64
+  pub passed-few : p .passed < chainMax
 
 pub zeroing-facts : (E : Edition) (blocks : ℕ) (p : Place) (w : Write) → zeroingFits E blocks p w ≡ true → ZeroingFits E blocks p w
 unfolding zeroingFits
@@ -97,7 +97,7 @@ zeroing-facts E blocks p w e =
       zeroing-inside = omega (arith, i .1);
       zeroing-position = leb-true (w .position) (E .blockWords) (f .1 .0);
       slot-last = eqb-true (p .slot) (E .blockWords) (f .1 .1 .0);
-      passed-few = ltb-true (p .passed) 64 (f .1 .1 .1 .0);
+      passed-few = ltb-true (p .passed) chainMax (f .1 .1 .1 .0);
     }
 
 pub record RunFits (E : Edition) (blocks : ℕ) (w : Write) : Type 0 where

@@ -13,7 +13,7 @@ use lib.Pow.{shr-lt, pow-mono}
 use native.Mathlib.Nat.{lt-of-lt-of-le, zero-add}
 use native.Mathlib.Decide.{decLt}
 use borrow.Author.Tests.{lt-ltb, le-ltb, ltb-true}
-use Rattle.words.specs.Edition.{Edition, fileEnd}
+use Rattle.words.specs.Edition.{Edition, fileEnd, chainMax}
 use Rattle.words.specs.Logic.{every, any, all-of, between}
 use Rattle.words.proofs.Choice.{choose-true, choose-false}
 use Rattle.words.proofs.Logic.{agree}
@@ -58,15 +58,17 @@ shared-tests E words s =
 -- ---- the head
 
 module _ (E : Edition) (blocks : ℕ) (p : Place) where
-  pub place-tests : (inside blocks (p .block) 1 && between 2 (p .slot) (E .blockWords)) && between 1 (p .passed) 64 ≡ placeFits E blocks p
+  pub place-tests : (inside blocks (p .block) 1 && between 2 (p .slot) (E .blockWords)) && between 1 (p .passed) chainMax ≡ placeFits E blocks p
   unfolding placeFits
-  place-tests = ands-every (inside blocks (p .block) 1) (between 2 (p .slot) (E .blockWords) ∷ between 1 (p .passed) 64 ∷ [])
+  place-tests = ands-every (inside blocks (p .block) 1) (between 2 (p .slot) (E .blockWords) ∷ between 1 (p .passed) chainMax ∷ [])
 
   module _ (w : Write) where
     pub zeroing-tests :
-        ((inside blocks (w .zeroing) 1 && leb (w .position) (E .blockWords)) && eqb (p .slot) (E .blockWords)) && ltb (p .passed) 64 ≡ zeroingFits E blocks p w
+        ((inside blocks (w .zeroing) 1 && leb (w .position) (E .blockWords)) && eqb (p .slot) (E .blockWords)) && ltb (p .passed) chainMax
+        ≡ zeroingFits E blocks p w
     unfolding zeroingFits
-    zeroing-tests = ands-every (inside blocks (w .zeroing) 1) (leb (w .position) (E .blockWords) ∷ eqb (p .slot) (E .blockWords) ∷ ltb (p .passed) 64 ∷ [])
+    zeroing-tests =
+        ands-every (inside blocks (w .zeroing) 1) (leb (w .position) (E .blockWords) ∷ eqb (p .slot) (E .blockWords) ∷ ltb (p .passed) chainMax ∷ [])
 
     abbrev pub runTests : Bool
     runTests = (not (badText (w .size)) && not (pastEnd E (w .offset) (w .size))) && inside blocks (w .run) (span E (w .offset) (w .size))

@@ -6,7 +6,7 @@ use native.Mathlib.Numerals.{add-one}
 use mathlib.Core.Path.{_≡_, refl, sym, ap, _∙_}
 use mathlib.Core.Bool.{true, false, _&&_}
 use mathlib.Core.List.{List, [], _∷_}
-use Rattle.words.specs.Edition.{Edition}
+use Rattle.words.specs.Edition.{Edition, chainMax}
 use Rattle.words.proofs.Sizes.{in-block, from-block}
 use Rattle.words.specs.Logic.{isZero, first, _when_}
 use Rattle.words.specs.Memory.{Memory, put}
@@ -132,16 +132,16 @@ pub settles-as : {E : Edition} {m : Memory} {s : Shared} {plan : Plan} {p : Poin
 settles-as f e = record { outcome = f .outcome ∙ sym e; change = f .change; claim = f .claim }
 
 module _ (E : Edition) (m : Memory) (s : Shared) (p : Point) where
-  pub end-full : 64 ≤ p .head .place .passed → atEnd E s p ≡ giveUp E 20 s p
-  end-full h = give-on E m s p 19 (first-settled 20 _ (21 when isZero (search s 1) ∷ []) (le-leb 64 (p .head .place .passed) h))
+  pub end-full : chainMax ≤ p .head .place .passed → atEnd E s p ≡ giveUp E 20 s p
+  end-full h = give-on E m s p 19 (first-settled 20 _ (21 when isZero (search s 1) ∷ []) (le-leb chainMax (p .head .place .passed) h))
 
-  end-not-full : p .head .place .passed < 64 → first (endReasons E m s p) ≡ first (21 when isZero (search s 1) ∷ [])
-  end-not-full h = first-goes-on 20 _ (21 when isZero (search s 1) ∷ []) (lt-leb 64 (p .head .place .passed) h)
+  end-not-full : p .head .place .passed < chainMax → first (endReasons E m s p) ≡ first (21 when isZero (search s 1) ∷ [])
+  end-not-full h = first-goes-on 20 _ (21 when isZero (search s 1) ∷ []) (lt-leb chainMax (p .head .place .passed) h)
 
-  pub end-none : p .head .place .passed < 64 → search s 1 ≡ 0 → atEnd E s p ≡ giveUp E 21 s p
+  pub end-none : p .head .place .passed < chainMax → search s 1 ≡ 0 → atEnd E s p ≡ giveUp E 21 s p
   end-none h e = give-on E m s p 20 (end-not-full h ∙ first-settled 21 _ [] (is-zero (search s 1) e))
 
-  pub end-free : p .head .place .passed < 64 → (search s 1 ≡ 0 → ⊥) → atEnd E s p ≡ extend E s p
+  pub end-free : p .head .place .passed < chainMax → (search s 1 ≡ 0 → ⊥) → atEnd E s p ≡ extend E s p
   end-free h e = extend-on E m s p (end-not-full h ∙ first-goes-on 21 _ [] (not-zero (search s 1) e))
 
 -- ---- what a change leans on

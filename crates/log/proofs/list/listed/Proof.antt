@@ -17,9 +17,11 @@ same-length c = search needs
 
 returns : tie.Need-returns
 returns c = let a = c .before .before .before .before .before .before .before .before .args in
-    let o = c .before .before .before .before .«open» in
-    (o .ensures .0, o .ensures .1,
-    rows-refused one (a .image .now) (a .scratch .now) (ap (λ (k : Opened). k .shared .blocks) (sym (o .ensures .0)) ∙ c .if1 .taken))
+    let o = c .before .before .before .before .«open» in (
+      o .ensures .0,
+      o .ensures .1,
+      rows-refused one (a .image .now) (a .scratch .now) (ap (λ (k : Opened). k .shared .blocks) (sym (o .ensures .0)) ∙ c .if1 .taken),
+    )
 
 start-requires : tie.Need-start-requires
 start-requires c κs = search needs

@@ -34,7 +34,8 @@ returns-2 c s table text =
     let next-index = c .before .before .next-index in
     let a = c .before .before .before .before .before .before .before .args in
     let m = memory one (a .image .now) in
-    settles-as (c .link .ensures m s table text) (link-on one m s (pointOf (a .head) table text) (le-ltb _ _ (if1 .left)) (is-zero _ (sym (next-index .ensures) ∙ c .before .if2 .taken)))
+    settles-as (c .link .ensures m s table text)
+    (link-on one m s (pointOf (a .head) table text) (le-ltb _ _ (if1 .left)) (is-zero _ (sym (next-index .ensures) ∙ c .before .if2 .taken)))
 
 give-back-requires : tie.Need-give-back-requires
 give-back-requires c κs = search needs
@@ -45,7 +46,8 @@ returns-3 c s table text =
     let next-index = c .before .before .next-index in
     let a = c .before .before .before .before .before .before .before .args in
     let m = memory one (a .image .now) in
-    settles-as (c .give-back .ensures m s table text) (lost-on one m s (pointOf (a .head) table text) (le-ltb _ _ (if1 .left)) (not-zero _ (λ e. c .before .if2 .left (next-index .ensures ∙ e))))
+    settles-as (c .give-back .ensures m s table text)
+    (lost-on one m s (pointOf (a .head) table text) (le-ltb _ _ (if1 .left)) (not-zero _ (λ e. c .before .if2 .left (next-index .ensures ∙ e))))
 
 pub extending-spec : {M : Type 1} → statement M
 extending-spec =

@@ -16,9 +16,10 @@ returns : tie.Need-returns
 returns c =
     let a = c .before .before .before .before .before .before .before .before .args in
     let e = c .before .before .before .see .ensures .0 in
-    let ne = c .before .if1 .taken in
-    (c .refused .ensures ∙ read-refused one (a .image .now) (a .shared) (a .head) (a .table .now) (a .offset) (a .buffer .now) _ e ne,
-    read-untouched one (a .image .now) (a .shared) (a .head) (a .table .now) (a .offset) (a .buffer .now) _ e ne)
+    let ne = c .before .if1 .taken in (
+      c .refused .ensures ∙ read-refused one (a .image .now) (a .shared) (a .head) (a .table .now) (a .offset) (a .buffer .now) _ e ne,
+      read-untouched one (a .image .now) (a .shared) (a .head) (a .table .now) (a .offset) (a .buffer .now) _ e ne,
+    )
 
 left-requires : tie.Need-left-requires
 left-requires c κs = search needs
@@ -42,9 +43,9 @@ returns-2 c =
     let z = c .before .before .before .before .before .before .before .if1 .left in
     let n = c .before .before .before .before .before .before .left in (
       c .counted .ensures ∙ read-done one (a .image .now) (a .shared) (a .head) (a .table .now) (a .offset) (a .buffer .now) _ (see .ensures .0) z _
-      (see .ensures .1 z) _ (n .ensures),
+          (see .ensures .1 z) _ (n .ensures),
       read-filled one (a .image .now) (a .shared) (a .head) (a .table .now) (a .offset) (a .buffer .now) _ (see .ensures .0) z _ (see .ensures .1 z) _
-      (n .ensures) _ (c .before .before .before .fill .ensures),
+          (n .ensures) _ (c .before .before .before .fill .ensures),
     )
 
 pub read-lent-spec : {M : Type 1} → statement M

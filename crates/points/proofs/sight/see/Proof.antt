@@ -62,9 +62,10 @@ returns-4 c =
     let walk = ahead one (memory one (a .image .now)) (a .shared .blocks) (a .head .place) in
     let seen = look-broken one _ (a .shared .blocks) 0 0 walk (c .before .before .before .look .ensures) in
     let sound = sym seen ∙ c .before .before .if3 .left in
-    let facts = shared-facts one (a .image .now) (a .shared) (fit-shared one (a .image .now) (a .shared) (a .head) (a .table .now) fit) in
-    (sight-clear one (a .image .now) (a .shared) (a .head) (a .table .now) (a .past) fit (c .before .before .before .before .before .if2 .left) sound,
-    λ _. c .catch-up .ensures (facts .few-blocks) sound)
+    let facts = shared-facts one (a .image .now) (a .shared) (fit-shared one (a .image .now) (a .shared) (a .head) (a .table .now) fit) in (
+      sight-clear one (a .image .now) (a .shared) (a .head) (a .table .now) (a .past) fit (c .before .before .before .before .before .if2 .left) sound,
+      λ _. c .catch-up .ensures (facts .few-blocks) sound,
+    )
 
 pub see-spec : {M : Type 1} → statement M
 see-spec =

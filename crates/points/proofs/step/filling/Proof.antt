@@ -20,10 +20,13 @@ next-word-requires c κs =
     let f = ready one (a .image .now) (sharedOf (a .numbers) (a .taken .now)) (a .head) (a .table .now) (pre .0) in
     let t = f .run .text in
     let n = span-few one (a .head .write .offset) (a .head .write .size) t in
-    let w = c .run-words .ensures in
-    (t .some-text, t .few-text,
-    rw w (ready-position one (a .image .now) (sharedOf (a .numbers) (a .taken .now)) (a .head) (a .table .now) (pre .0) (pre .1)),
-    rw w (omega (arith, n .1)), w)
+    let w = c .run-words .ensures in (
+      t .some-text,
+      t .few-text,
+      rw w (ready-position one (a .image .now) (sharedOf (a .numbers) (a .taken .now)) (a .head) (a .table .now) (pre .0) (pre .1)),
+      rw w (omega (arith, n .1)),
+      w,
+    )
 
 fill-requires : tie.Need-fill-requires
 fill-requires c κs =

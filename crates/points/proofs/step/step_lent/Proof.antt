@@ -52,10 +52,10 @@ returns c =
     let p = pointOf (a .head) (a .table .now) (a .text .now) in
     let o = settle .ensures .outcome in (
       answers one m (a .numbers) (a .taken .now) plan p (c .lengthened .result) (claim .last .0) (take-in .last .1 .1 .1 .0) (keep-text .last .0)
-      (next .result) (take-in .result) (claim .ensures) (next .ensures) (take-in .ensures)
+          (next .result) (take-in .result) (claim .ensures) (next .ensures) (take-in .ensures)
           (keep-text .ensures) (c .lengthened .ensures) ∙ ap answered o,
       store .ensures ∙ ap (λ (x : Option Store). after one (a .image .now) x)
-      (sym (stored-by one m (sharedOf (a .numbers) (a .taken .now)) plan p) ∙ ap (λ (x : Outcome). x .store) o),
+          (sym (stored-by one m (sharedOf (a .numbers) (a .taken .now)) plan p) ∙ ap (λ (x : Outcome). x .store) o),
     )
 
 pub step-lent-spec : {M : Type 1} → statement M

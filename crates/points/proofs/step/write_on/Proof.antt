@@ -26,7 +26,9 @@ returns c =
     let is-zeroing = c .before .before .is-zeroing in
     let a = c .before .before .before .before .before .args in
     let m = memory one (a .image .now) in
-    settles-as (c .extending .ensures (sharedOf (a .numbers) (a .taken .now)) (a .table .now) (a .text .now)) (on-zeroing one m (sharedOf (a .numbers) (a .taken .now)) (pointOf (a .head) (a .table .now) (a .text .now)) (sym (is-zeroing .ensures) ∙ c .before .if1 .taken))
+    settles-as (c .extending .ensures (sharedOf (a .numbers) (a .taken .now)) (a .table .now) (a .text .now))
+    (on-zeroing one m (sharedOf (a .numbers) (a .taken .now)) (pointOf (a .head) (a .table .now) (a .text .now))
+    (sym (is-zeroing .ensures) ∙ c .before .if1 .taken))
 
 filling-requires : tie.Need-filling-requires
 filling-requires c κs =
@@ -38,7 +40,9 @@ returns-2 c =
     let is-zeroing = c .before .before .is-zeroing in
     let a = c .before .before .before .before .before .args in
     let m = memory one (a .image .now) in
-    settles-as (c .filling .ensures) (on-filling one m (sharedOf (a .numbers) (a .taken .now)) (pointOf (a .head) (a .table .now) (a .text .now)) (sym (is-zeroing .ensures) ∙ c .before .if1 .left))
+    settles-as (c .filling .ensures)
+    (on-filling one m (sharedOf (a .numbers) (a .taken .now)) (pointOf (a .head) (a .table .now) (a .text .now))
+    (sym (is-zeroing .ensures) ∙ c .before .if1 .left))
 
 pub write-on-spec : {M : Type 1} → statement M
 write-on-spec =
