@@ -215,3 +215,14 @@ session-between = refl
 
 between-agrees : Agree (session wide128 128)
 between-agrees = by-blocks wide128 (laidWorld wide128 8) (sessionCalls wide128) (sessionCases wide128 128) whole-between session-between
+
+whole-two : eqb (length (laidWorld two 8 .words)) (blockCount two (laidWorld two 8 .words) * 512) ≡ true
+unfolding computing
+whole-two = refl
+
+session-two : view (sessionCases two 512) (ran two (swiftOf two (laidWorld two 8)) (sessionCalls two)) ≡ true
+unfolding computing refusalIn stepWith afterIn swift ran
+session-two = refl
+
+two-agrees : Agree (session two 512)
+two-agrees = by-blocks two (laidWorld two 8) (sessionCalls two) (sessionCases two 512) whole-two session-two
