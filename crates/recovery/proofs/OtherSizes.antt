@@ -4,7 +4,7 @@
 use Prim.Native.Nat.{ℕ, zero, suc, _+_, _*_, _-_, _/_, _<_}
 use native.Mathlib.Omega.{arith}
 use native.Mathlib.Nat.{suc-mul, zero-mul}
-use mathlib.Core.Path.{_≡_, refl, sym, ap, subst, _∙_}
+use mathlib.Core.Path.{_≡_, refl, sym, ap, ap₂, subst, _∙_}
 use mathlib.Core.Bool.{Bool, true, false, not, _&&_}
 use mathlib.Core.List.{List, [], _∷_, _++_, map}
 use mathlib.Core.Option.{Option, none, some}
@@ -12,22 +12,25 @@ use lib.ListN.{length, take, drop, set, length-set, length-drop, take-append-dro
 use lib.Dec.{leb, ltb, eqb}
 use borrow.Author.Tests.{eqb-true, ltb-true}
 use Rattle.words.specs.Edition.{Edition, two, blocksMin, blocksMax}
-use Rattle.words.specs.Logic.{between, any, first, _when_, all-of, some-of}
+use Rattle.words.specs.Logic.{between, any, every, first, _when_, all-of, some-of}
 use Rattle.words.specs.Memory.{Memory, cut, memory, blockCount, Store, put, putIn, after}
 use Rattle.log.specs.declared.Shared.{Shared}
+use Rattle.points.specs.declared.Write.{Write}
 use Rattle.points.specs.declared.Head.{Head}
 use Rattle.points.specs.declared.Point.{Point}
 use Rattle.points.specs.declared.StepAnswer.the-variants.{Stored, Moved, Extending, Committed, Refused}
-use Rattle.points.specs.Record.{badShared, fits, isJoined, isIdle}
-use Rattle.points.specs.Stepping.{Outcome, refused, writeOn, stepRefusal, stepping}
+use Rattle.points.specs.Record.{badShared, headFits, tableFits, fits, isJoined, isIdle, isZeroing, runWords}
+use Rattle.points.specs.Fill.{nextWord}
+use Rattle.points.specs.Stepping.{Outcome, refused, fill, zero-out, writeOn, stepRefusal, stepping}
 use Rattle.recovery.specs.Computing.{computing}
-use Rattle.recovery.specs.World.{World, Call, join, begin, go, leave, Answer, joins, begins, steps, leaves, numbered, handed, Turn, turn, world, answers}
+use Rattle.recovery.specs.World.{World, Call, join, begin, go, leave, Answer, joins, begins, steps, leaves, numbered, handed, renewed, Turn, turn, world, answers}
 use Rattle.recovery.specs.History.{alone, finishes}
 use Rattle.recovery.specs.Sessions.{Case, Agree, code}
 use Rattle.recovery.specs.OtherSizes.{OtherSizes, wide128, wide256, laidWorld, sessionCalls, sessionCases, session, sizeCases, boundCases, loneStart, loneWorld, loneSaid, NoSooner, Tight}
 use Rattle.words.proofs.Logic.{and-left, and-right}
 use Rattle.words.proofs.Memory.{memory-put, length-memory}
-use Rattle.words.proofs.Sizes.{quot-is}
+use Rattle.points.proofs.Ways.{on-zeroing, on-filling, zero-on, fill-on}
+use Rattle.recovery.proofs.Calls.Mapping.{renewed-same, handed-newest}
 use Rattle.recovery.proofs.Computed.{same, same-sound, test, agree}
 
 -- ---- an image and its blocks
@@ -71,32 +74,30 @@ record Swung : Type 0 where
   answer : Answer
   state : Swift
 
--- the refusal of a step by how many words the image has, and the step
-unfoldable refusalIn : Edition → ℕ → Shared → Head → List ℕ → ℕ
-refusalIn E n s h table =
+-- the refusal of a step by how many words the image has, and by whether the table fits; and the step
+unfoldable refusalIn : Edition → ℕ → Bool → Shared → Head → ℕ
+refusalIn E n fit s h =
     first (10 when any (not (between blocksMin (s .blocks) blocksMax)
     ∷ not (eqb (E .blockWords * s .blocks) n)
     ∷ not (leb 1 (s .next) && ltb (s .next) (s .blocks))
     ∷ [])
-    ∷ 11 when not (fits E (s .blocks) h table)
+    ∷ 11 when not (every (headFits E (s .blocks) h ∷ fit ∷ []))
     ∷ 14 when not (isJoined s (h .number))
     ∷ 15 when isIdle (h .write .phase)
     ∷ [])
 
-unfoldable stepWith : Edition → Memory → ℕ → Shared → Point → Outcome
-stepWith E m n s p = elim (refusalIn E n s (p .head) (p .table)) [ zero ↦ writeOn E m s p | suc k ↦ refused (suc k) s p ]
+unfoldable stepIn : Edition → Memory → ℕ → Bool → Shared → Point → Outcome
+stepIn E m n fit s p = elim (refusalIn E n fit s (p .head)) [ zero ↦ writeOn E m s p | suc k ↦ refused (suc k) s p ]
 
-abbrev stepIn : Edition → Memory → Shared → Point → Outcome
-stepIn E m s p = stepWith E m (length m * E .blockWords) s p
+step-in : (E : Edition) (words : List ℕ) (s : Shared) (p : Point) → stepIn E (memory E words) (length words) (tableFits (s .blocks) (p .table)) s p ≡ stepping E words s p
+unfolding stepIn refusalIn stepping stepRefusal badShared fits
+step-in E words s p = refl
 
-step-with : (E : Edition) (words : List ℕ) (s : Shared) (p : Point) → stepWith E (memory E words) (length words) s p ≡ stepping E words s p
-unfolding stepWith refusalIn stepping stepRefusal badShared
-step-with E words s p = refl
-
-step-is : (E : Edition) (words : List ℕ) (s : Shared) (p : Point) → Whole E words → stepIn E (memory E words) s p ≡ stepping E words s p
-step-is E words s p e =
+step-is : (E : Edition) (words : List ℕ) (fit : Bool) (s : Shared) (p : Point) → Whole E words → fit ≡ tableFits (s .blocks) (p .table)
+    → stepIn E (memory E words) (length (memory E words) * E .blockWords) fit s p ≡ stepping E words s p
+step-is E words fit s p e f =
     let l : length (memory E words) * E .blockWords ≡ length words = ap (λ (n : ℕ). n * E .blockWords) (length-memory E words) ∙ sym e in
-    ap (λ (n : ℕ). stepWith E (memory E words) n s p) l ∙ step-with E words s p
+    ap₂ (λ (n : ℕ) (t : Bool). stepIn E (memory E words) n t s p) l f ∙ step-in E words s p
 
 -- the blocks after a step; a store past its block's end, of which there is none, is made in the image
 abbrev stored : Edition → Memory → Store → Bool → Memory
@@ -127,27 +128,128 @@ swung E v n o =
 abbrev kept : Swift → Turn → Swung
 kept v t = record { answer = t .answer; state = record { image = v .image; shared = t .world .shared; newest = t .world .newest } }
 
-unfoldable swift : Edition → Swift → Call → Swung
-swift E v (join n) = kept v (turn E (real v) (join n))
-swift E v (begin n p offset text) = kept v (turn E (real v) (begin n p offset text))
-swift E v (go n p) = swung E v n (stepIn E (v .image) (v .shared) (elim (isJoined (v .shared) n) [ true ↦ v .newest n | false ↦ numbered n p ]))
-swift E v (leave n p) = kept v (turn E (real v) (leave n p))
+-- The table of point n is known to fit where `known` is n + 1: then its 256 entries are not looked at again
+abbrev fitFor : ℕ → List ℕ → Bool → Bool
+fitFor blocks table true = true
+fitFor blocks table false = tableFits blocks table
+
+abbrev handedIn : Swift → ℕ → Point → Point
+handedIn v n p = elim (isJoined (v .shared) n) [ true ↦ v .newest n | false ↦ numbered n p ]
+
+abbrev fitIn : Swift → ℕ → ℕ → Point → Bool
+fitIn v known n p = fitFor (v .shared .blocks) (handedIn v n p .table) (eqb known (suc n))
+
+unfoldable swift : Edition → Swift → ℕ → Call → Swung
+swift E v known (join n) = kept v (turn E (real v) (join n))
+swift E v known (begin n p offset text) = kept v (turn E (real v) (begin n p offset text))
+swift E v known (go n p) = swung E v n (stepIn E (v .image) (length (v .image) * E .blockWords) (fitIn v known n p) (v .shared) (handedIn v n p))
+swift E v known (leave n p) = kept v (turn E (real v) (leave n p))
+
+-- a step that fills or zeroes a word
+abbrev calmBy : Bool → Edition → Write → Bool
+calmBy true E w = ltb (w .position) (E .blockWords)
+calmBy false E w = ltb (nextWord E w) (runWords E w)
+
+abbrev calm : Edition → Write → Bool
+calm E w = calmBy (isZeroing (w .phase)) E w
+
+abbrev knownIf : ℕ → Bool → ℕ
+knownIf n true = suc n
+knownIf n false = 0
+
+unfoldable knownAfter : Edition → Swift → ℕ → Call → ℕ
+knownAfter E v known (join n) = 0
+knownAfter E v known (begin n p offset text) = 0
+knownAfter E v known (go n p) = knownIf n (isJoined (v .shared) n && (calm E (handedIn v n p .head .write) && fitIn v known n p))
+knownAfter E v known (leave n p) = 0
+
+-- ---- what is known stays
+
+Known : World → ℕ → Type 0
+Known w known = (n : ℕ) → known ≡ suc n → (isJoined (w .shared) n ≡ true) × (tableFits (w .shared .blocks) (w .newest n .table) ≡ true)
+
+fit-is : (E : Edition) (w : World) (known n : ℕ) (p : Point) → Known w known
+    → fitFor (w .shared .blocks) (handed w n p .table) (eqb known (suc n)) ≡ tableFits (w .shared .blocks) (handed w n p .table)
+unfolding Known
+fit-is E w known n p k = go (eqb known (suc n)) refl
+  where
+    go : (t : Bool) → eqb known (suc n) ≡ t → fitFor (w .shared .blocks) (handed w n p .table) t ≡ tableFits (w .shared .blocks) (handed w n p .table)
+    go true h =
+        let q = k n (eqb-true known (suc n) h) in
+        sym (ap (λ (y : Point). tableFits (w .shared .blocks) (y .table)) (handed-newest w n p (q .0)) ∙ q .1)
+    go false h = refl
+
+-- an outcome that leaves the shared record and the table
+abbrev Leaves : Shared → Point → Outcome → Type 0
+Leaves s p o = (o .shared ≡ s) × (o .point .table ≡ p .table)
+
+calm-leaves : (E : Edition) (m : Memory) (s : Shared) (p : Point) → calm E (p .head .write) ≡ true → Leaves s p (writeOn E m s p)
+unfolding fill zero-out
+calm-leaves E m s p c = go (isZeroing (p .head .write .phase)) refl c
+  where
+    go : (z : Bool) → isZeroing (p .head .write .phase) ≡ z → calmBy z E (p .head .write) ≡ true → Leaves s p (writeOn E m s p)
+    go true e c = subst (Leaves s p) (sym (on-zeroing E m s p e ∙ zero-on E m s p c)) (refl, refl)
+    go false e c = subst (Leaves s p) (sym (on-filling E m s p e ∙ fill-on E m s p c)) (refl, refl)
+
+step-leaves : (E : Edition) (words : List ℕ) (s : Shared) (p : Point) → calm E (p .head .write) ≡ true → Leaves s p (stepping E words s p)
+unfolding stepping
+step-leaves E words s p c = go (stepRefusal E words s (p .head) (p .table))
+  where
+    go : (n : ℕ) → Leaves s p (elim n [ zero ↦ writeOn E (memory E words) s p | suc k ↦ refused (suc k) s p ])
+    go zero = calm-leaves E (memory E words) s p c
+    go (suc k) = (refl, refl)
+
+known-step : (E : Edition) (w : World) (n : ℕ) (p : Point) → isJoined (w .shared) n ≡ true → calm E (handed w n p .head .write) ≡ true
+    → tableFits (w .shared .blocks) (handed w n p .table) ≡ true → Known (turn E w (go n p) .world) (suc n)
+unfolding Known turn
+known-step E w n p j c f i e =
+    let y = handed w n p in
+    let o = stepping E (w .words) (w .shared) y in
+    let q = step-leaves E (w .words) (w .shared) y c in
+    let same-n : n ≡ i = omega arith in
+    subst (λ (i : ℕ). (isJoined (o .shared) i ≡ true) × (tableFits (o .shared .blocks) (renewed w n (o .point) i .table) ≡ true)) same-n
+    (ap (λ (s : Shared). isJoined s n) (q .0) ∙ j,
+    ap (λ (r : Point). tableFits (o .shared .blocks) (r .table)) (renewed-same w n (o .point))
+    ∙ ap₂ (λ (s : Shared) (t : List ℕ). tableFits (s .blocks) t) (q .0) (q .1) ∙ f)
+
+nothing-known : (w : World) → Known w 0
+unfolding Known
+nothing-known w n e = absurd (omega arith)
+
+known-after : (E : Edition) (w : World) (known : ℕ) (c : Call) → Known w known → Known (turn E w c .world) (knownAfter E (swiftOf E w) known c)
+unfolding knownAfter handed
+known-after E w known (join n) k = nothing-known _
+known-after E w known (begin n p offset text) k = nothing-known _
+known-after E w known (leave n p) k = nothing-known _
+known-after E w known (go n p) k = split (joined && (still && fit)) refl
+  where
+    joined : Bool
+    joined = isJoined (w .shared) n
+    still : Bool
+    still = calm E (handed w n p .head .write)
+    fit : Bool
+    fit = fitFor (w .shared .blocks) (handed w n p .table) (eqb known (suc n))
+    split : (t : Bool) → joined && (still && fit) ≡ t → Known (turn E w (go n p) .world) (knownIf n t)
+    split true h =
+        let r = and-right joined (still && fit) h in
+        known-step E w n p (and-left joined (still && fit) h) (and-left still fit r) (sym (fit-is E w known n p k) ∙ and-right still fit r)
+    split false h = nothing-known _
 
 abbrev swungOf : Edition → Turn → Swung
 swungOf E t = record { answer = t .answer; state = swiftOf E (t .world) }
 
-swift-is : (E : Edition) (w : World) (c : Call) → Whole E (w .words) → swift E (swiftOf E w) c ≡ swungOf E (turn E w c)
+swift-is : (E : Edition) (w : World) (known : ℕ) (c : Call) → Whole E (w .words) → Known w known → swift E (swiftOf E w) known c ≡ swungOf E (turn E w c)
 unfolding swift turn handed
-swift-is E w (join n) e = rw (flat-memory E (w .words) e)
-swift-is E w (begin n p offset text) e = rw (flat-memory E (w .words) e)
-swift-is E w (go n p) e =
+swift-is E w known (join n) e k = rw (flat-memory E (w .words) e)
+swift-is E w known (begin n p offset text) e k = rw (flat-memory E (w .words) e)
+swift-is E w known (go n p) e k =
     let o = stepping E (w .words) (w .shared) (handed w n p) in
-    ap (swung E (swiftOf E w) n) (step-is E (w .words) (w .shared) (handed w n p) e)
+    ap (swung E (swiftOf E w) n) (step-is E (w .words) (fitIn (swiftOf E w) known n p) (w .shared) (handed w n p) e (fit-is E w known n p k))
     ∙ ap (λ (m : Memory). record {
       answer = steps (o .step);
       state = record { image = m; shared = o .shared; newest = λ k. elim (eqb k n) [ true ↦ o .point | false ↦ w .newest k ] };
     }) (after-is E (w .words) (o .store) e)
-swift-is E w (leave n p) e = rw (flat-memory E (w .words) e)
+swift-is E w known (leave n p) e k = rw (flat-memory E (w .words) e)
 
 -- ---- lists of calls
 
@@ -158,9 +260,9 @@ record Ran : Type 0 where
 abbrev preceded : Answer → Ran → Ran
 preceded a r = record { answers = a ∷ r .answers; last = r .last }
 
-unfoldable ran : Edition → Swift → List Call → Ran
-ran E v [] = record { answers = []; last = v }
-ran E v (c ∷ cs) = let t = swift E v c in preceded (t .answer) (ran E (t .state) cs)
+unfoldable ran : Edition → Swift → ℕ → List Call → Ran
+ran E v known [] = record { answers = []; last = v }
+ran E v known (c ∷ cs) = let t = swift E v known c in preceded (t .answer) (ran E (t .state) (knownAfter E v known c) cs)
 
 -- no call changes the image's length
 after-length : (E : Edition) (words : List ℕ) (o : Option Store) → length (after E words o) ≡ length words
@@ -183,46 +285,39 @@ unfolding world
 world-whole E w [] e = e
 world-whole E w (c ∷ cs) e = world-whole E (turn E w c .world) cs (turn-whole E w c e)
 
-ran-is : (E : Edition) (w : World) (cs : List Call) → Whole E (w .words)
-    → ran E (swiftOf E w) cs ≡ record { answers = answers E w cs; last = swiftOf E (world E w cs) }
+ran-is : (E : Edition) (w : World) (known : ℕ) (cs : List Call) → Whole E (w .words) → Known w known
+    → ran E (swiftOf E w) known cs ≡ record { answers = answers E w cs; last = swiftOf E (world E w cs) }
 unfolding ran answers world
-ran-is E w [] e = refl
-ran-is E w (c ∷ cs) e =
-    ap (λ (t : Swung). preceded (t .answer) (ran E (t .state) cs)) (swift-is E w c e)
-    ∙ ap (preceded (turn E w c .answer)) (ran-is E (turn E w c .world) cs (turn-whole E w c e))
+ran-is E w known [] e k = refl
+ran-is E w known (c ∷ cs) e k =
+    let next = knownAfter E (swiftOf E w) known c in
+    ap (λ (t : Swung). preceded (t .answer) (ran E (t .state) next cs)) (swift-is E w known c e k)
+    ∙ ap (preceded (turn E w c .answer)) (ran-is E (turn E w c .world) next cs (turn-whole E w c e) (known-after E w known c k))
 
 -- what is tested of the answers and the world of the blocks holds of those of the definitions
 abbrev view : (List Answer → World → List Case) → Ran → Bool
 view P r = test (P (r .answers) (real (r .last)))
 
-by-blocks : (E : Edition) (w : World) (cs : List Call) (P : List Answer → World → List Case) → eqb (length (w .words)) (blockCount E (w .words) * E .blockWords) ≡ true
-    → view P (ran E (swiftOf E w) cs) ≡ true → Agree (P (answers E w cs) (world E w cs))
+abbrev whole : Edition → World → Bool
+whole E w = eqb (length (w .words)) (blockCount E (w .words) * E .blockWords)
+
+by-blocks : (E : Edition) (w : World) (cs : List Call) (P : List Answer → World → List Case)
+    → whole E w ≡ true → view P (ran E (swiftOf E w) 0 cs) ≡ true → Agree (P (answers E w cs) (world E w cs))
 by-blocks E w cs P t h =
     let e : Whole E (w .words) = eqb-true (length (w .words)) (blockCount E (w .words) * E .blockWords) t in
-    let f : test (P (answers E w cs) (real (swiftOf E (world E w cs)))) ≡ true = subst (λ (r : Ran). view P r ≡ true) (ran-is E w cs e) h in
+    let f : test (P (answers E w cs) (real (swiftOf E (world E w cs)))) ≡ true = subst (λ (r : Ran). view P r ≡ true) (ran-is E w 0 cs e (nothing-known w)) h in
     agree (P (answers E w cs) (world E w cs))
     (subst (λ (v : World). test (P (answers E w cs) v) ≡ true) (real-of E (world E w cs) (world-whole E w cs e)) f)
 
 -- ---- the sessions
 
-whole-between : eqb (length (laidWorld wide128 8 .words)) (blockCount wide128 (laidWorld wide128 8 .words) * 128) ≡ true
+whole-between : whole wide128 (laidWorld wide128 8) ≡ true
 unfolding computing
 whole-between = refl
 
-session-between : view (sessionCases wide128 128) (ran wide128 (swiftOf wide128 (laidWorld wide128 8)) (sessionCalls wide128)) ≡ true
-unfolding computing refusalIn stepWith afterIn swift ran
+session-between : view (sessionCases wide128 128) (ran wide128 (swiftOf wide128 (laidWorld wide128 8)) 0 (sessionCalls wide128)) ≡ true
+unfolding computing refusalIn stepIn afterIn swift knownAfter ran
 session-between = refl
 
 between-agrees : Agree (session wide128 128)
 between-agrees = by-blocks wide128 (laidWorld wide128 8) (sessionCalls wide128) (sessionCases wide128 128) whole-between session-between
-
-whole-two : eqb (length (laidWorld two 8 .words)) (blockCount two (laidWorld two 8 .words) * 512) ≡ true
-unfolding computing
-whole-two = refl
-
-session-two : view (sessionCases two 512) (ran two (swiftOf two (laidWorld two 8)) (sessionCalls two)) ≡ true
-unfolding computing refusalIn stepWith afterIn swift ran
-session-two = refl
-
-two-agrees : Agree (session two 512)
-two-agrees = by-blocks two (laidWorld two 8) (sessionCalls two) (sessionCases two 512) whole-two session-two
