@@ -25,8 +25,9 @@ use Rattle.points.specs.Stepping.{Outcome, refused, fill, zero-out, writeOn, st
 use Rattle.recovery.specs.Computing.{computing}
 use Rattle.recovery.specs.World.{World, Call, join, begin, go, leave, Answer, joins, begins, steps, leaves, numbered, handed, renewed, Turn, turn, world, answers}
 use Rattle.recovery.specs.History.{alone, finishes}
-use Rattle.recovery.specs.Sessions.{Case, Agree, code}
-use Rattle.recovery.specs.OtherSizes.{OtherSizes, wide128, wide256, laidWorld, sessionCalls, sessionCases, session, sizeCases, boundCases, loneStart, loneWorld, loneSaid, NoSooner, Tight}
+use Rattle.recovery.specs.Claim.{loneSteps}
+use Rattle.recovery.specs.Sessions.{Case, _is_, Agree, code}
+use Rattle.recovery.specs.OtherSizes.{OtherSizes, wide128, wide256, laidWorld, sessionCalls, sessionCases, reopenedCases, sessionTwo, sessionBetween, sizeCases, boundCases, loneStart, loneWorld, loneSaid, NoSooner, Tight}
 use Rattle.words.proofs.Logic.{and-left, and-right}
 use Rattle.words.proofs.Memory.{memory-put, length-memory}
 use Rattle.points.proofs.Ways.{on-zeroing, on-filling, zero-on, fill-on}
@@ -315,9 +316,40 @@ whole-between : whole wide128 (laidWorld wide128 8) ≡ true
 unfolding computing
 whole-between = refl
 
-session-between : view (sessionCases wide128 128) (ran wide128 (swiftOf wide128 (laidWorld wide128 8)) 0 (sessionCalls wide128)) ≡ true
+session-between : view (reopenedCases wide128 128) (ran wide128 (swiftOf wide128 (laidWorld wide128 8)) 0 (sessionCalls wide128)) ≡ true
 unfolding computing refusalIn stepIn afterIn swift knownAfter ran
 session-between = refl
 
-between-agrees : Agree (session wide128 128)
-between-agrees = by-blocks wide128 (laidWorld wide128 8) (sessionCalls wide128) (sessionCases wide128 128) whole-between session-between
+whole-two : whole two (laidWorld two 8) ≡ true
+unfolding computing
+whole-two = refl
+
+session-two : view (sessionCases two 512) (ran two (swiftOf two (laidWorld two 8)) 0 (sessionCalls two)) ≡ true
+unfolding computing refusalIn stepIn afterIn swift knownAfter ran
+session-two = refl
+
+-- ---- refusals, and the bound's values
+
+sizes : test sizeCases ≡ true
+unfolding computing
+sizes = refl
+
+bounds : test boundCases ≡ true
+unfolding computing
+bounds = refl
+
+-- ---- the bound of the lone write
+
+abbrev loneCase : ℕ → List Answer → World → List Case
+loneCase W told w = (map code told is loneSaid W) ∷ []
+
+abbrev loneRan : Edition → Ran
+loneRan E = ran E (swiftOf E (loneWorld E)) 0 (loneStart E ++ alone 1 (loneSteps E))
+
+whole-lone : whole two (loneWorld two) ≡ true
+unfolding computing
+whole-lone = refl
+
+lone-two : view (loneCase 512) (loneRan two) ≡ true
+unfolding computing refusalIn stepIn afterIn swift knownAfter ran
+lone-two = refl

@@ -12,7 +12,7 @@ use Rattle.words.specs.BlockMap.{freeCount}
 use Rattle.log.specs.declared.Shared.{Shared}
 use Rattle.log.specs.Entry.{entryOf, entryV, entryB, entryN, entryU, entryPoint, entryRest}
 use Rattle.log.specs.Chain.{log}
-use Rattle.log.specs.Opening.{layoutRefusal, layout, openRefusal, opened, openedFile}
+use Rattle.log.specs.Opening.{numberOf, layoutRefusal, layout, openRefusal, fileOf, opened, openedFile}
 use Rattle.points.specs.declared.Head.{Head}
 use Rattle.points.specs.Record.{noPoint, noWrite, noTable}
 use Rattle.points.specs.Calls.{leaveRefusal}
@@ -71,15 +71,28 @@ sessionCases E W told w =
     ∷ (fields E 0x00200A0200020000 ++ fields E 0x0040180100040001 is 0 ∷ 2 ∷ 2 ∷ 10 ∷ 1 ∷ 0 ∷ 1 ∷ 4 ∷ 1 ∷ 24 ∷ 2 ∷ 0 ∷ [])
     -- both texts, with bytes 10 and 11 of virtual block 1 between them
     ∷ (openedFile E (w .words) is replicate (8 * W - 10) 0 ++ firstText ++ (0 ∷ 0 ∷ []) ++ secondText)
-    -- the length; two entries; block 3 is free again: the map has what opening would find
-    ∷ (let o = opened E (w .words) enough in (o .length ∷ o .entries ∷ o .free ∷ freeCount (w .shared .taken) 8 ∷ w .shared .next ∷ [] is (8 * W + 24) ∷ 2 ∷ 4 ∷ 4 ∷ 5 ∷ []))
+    -- the length; block 3 is free again in the map
+    ∷ (fileOf E (memory E (w .words)) .size ∷ freeCount (w .shared .taken) 8 ∷ w .shared .next ∷ [] is (8 * W + 24) ∷ 4 ∷ 5 ∷ [])
     -- block 4: bytes 11 to 18 of point 1's text, copied; its 19 and 20, two zeros, 101 to 104; 105 to 112, point 2's alone
     ∷ (wordAt (memory E (w .words)) 4 0 ∷ wordAt (memory E (w .words)) 4 1 ∷ wordAt (memory E (w .words)) 4 2 ∷ wordAt (memory E (w .words)) 4 3 ∷ []
         is 0x1211100F0E0D0C0B ∷ 0x6867666500001413 ∷ 0x706F6E6D6C6B6A69 ∷ 0 ∷ [])
     ∷ []
 
-abbrev pub session : Edition → ℕ → List Case
-session E W = sessionCases E W (answers E (laidWorld E 8) (sessionCalls E)) (world E (laidWorld E 8) (sessionCalls E))
+-- and what opening answers then: the length, two entries, as many free blocks as the map has
+abbrev pub reopenedCases : Edition → ℕ → List Answer → World → List Case
+reopenedCases E W told w =
+    (let o = opened E (w .words) enough in (numberOf (o .reply) ∷ o .length ∷ o .entries ∷ o .free ∷ [] is 0 ∷ (8 * W + 24) ∷ 2 ∷ 4 ∷ []))
+    ∷ sessionCases E W told w
+
+abbrev pub sessionAt : Edition → (List Answer → World → List Case) → List Case
+sessionAt E said = said (answers E (laidWorld E 8) (sessionCalls E)) (world E (laidWorld E 8) (sessionCalls E))
+
+-- (4,096 bytes of a block are many to the checker: opening is asked at the smaller size alone)
+abbrev pub sessionTwo : List Case
+sessionTwo = sessionAt two (sessionCases two 512)
+
+abbrev pub sessionBetween : List Case
+sessionBetween = sessionAt wide128 (reopenedCases wide128 128)
 
 -- ---- refusals follow the edition
 
@@ -153,4 +166,4 @@ boundCases = (loneSteps one ∷ loneSteps wide128 ∷ loneSteps wide256 ∷ lone
 
 unfoldable pub OtherSizes : Type 0
 OtherSizes =
-    Agree (session two 512) × Agree (session wide128 128) × Agree sizeCases × Agree boundCases × Tight wide128 128 × Tight wide256 256 × Tight two 512
+    Agree sessionTwo × Agree sessionBetween × Agree sizeCases × Agree boundCases × Tight wide128 128 × Tight wide256 256 × Tight two 512
