@@ -5,7 +5,7 @@ use Prim.Native.Nat.{ℕ, zero, suc, _+_, _*_, _-_, _/_, _<_}
 use native.Mathlib.Omega.{arith}
 use native.Mathlib.Nat.{suc-mul, zero-mul}
 use mathlib.Core.Path.{_≡_, refl, sym, ap, ap₂, subst, _∙_}
-use mathlib.Core.Bool.{Bool, true, false, not, _&&_}
+use mathlib.Core.Bool.{Bool, true, false, not, _&&_, _||_}
 use mathlib.Core.List.{List, [], _∷_, _++_, map}
 use mathlib.Core.Option.{Option, none, some}
 use lib.ListN.{length, take, drop, set, length-set, length-drop, take-append-drop}
@@ -19,7 +19,7 @@ use Rattle.points.specs.declared.Write.{Write}
 use Rattle.points.specs.declared.Head.{Head}
 use Rattle.points.specs.declared.Point.{Point}
 use Rattle.points.specs.declared.StepAnswer.the-variants.{Stored, Moved, Extending, Committed, Refused}
-use Rattle.points.specs.Record.{badShared, headFits, tableFits, fits, isJoined, isIdle, isZeroing, runWords}
+use Rattle.points.specs.Record.{badShared, headFits, tableFits, fits, isJoined, isIdle, isZeroing, runWords, noPoint}
 use Rattle.points.specs.Fill.{nextWord}
 use Rattle.points.specs.Stepping.{Outcome, refused, fill, zero-out, writeOn, stepRefusal, stepping}
 use Rattle.recovery.specs.Computing.{computing}
@@ -340,11 +340,57 @@ bounds = refl
 
 -- ---- the bound of the lone write
 
+-- an answer whose number is below that of Committed finishes no write
+unfinished : (a : Answer) → code a < 400000 → finishes a ≡ false
+unfinished (joins r) h = refl
+unfinished (begins r) h = refl
+unfinished (leaves r) h = refl
+unfinished (steps Stored) h = refl
+unfinished (steps Moved) h = refl
+unfinished (steps Extending) h = refl
+unfinished (steps (Committed n)) h = absurd (omega arith)
+unfinished (steps (Refused n)) h = absurd (omega arith)
+
+abbrev low : List ℕ → Bool
+low = all-of (λ x. ltb x 400000)
+
+-- n steps finish no write, if n + 1 steps give n such numbers first
+module _ (E : Edition) (p : ℕ) where
+  not-yet : (n : ℕ) (w : World) → low (take n (map code (answers E w (alone p (suc n))))) ≡ true → some-of finishes (answers E w (alone p n)) ≡ false
+  unfolding answers
+  not-yet zero w h = refl
+  not-yet (suc n) w h =
+      let t = turn E w (go p noPoint) in
+      let rest = take n (map code (answers E (t .world) (alone p (suc n)))) in
+      let a : finishes (t .answer) ≡ false = unfinished (t .answer) (ltb-true (code (t .answer)) 400000 (and-left (ltb (code (t .answer)) 400000) (low rest) h)) in
+      let b : some-of finishes (answers E (t .world) (alone p n)) ≡ false = not-yet n (t .world) (and-right (ltb (code (t .answer)) 400000) (low rest) h) in
+      ap₂ _||_ a b
+
+  no-sooner : (cs : List Call) (n : ℕ) (w : World) → low (take n (drop (length cs) (map code (answers E w (cs ++ alone p (suc n)))))) ≡ true
+      → some-of finishes (answers E (world E w cs) (alone p n)) ≡ false
+  unfolding answers world
+  no-sooner [] n w h = not-yet n w h
+  no-sooner (c ∷ cs) n w h = no-sooner cs n (turn E w c .world) h
+
 abbrev loneCase : ℕ → List Answer → World → List Case
 loneCase W told w = (map code told is loneSaid W) ∷ []
 
 abbrev loneRan : Edition → Ran
 loneRan E = ran E (swiftOf E (loneWorld E)) 0 (loneStart E ++ alone 1 (loneSteps E))
+
+tight : (E : Edition) (W n : ℕ) → loneSteps E ≡ suc n → low (take n (drop (length (loneStart E)) (loneSaid W))) ≡ true
+    → whole E (loneWorld E) ≡ true → view (loneCase W) (loneRan E) ≡ true → Tight E W
+tight E W n e l t h =
+    let q : map code (answers E (loneWorld E) (loneStart E ++ alone 1 (loneSteps E))) ≡ loneSaid W
+          = by-blocks E (loneWorld E) (loneStart E ++ alone 1 (loneSteps E)) (loneCase W) t h .0 in
+    let r : map code (answers E (loneWorld E) (loneStart E ++ alone 1 (suc n))) ≡ loneSaid W
+          = subst (λ (k : ℕ). map code (answers E (loneWorld E) (loneStart E ++ alone 1 k)) ≡ loneSaid W) e q in
+    let m : n ≡ loneSteps E - 1 = omega (arith, e) in
+    (q, subst (λ (k : ℕ). some-of finishes (answers E (world E (loneWorld E) (loneStart E)) (alone 1 k)) ≡ false) m
+    (no-sooner E 1 (loneStart E) n (loneWorld E) (subst (λ (xs : List ℕ). low (take n (drop (length (loneStart E)) xs)) ≡ true) (sym r) l)))
+
+lone-start : low (take 2563 (drop (length (loneStart two)) (loneSaid 512))) ≡ true
+lone-start = refl
 
 whole-lone : whole two (loneWorld two) ≡ true
 unfolding computing
@@ -353,3 +399,15 @@ whole-lone = refl
 lone-two : view (loneCase 512) (loneRan two) ≡ true
 unfolding computing refusalIn stepIn afterIn swift knownAfter ran
 lone-two = refl
+
+tight-two : Tight two 512
+tight-two = tight two 512 2563 refl lone-start whole-lone lone-two
+
+-- ---- all of them
+
+pub other-sizes : OtherSizes
+unfolding OtherSizes
+other-sizes =
+    (by-blocks two (laidWorld two 8) (sessionCalls two) (sessionCases two 512) whole-two session-two,
+    by-blocks wide128 (laidWorld wide128 8) (sessionCalls wide128) (reopenedCases wide128 128) whole-between session-between,
+    agree sizeCases sizes, agree boundCases bounds, tight-two)

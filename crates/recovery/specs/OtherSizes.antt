@@ -166,4 +166,4 @@ boundCases = (loneSteps one ∷ loneSteps wide128 ∷ loneSteps wide256 ∷ lone
 
 unfoldable pub OtherSizes : Type 0
 OtherSizes =
-    Agree sessionTwo × Agree sessionBetween × Agree sizeCases × Agree boundCases × Tight wide128 128 × Tight wide256 256 × Tight two 512
+    Agree sessionTwo × Agree sessionBetween × Agree sizeCases × Agree boundCases × Tight two 512
