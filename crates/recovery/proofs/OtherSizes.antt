@@ -8,7 +8,7 @@ use mathlib.Core.Path.{_≡_, refl, sym, ap, ap₂, subst, _∙_}
 use mathlib.Core.Bool.{Bool, true, false, not, _&&_, _||_}
 use mathlib.Core.List.{List, [], _∷_, _++_, map}
 use mathlib.Core.Option.{Option, none, some}
-use lib.ListN.{length, take, drop, set, length-set, length-drop, take-append-drop}
+use lib.ListN.{length, take, drop, length-set, length-drop, take-append-drop}
 use lib.Dec.{leb, ltb, eqb}
 use borrow.Author.Tests.{eqb-true, ltb-true}
 use Rattle.words.specs.Edition.{Edition, two, blocksMin, blocksMax}
@@ -23,16 +23,18 @@ use Rattle.points.specs.Record.{badShared, headFits, tableFits, fits, isJoined,
 use Rattle.points.specs.Fill.{nextWord}
 use Rattle.points.specs.Stepping.{Outcome, refused, fill, zero-out, writeOn, stepRefusal, stepping}
 use Rattle.recovery.specs.Computing.{computing}
-use Rattle.recovery.specs.World.{World, Call, join, begin, go, leave, Answer, joins, begins, steps, leaves, numbered, handed, renewed, Turn, turn, world, answers}
+use Rattle.recovery.specs.World.{World, Call, join, begin, go, leave, Answer, joins, begins, steps, leaves, numbered, handed, renewed}
+use Rattle.recovery.specs.World.{Turn, turn, world, answers}
 use Rattle.recovery.specs.History.{alone, finishes}
 use Rattle.recovery.specs.Claim.{loneSteps}
 use Rattle.recovery.specs.Sessions.{Case, _is_, Agree, code}
-use Rattle.recovery.specs.OtherSizes.{OtherSizes, wide128, wide256, laidWorld, sessionCalls, sessionCases, reopenedCases, sessionTwo, sessionBetween, sizeCases, boundCases, loneStart, loneWorld, loneSaid, NoSooner, Tight}
+use Rattle.recovery.specs.OtherSizes.{OtherSizes, wide128, laidWorld, sessionCalls, sessionCases, reopenedCases, sizeCases, boundCases}
+use Rattle.recovery.specs.OtherSizes.{loneStart, loneWorld, loneSaid, Tight}
 use Rattle.words.proofs.Logic.{and-left, and-right}
 use Rattle.words.proofs.Memory.{memory-put, length-memory}
 use Rattle.points.proofs.Ways.{on-zeroing, on-filling, zero-on, fill-on}
 use Rattle.recovery.proofs.Calls.Mapping.{renewed-same, handed-newest}
-use Rattle.recovery.proofs.Computed.{same, same-sound, test, agree}
+use Rattle.recovery.proofs.Computed.{test, agree}
 
 -- ---- an image and its blocks
 
@@ -90,7 +92,8 @@ refusalIn E n fit s h =
 unfoldable stepIn : Edition → Memory → ℕ → Bool → Shared → Point → Outcome
 stepIn E m n fit s p = elim (refusalIn E n fit s (p .head)) [ zero ↦ writeOn E m s p | suc k ↦ refused (suc k) s p ]
 
-step-in : (E : Edition) (words : List ℕ) (s : Shared) (p : Point) → stepIn E (memory E words) (length words) (tableFits (s .blocks) (p .table)) s p ≡ stepping E words s p
+step-in : (E : Edition) (words : List ℕ) (s : Shared) (p : Point)
+    → stepIn E (memory E words) (length words) (tableFits (s .blocks) (p .table)) s p ≡ stepping E words s p
 unfolding stepIn refusalIn stepping stepRefusal badShared fits
 step-in E words s p = refl
 
@@ -254,15 +257,14 @@ swift-is E w known (leave n p) e k = rw (flat-memory E (w .words) e)
 
 -- ---- lists of calls
 
-record Ran : Type 0 where
-  answers : List Answer
-  last : Swift
+data Ran : Type 0 where
+  told-last : List Answer → Swift → Ran
 
 abbrev preceded : Answer → Ran → Ran
-preceded a r = record { answers = a ∷ r .answers; last = r .last }
+preceded a (told-last rest v) = told-last (a ∷ rest) v
 
 unfoldable ran : Edition → Swift → ℕ → List Call → Ran
-ran E v known [] = record { answers = []; last = v }
+ran E v known [] = told-last [] v
 ran E v known (c ∷ cs) = let t = swift E v known c in preceded (t .answer) (ran E (t .state) (knownAfter E v known c) cs)
 
 -- no call changes the image's length
@@ -287,7 +289,7 @@ world-whole E w [] e = e
 world-whole E w (c ∷ cs) e = world-whole E (turn E w c .world) cs (turn-whole E w c e)
 
 ran-is : (E : Edition) (w : World) (known : ℕ) (cs : List Call) → Whole E (w .words) → Known w known
-    → ran E (swiftOf E w) known cs ≡ record { answers = answers E w cs; last = swiftOf E (world E w cs) }
+    → ran E (swiftOf E w) known cs ≡ told-last (answers E w cs) (swiftOf E (world E w cs))
 unfolding ran answers world
 ran-is E w known [] e k = refl
 ran-is E w known (c ∷ cs) e k =
@@ -297,7 +299,7 @@ ran-is E w known (c ∷ cs) e k =
 
 -- what is tested of the answers and the world of the blocks holds of those of the definitions
 abbrev view : (List Answer → World → List Case) → Ran → Bool
-view P r = test (P (r .answers) (real (r .last)))
+view P (told-last told v) = test (P told (real v))
 
 abbrev whole : Edition → World → Bool
 whole E w = eqb (length (w .words)) (blockCount E (w .words) * E .blockWords)
@@ -362,7 +364,8 @@ module _ (E : Edition) (p : ℕ) where
   not-yet (suc n) w h =
       let t = turn E w (go p noPoint) in
       let rest = take n (map code (answers E (t .world) (alone p (suc n)))) in
-      let a : finishes (t .answer) ≡ false = unfinished (t .answer) (ltb-true (code (t .answer)) 400000 (and-left (ltb (code (t .answer)) 400000) (low rest) h)) in
+      let l : ltb (code (t .answer)) 400000 ≡ true = and-left (ltb (code (t .answer)) 400000) (low rest) h in
+      let a : finishes (t .answer) ≡ false = unfinished (t .answer) (ltb-true (code (t .answer)) 400000 l) in
       let b : some-of finishes (answers E (t .world) (alone p n)) ≡ false = not-yet n (t .world) (and-right (ltb (code (t .answer)) 400000) (low rest) h) in
       ap₂ _||_ a b
 

@@ -65,7 +65,8 @@ fields E e = entryV e ∷ entryB e ∷ entryN e ∷ entryU E e ∷ entryPoint E 
 abbrev pub sessionCases : Edition → ℕ → List Answer → World → List Case
 sessionCases E W told w =
     (map code told is sessionSaid W)
-    -- Point 1's entry: v 0, b 2, n 2, u 10, point 1. From the left: 1 in bits 53 to 57 is 0x0020.., 10 in bits 40 to 52 0x0A, 2 in bits 32 to 39 0x02, then b 0x0002 and v 0x0000.
+    -- Point 1's entry: v 0, b 2, n 2, u 10, point 1. From the left: 1 in bits 53 to 57 is 0x0020.., 10 in bits 40 to 52 0x0A,
+    -- 2 in bits 32 to 39 0x02, then b 0x0002 and v 0x0000
     -- Point 2's: v 1, b 4, n 1, u 12 + 12 = 24, point 2: 0x0040.., 0x18, 0x01, 0x0004, 0x0001
     ∷ (log (memory E (w .words)) is 0x00200A0200020000 ∷ 0x0040180100040001 ∷ [])
     ∷ (fields E 0x00200A0200020000 ++ fields E 0x0040180100040001 is 0 ∷ 2 ∷ 2 ∷ 10 ∷ 1 ∷ 0 ∷ 1 ∷ 4 ∷ 1 ∷ 24 ∷ 2 ∷ 0 ∷ [])
@@ -120,9 +121,11 @@ sizeCases =
     -- 7: bit 58 is not the point's; bit 57 is
     ∷ (openRefusal two (holding two (entryOf two 0 2 1 1 31)) enough ∷ openRefusal two (holding two (entryOf two 0 2 1 1 32)) enough ∷ [] is 0 ∷ 7 ∷ [])
     -- 3: 2,048 words are 32 blocks of edition one and 4 of edition two; each opens at its own edition, and has a wrong mark at the other
-    ∷ (openRefusal one (laid one 32) enough ∷ openRefusal two (laid one 32) enough ∷ openRefusal two (laid two 4) enough ∷ openRefusal one (laid two 4) enough ∷ [] is 0 ∷ 3 ∷ 0 ∷ 3 ∷ [])
+    ∷ (openRefusal one (laid one 32) enough ∷ openRefusal two (laid one 32) enough ∷ openRefusal two (laid two 4) enough ∷ openRefusal one (laid two 4) enough ∷ []
+        is 0 ∷ 3 ∷ 0 ∷ 3 ∷ [])
     -- 1: 2,112 words are 33 blocks of edition one and no multiple of 512; 1,536 are 3 blocks
-    ∷ (openRefusal two (laid one 33) enough ∷ layoutRefusal two (replicate 2112 0) ∷ openRefusal two (replicate 1536 0) enough ∷ layoutRefusal two (replicate 1536 0) ∷ layoutRefusal one (replicate 2112 0) ∷ [] is 1 ∷ 1 ∷ 1 ∷ 1 ∷ 0 ∷ [])
+    ∷ (openRefusal two (laid one 33) enough ∷ layoutRefusal two (replicate 2112 0) ∷ openRefusal two (replicate 1536 0) enough
+        ∷ layoutRefusal two (replicate 1536 0) ∷ layoutRefusal one (replicate 2112 0) ∷ [] is 1 ∷ 1 ∷ 1 ∷ 1 ∷ 0 ∷ [])
     -- 17: a write that ends at byte 1,048,576 is taken up, one past it not; between, 262,144 and 524,288
     ∷ (codesAt two (laidWorld two 4) (join 0 ∷ begin 0 noPoint 1048575 (9 ∷ 9 ∷ []) ∷ begin 0 noPoint 1048575 (9 ∷ []) ∷ []) is done ∷ 17 ∷ done ∷ [])
     ∷ (codesAt wide128 (laidWorld wide128 4) (join 0 ∷ begin 0 noPoint 262143 (9 ∷ 9 ∷ []) ∷ begin 0 noPoint 262143 (9 ∷ []) ∷ []) is done ∷ 17 ∷ done ∷ [])
@@ -130,7 +133,8 @@ sizeCases =
     -- 10: 2,048 words are 4 blocks and not 32, at edition one 32 and not 4
     ∷ (left two 4 0 2 ∷ left two 32 0 2 ∷ left one 32 0 2 ∷ left one 4 0 2 ∷ [] is 0 ∷ 10 ∷ 0 ∷ 10 ∷ [])
     -- 11: slot 512 and length 1,048,576 fit at edition two; at edition one slot 64 and length 131,072
-    ∷ (left two 4 0 512 ∷ left two 4 0 513 ∷ left two 4 1048576 2 ∷ left two 4 1048577 2 ∷ left one 32 0 65 ∷ left one 32 131073 2 ∷ [] is 0 ∷ 11 ∷ 0 ∷ 11 ∷ 11 ∷ 11 ∷ [])
+    ∷ (left two 4 0 512 ∷ left two 4 0 513 ∷ left two 4 1048576 2 ∷ left two 4 1048577 2 ∷ left one 32 0 65 ∷ left one 32 131073 2 ∷ []
+        is 0 ∷ 11 ∷ 0 ∷ 11 ∷ 11 ∷ 11 ∷ [])
     ∷ []
 
 -- ---- the bound of the lone write is tight
