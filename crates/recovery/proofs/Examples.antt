@@ -25,7 +25,7 @@ use Rattle.recovery.proofs.Computed.{same, same-sound}
 -- ---- the bound
 
 -- both points have begun, the second has filled the log block: then the first is alone
-no-sooner : some-of finishes (answers one (world one (openWorld one nearlyFull enough) (take 197 loneCalls)) (alone 1 (loneSteps one - 1))) ≡ false
+no-sooner : some-of finishes (answers one (world one (openWorld one (nearlyFull one) enough) (take 197 loneCalls)) (alone 1 (loneSteps one - 1))) ≡ false
 unfolding computing
 no-sooner = refl
 

@@ -1,0 +1,310 @@
+-- Calls computed on the blocks. A step of the definitions counts the image's words and cuts it into blocks, and looks at the 256 entries of a table: at
+-- 4,096 words that is too much for the checker to do some thousand times. `cutTurn` is `turn` with the image cut once, and with a table that is known to fit not
+-- looked at again; `cut-run-is` says that a list of calls gives the same, `by-blocks` that cases tested on the blocks hold of the definitions.
+use Prim.Native.Nat.{ℕ, zero, suc, _+_, _*_, _-_, _/_}
+use native.Mathlib.Omega.{arith}
+use native.Mathlib.Nat.{suc-mul, zero-mul}
+use mathlib.Core.Path.{_≡_, refl, sym, ap, ap₂, subst, _∙_}
+use mathlib.Core.Bool.{Bool, true, false, not, _&&_}
+use mathlib.Core.List.{List, [], _∷_, _++_}
+use mathlib.Core.Option.{Option, none, some}
+use lib.ListN.{length, drop, length-set, length-drop, take-append-drop}
+use lib.Dec.{leb, ltb, eqb}
+use borrow.Author.Tests.{eqb-true, ltb-true}
+use Rattle.words.specs.Edition.{Edition, blocksMin, blocksMax}
+use Rattle.words.specs.Logic.{between, any, every, first, _when_}
+use Rattle.words.specs.Memory.{Memory, cut, memory, blockCount, Store, put, putIn, after}
+use Rattle.log.specs.declared.Shared.{Shared}
+use Rattle.points.specs.declared.Write.{Write}
+use Rattle.points.specs.declared.Head.{Head}
+use Rattle.points.specs.declared.Point.{Point}
+use Rattle.points.specs.Record.{badShared, headFits, tableFits, fits, isJoined, isIdle, isZeroing, runWords}
+use Rattle.points.specs.Fill.{nextWord}
+use Rattle.points.specs.Stepping.{Outcome, refused, fill, zero-out, writeOn, stepRefusal, stepping}
+use Rattle.recovery.specs.World.{World, Call, join, begin, go, leave, Answer, steps, leaves, numbered, handed, renewed, Turn, turn, world, answers}
+use Rattle.recovery.specs.Sessions.{Case, _is_, Agree}
+use Rattle.words.proofs.Logic.{and-left, and-right}
+use Rattle.words.proofs.Memory.{memory-put, length-memory}
+use Rattle.points.proofs.Ways.{on-zeroing, on-filling, zero-on, fill-on}
+use Rattle.recovery.proofs.Calls.Mapping.{renewed-same, handed-newest}
+use Rattle.recovery.proofs.Computed.{test, agree}
+
+-- ---- an image and its blocks
+
+abbrev pub flat : Memory → List ℕ
+flat [] = []
+flat (b ∷ bs) = b ++ flat bs
+
+flat-cut : (w n : ℕ) (words : List ℕ) → length words ≡ n * w → flat (cut w n words) ≡ words
+flat-cut w zero [] e = refl
+flat-cut w zero (x ∷ xs) e = absurd (omega (arith, zero-mul w))
+flat-cut w (suc n) words e =
+    let l : length (drop w words) ≡ n * w = rw length-drop (omega (arith, suc-mul n w)) in
+    rw (flat-cut w n (drop w words) l) (take-append-drop w words)
+
+-- the image is whole blocks
+abbrev pub Whole : Edition → List ℕ → Type 0
+Whole E words = length words ≡ blockCount E words * E .blockWords
+
+flat-memory : (E : Edition) (words : List ℕ) → Whole E words → flat (memory E words) ≡ words
+unfolding memory
+flat-memory E words e = flat-cut (E .blockWords) (blockCount E words) words e
+
+-- ---- a turn on the blocks
+
+pub record CutWorld : Type 0 where
+  pub image : Memory
+  pub shared : Shared
+  pub newest : ℕ → Point
+
+abbrev pub cutWorld : Edition → World → CutWorld
+cutWorld E w = record { image = memory E (w .words); shared = w .shared; newest = w .newest }
+
+abbrev pub uncut : CutWorld → World
+uncut v = record { words = flat (v .image); shared = v .shared; newest = v .newest }
+
+uncut-cut : (E : Edition) (w : World) → Whole E (w .words) → uncut (cutWorld E w) ≡ w
+uncut-cut E w e = ap (λ (words : List ℕ). record { words = words; shared = w .shared; newest = w .newest }) (flat-memory E (w .words) e)
+
+pub record CutTurn : Type 0 where
+  pub answer : Answer
+  pub state : CutWorld
+
+-- the refusal of a step by how many words the image has, and by whether the table fits; and the step
+unfoldable pub refusalIn : Edition → ℕ → Bool → Shared → Head → ℕ
+refusalIn E n fit s h =
+    first (10 when any (not (between blocksMin (s .blocks) blocksMax)
+    ∷ not (eqb (E .blockWords * s .blocks) n)
+    ∷ not (leb 1 (s .next) && ltb (s .next) (s .blocks))
+    ∷ [])
+    ∷ 11 when not (every (headFits E (s .blocks) h ∷ fit ∷ []))
+    ∷ 14 when not (isJoined s (h .number))
+    ∷ 15 when isIdle (h .write .phase)
+    ∷ [])
+
+unfoldable pub stepIn : Edition → Memory → ℕ → Bool → Shared → Point → Outcome
+stepIn E m n fit s p = elim (refusalIn E n fit s (p .head)) [ zero ↦ writeOn E m s p | suc k ↦ refused (suc k) s p ]
+
+step-in : (E : Edition) (words : List ℕ) (s : Shared) (p : Point)
+    → stepIn E (memory E words) (length words) (tableFits (s .blocks) (p .table)) s p ≡ stepping E words s p
+unfolding stepIn refusalIn stepping stepRefusal badShared fits
+step-in E words s p = refl
+
+step-is : (E : Edition) (words : List ℕ) (fit : Bool) (s : Shared) (p : Point) → Whole E words → fit ≡ tableFits (s .blocks) (p .table)
+    → stepIn E (memory E words) (length (memory E words) * E .blockWords) fit s p ≡ stepping E words s p
+step-is E words fit s p e f =
+    let l : length (memory E words) * E .blockWords ≡ length words = ap (λ (n : ℕ). n * E .blockWords) (length-memory E words) ∙ sym e in
+    ap₂ (λ (n : ℕ) (t : Bool). stepIn E (memory E words) n t s p) l f ∙ step-in E words s p
+
+-- the blocks after a step; a store past its block's end, of which there is none, is made in the image
+abbrev pub stored : Edition → Memory → Store → Bool → Memory
+stored E m s true = putIn m s
+stored E m s false = memory E (put E (flat m) s)
+
+unfoldable pub afterIn : Edition → Memory → Option Store → Memory
+afterIn E m none = m
+afterIn E m (some s) = stored E m s (ltb (s .word) (E .blockWords))
+
+after-is : (E : Edition) (words : List ℕ) (o : Option Store) → Whole E words → afterIn E (memory E words) o ≡ memory E (after E words o)
+unfolding after afterIn
+after-is E words none e = refl
+after-is E words (some s) e = go (ltb (s .word) (E .blockWords)) refl
+  where
+    go : (t : Bool) → ltb (s .word) (E .blockWords) ≡ t → stored E (memory E words) s t ≡ memory E (put E words s)
+    go true h = sym (memory-put E words s (ltb-true (s .word) (E .blockWords) h))
+    go false h = ap (λ (xs : List ℕ). memory E (put E xs s)) (flat-memory E words e)
+
+abbrev pub stepped : Edition → CutWorld → ℕ → Outcome → CutTurn
+stepped E v n o =
+    record {
+      answer = steps (o .step);
+      state = record { image = afterIn E (v .image) (o .store); shared = o .shared; newest = λ k. elim (eqb k n) [ true ↦ o .point | false ↦ v .newest k ] };
+    }
+
+-- joining, beginning and leaving store nothing
+abbrev pub kept : CutWorld → Turn → CutTurn
+kept v t = record { answer = t .answer; state = record { image = v .image; shared = t .world .shared; newest = t .world .newest } }
+
+-- The table of point n is known to fit where `known` is n + 1: then its 256 entries are not looked at again
+abbrev pub fitFor : ℕ → List ℕ → Bool → Bool
+fitFor blocks table true = true
+fitFor blocks table false = tableFits blocks table
+
+abbrev pub handedIn : CutWorld → ℕ → Point → Point
+handedIn v n p = elim (isJoined (v .shared) n) [ true ↦ v .newest n | false ↦ numbered n p ]
+
+abbrev pub fitIn : CutWorld → ℕ → ℕ → Point → Bool
+fitIn v known n p = fitFor (v .shared .blocks) (handedIn v n p .table) (eqb known (suc n))
+
+unfoldable pub cutTurn : Edition → CutWorld → ℕ → Call → CutTurn
+cutTurn E v known (join n) = kept v (turn E (uncut v) (join n))
+cutTurn E v known (begin n p offset text) = kept v (turn E (uncut v) (begin n p offset text))
+cutTurn E v known (go n p) = stepped E v n (stepIn E (v .image) (length (v .image) * E .blockWords) (fitIn v known n p) (v .shared) (handedIn v n p))
+cutTurn E v known (leave n p) = kept v (turn E (uncut v) (leave n p))
+
+-- a step that fills or zeroes a word
+abbrev pub storesBy : Bool → Edition → Write → Bool
+storesBy true E w = ltb (w .position) (E .blockWords)
+storesBy false E w = ltb (nextWord E w) (runWords E w)
+
+abbrev pub stores : Edition → Write → Bool
+stores E w = storesBy (isZeroing (w .phase)) E w
+
+abbrev pub knownIf : ℕ → Bool → ℕ
+knownIf n true = suc n
+knownIf n false = 0
+
+unfoldable pub knownAfter : Edition → CutWorld → ℕ → Call → ℕ
+knownAfter E v known (join n) = 0
+knownAfter E v known (begin n p offset text) = 0
+knownAfter E v known (go n p) = knownIf n (isJoined (v .shared) n && (stores E (handedIn v n p .head .write) && fitIn v known n p))
+knownAfter E v known (leave n p) = 0
+
+-- ---- what is known stays
+
+Known : World → ℕ → Type 0
+Known w known = (n : ℕ) → known ≡ suc n → (isJoined (w .shared) n ≡ true) × (tableFits (w .shared .blocks) (w .newest n .table) ≡ true)
+
+fit-is : (E : Edition) (w : World) (known n : ℕ) (p : Point) → Known w known
+    → fitFor (w .shared .blocks) (handed w n p .table) (eqb known (suc n)) ≡ tableFits (w .shared .blocks) (handed w n p .table)
+unfolding Known
+fit-is E w known n p k = go (eqb known (suc n)) refl
+  where
+    go : (t : Bool) → eqb known (suc n) ≡ t → fitFor (w .shared .blocks) (handed w n p .table) t ≡ tableFits (w .shared .blocks) (handed w n p .table)
+    go true h =
+        let q = k n (eqb-true known (suc n) h) in
+        sym (ap (λ (y : Point). tableFits (w .shared .blocks) (y .table)) (handed-newest w n p (q .0)) ∙ q .1)
+    go false h = refl
+
+-- an outcome that leaves the shared record and the table
+abbrev pub Leaves : Shared → Point → Outcome → Type 0
+Leaves s p o = (o .shared ≡ s) × (o .point .table ≡ p .table)
+
+fill-leaves : (E : Edition) (m : Memory) (s : Shared) (p : Point) → stores E (p .head .write) ≡ true → Leaves s p (writeOn E m s p)
+unfolding fill zero-out
+fill-leaves E m s p c = go (isZeroing (p .head .write .phase)) refl c
+  where
+    go : (z : Bool) → isZeroing (p .head .write .phase) ≡ z → storesBy z E (p .head .write) ≡ true → Leaves s p (writeOn E m s p)
+    go true e c = subst (Leaves s p) (sym (on-zeroing E m s p e ∙ zero-on E m s p c)) (refl, refl)
+    go false e c = subst (Leaves s p) (sym (on-filling E m s p e ∙ fill-on E m s p c)) (refl, refl)
+
+step-leaves : (E : Edition) (words : List ℕ) (s : Shared) (p : Point) → stores E (p .head .write) ≡ true → Leaves s p (stepping E words s p)
+unfolding stepping
+step-leaves E words s p c = go (stepRefusal E words s (p .head) (p .table))
+  where
+    go : (n : ℕ) → Leaves s p (elim n [ zero ↦ writeOn E (memory E words) s p | suc k ↦ refused (suc k) s p ])
+    go zero = fill-leaves E (memory E words) s p c
+    go (suc k) = (refl, refl)
+
+known-step : (E : Edition) (w : World) (n : ℕ) (p : Point) → isJoined (w .shared) n ≡ true → stores E (handed w n p .head .write) ≡ true
+    → tableFits (w .shared .blocks) (handed w n p .table) ≡ true → Known (turn E w (go n p) .world) (suc n)
+unfolding Known turn
+known-step E w n p j c f i e =
+    let y = handed w n p in
+    let o = stepping E (w .words) (w .shared) y in
+    let q = step-leaves E (w .words) (w .shared) y c in
+    let same-n : n ≡ i = omega arith in
+    subst (λ (i : ℕ). (isJoined (o .shared) i ≡ true) × (tableFits (o .shared .blocks) (renewed w n (o .point) i .table) ≡ true)) same-n (
+      ap (λ (s : Shared). isJoined s n) (q .0) ∙ j,
+      ap (λ (r : Point). tableFits (o .shared .blocks) (r .table)) (renewed-same w n (o .point))
+          ∙ ap₂ (λ (s : Shared) (t : List ℕ). tableFits (s .blocks) t) (q .0) (q .1) ∙ f,
+    )
+
+nothing-known : (w : World) → Known w 0
+unfolding Known
+nothing-known w n e = absurd (omega arith)
+
+known-after : (E : Edition) (w : World) (known : ℕ) (c : Call) → Known w known → Known (turn E w c .world) (knownAfter E (cutWorld E w) known c)
+unfolding knownAfter handed
+known-after E w known (join n) k = nothing-known _
+known-after E w known (begin n p offset text) k = nothing-known _
+known-after E w known (leave n p) k = nothing-known _
+known-after E w known (go n p) k = split (joined && (still && fit)) refl
+  where
+    joined : Bool
+    joined = isJoined (w .shared) n
+
+    still : Bool
+    still = stores E (handed w n p .head .write)
+
+    fit : Bool
+    fit = fitFor (w .shared .blocks) (handed w n p .table) (eqb known (suc n))
+
+    split : (t : Bool) → joined && (still && fit) ≡ t → Known (turn E w (go n p) .world) (knownIf n t)
+    split true h =
+        let r = and-right joined (still && fit) h in
+        known-step E w n p (and-left joined (still && fit) h) (and-left still fit r) (sym (fit-is E w known n p k) ∙ and-right still fit r)
+    split false h = nothing-known _
+
+abbrev pub cutTurnOf : Edition → Turn → CutTurn
+cutTurnOf E t = record { answer = t .answer; state = cutWorld E (t .world) }
+
+cut-turn-is : (E : Edition) (w : World) (known : ℕ) (c : Call) → Whole E (w .words) → Known w known → cutTurn E (cutWorld E w) known c ≡ cutTurnOf E (turn E w c)
+unfolding cutTurn turn handed
+cut-turn-is E w known (join n) e k = rw (flat-memory E (w .words) e)
+cut-turn-is E w known (begin n p offset text) e k = rw (flat-memory E (w .words) e)
+cut-turn-is E w known (go n p) e k =
+    let o = stepping E (w .words) (w .shared) (handed w n p) in
+    ap (stepped E (cutWorld E w) n) (step-is E (w .words) (fitIn (cutWorld E w) known n p) (w .shared) (handed w n p) e (fit-is E w known n p k))
+    ∙ ap (λ (m : Memory). record {
+      answer = steps (o .step);
+      state = record { image = m; shared = o .shared; newest = λ k. elim (eqb k n) [ true ↦ o .point | false ↦ w .newest k ] };
+    }) (after-is E (w .words) (o .store) e)
+cut-turn-is E w known (leave n p) e k = rw (flat-memory E (w .words) e)
+
+-- ---- lists of calls
+
+pub data CutRun : Type 0 where
+  answered : List Answer → CutWorld → CutRun
+
+abbrev pub preceded : Answer → CutRun → CutRun
+preceded a (answered rest v) = answered (a ∷ rest) v
+
+unfoldable pub cutRun : Edition → CutWorld → ℕ → List Call → CutRun
+cutRun E v known [] = answered [] v
+cutRun E v known (c ∷ cs) = let t = cutTurn E v known c in preceded (t .answer) (cutRun E (t .state) (knownAfter E v known c) cs)
+
+-- no call changes the image's length
+after-length : (E : Edition) (words : List ℕ) (o : Option Store) → length (after E words o) ≡ length words
+unfolding after
+after-length E words none = refl
+after-length E words (some s) = length-set words (s .block * E .blockWords + s .word) (s .value)
+
+turn-length : (E : Edition) (w : World) (c : Call) → length (turn E w c .world .words) ≡ length (w .words)
+unfolding turn
+turn-length E w (join n) = refl
+turn-length E w (begin n p offset text) = refl
+turn-length E w (go n p) = after-length E (w .words) (stepping E (w .words) (w .shared) (handed w n p) .store)
+turn-length E w (leave n p) = refl
+
+turn-whole : (E : Edition) (w : World) (c : Call) → Whole E (w .words) → Whole E (turn E w c .world .words)
+turn-whole E w c e = subst (λ (n : ℕ). n ≡ n / E .blockWords * E .blockWords) (sym (turn-length E w c)) e
+
+world-whole : (E : Edition) (w : World) (cs : List Call) → Whole E (w .words) → Whole E (world E w cs .words)
+unfolding world
+world-whole E w [] e = e
+world-whole E w (c ∷ cs) e = world-whole E (turn E w c .world) cs (turn-whole E w c e)
+
+cut-run-is : (E : Edition) (w : World) (known : ℕ) (cs : List Call) → Whole E (w .words) → Known w known
+    → cutRun E (cutWorld E w) known cs ≡ answered (answers E w cs) (cutWorld E (world E w cs))
+unfolding cutRun answers world
+cut-run-is E w known [] e k = refl
+cut-run-is E w known (c ∷ cs) e k =
+    let next = knownAfter E (cutWorld E w) known c in
+    ap (λ (t : CutTurn). preceded (t .answer) (cutRun E (t .state) next cs)) (cut-turn-is E w known c e k)
+    ∙ ap (preceded (turn E w c .answer)) (cut-run-is E (turn E w c .world) next cs (turn-whole E w c e) (known-after E w known c k))
+
+-- what is tested of the answers and the world of the blocks holds of those of the definitions
+abbrev pub tested : (List Answer → World → List Case) → CutRun → Bool
+tested P (answered told v) = test (P told (uncut v))
+
+abbrev pub whole : Edition → World → Bool
+whole E w = eqb (length (w .words)) (blockCount E (w .words) * E .blockWords)
+
+pub by-blocks : (E : Edition) (w : World) (cs : List Call) (P : List Answer → World → List Case)
+    → whole E w ≡ true → tested P (cutRun E (cutWorld E w) 0 cs) ≡ true → Agree (P (answers E w cs) (world E w cs))
+by-blocks E w cs P t h =
+    let e : Whole E (w .words) = eqb-true (length (w .words)) (blockCount E (w .words) * E .blockWords) t in
+    let f : test (P (answers E w cs) (uncut (cutWorld E (world E w cs)))) ≡ true = subst (λ (r : CutRun). tested P r ≡ true) (cut-run-is E w 0 cs e (nothing-known w)) h in
+    agree (P (answers E w cs) (world E w cs))
+    (subst (λ (v : World). test (P (answers E w cs) v) ≡ true) (uncut-cut E (world E w cs) (world-whole E w cs e)) f)
