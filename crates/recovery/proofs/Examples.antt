@@ -1,33 +1,26 @@
 -- The claims at small histories that are computed: each says in numbers what a claim says there, so that a claim with another meaning is refused
--- by its value. `no-sooner`: 387 steps are not enough, so 388 is the least bound. `order-seen`: the old entry stands before the new one.
+-- by its value (the bound of the lone write: OtherSizes, `Tight`). `order-seen`: the old entry stands before the new one.
 -- `zeroing-held`, `left-free`: the map against the holdings while a log block is being zeroed, and after its point has left.
 use Prim.Native.Nat.{ℕ, _-_}
 use mathlib.Core.Path.{_≡_, refl, _∙_}
-use mathlib.Core.Bool.{true, false}
+use mathlib.Core.Bool.{true}
 use mathlib.Core.List.{List, [], _∷_, _++_}
-use lib.ListN.{take, replicate}
+use lib.ListN.{replicate}
 use Rattle.words.specs.Edition.{one}
-use Rattle.words.specs.Logic.{some-of, listFrom, one-if, member}
+use Rattle.words.specs.Logic.{listFrom, one-if, member}
 use Rattle.words.specs.Memory.{memory}
 use Rattle.words.specs.BlockMap.{taken}
 use Rattle.log.specs.Chain.{log}
 use Rattle.log.specs.Entry.{entryOf}
 use Rattle.points.specs.Record.{noPoint}
 use Rattle.recovery.specs.Computing.{computing}
-use Rattle.recovery.specs.World.{World, Call, join, begin, leave, world, answers}
+use Rattle.recovery.specs.World.{World, Call, join, begin, leave, world}
 use Rattle.recovery.specs.Holdings.{holdings}
-use Rattle.recovery.specs.History.{History, enough, openWorld, alone, atCut, finishes}
-use Rattle.recovery.specs.Claim.{loneSteps, LogOrder}
+use Rattle.recovery.specs.History.{History, enough, openWorld, alone, atCut}
+use Rattle.recovery.specs.Claim.{LogOrder}
 use Rattle.recovery.specs.Sessions.{eight}
-use Rattle.recovery.specs.MoreSessions.{full, nearlyFull, loneCalls}
+use Rattle.recovery.specs.MoreSessions.{full}
 use Rattle.recovery.proofs.Computed.{same, same-sound}
-
--- ---- the bound
-
--- both points have begun, the second has filled the log block: then the first is alone
-no-sooner : some-of finishes (answers one (world one (openWorld one (nearlyFull one) enough) (take 197 loneCalls)) (alone 1 (loneSteps one - 1))) ≡ false
-unfolding computing
-no-sooner = refl
 
 -- ---- the log's order
 

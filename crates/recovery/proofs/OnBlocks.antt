@@ -1,5 +1,5 @@
--- Calls computed on the blocks. A step of the definitions counts the image's words and cuts it into blocks, and looks at the 256 entries of a table: at
--- 4,096 words that is too much for the checker to do some thousand times. `cutTurn` is `turn` with the image cut once, and with a table that is known to fit not
+-- Calls computed on the blocks. A step of the definitions counts the image's words, cuts it into blocks and looks at the 256 entries of a table: with 4,096
+-- words that is too much for the checker to do some thousand times. `cutTurn` is `turn` with the image cut once, and with a table that is known to fit not
 -- looked at again; `cut-run-is` says that a list of calls gives the same, `by-blocks` that cases tested on the blocks hold of the definitions.
 use Prim.Native.Nat.{ℕ, zero, suc, _+_, _*_, _-_, _/_}
 use native.Mathlib.Omega.{arith}
@@ -21,8 +21,8 @@ use Rattle.points.specs.declared.Point.{Point}
 use Rattle.points.specs.Record.{badShared, headFits, tableFits, fits, isJoined, isIdle, isZeroing, runWords}
 use Rattle.points.specs.Fill.{nextWord}
 use Rattle.points.specs.Stepping.{Outcome, refused, fill, zero-out, writeOn, stepRefusal, stepping}
-use Rattle.recovery.specs.World.{World, Call, join, begin, go, leave, Answer, steps, leaves, numbered, handed, renewed, Turn, turn, world, answers}
-use Rattle.recovery.specs.Sessions.{Case, _is_, Agree}
+use Rattle.recovery.specs.World.{World, Call, join, begin, go, leave, Answer, steps, numbered, handed, renewed, Turn, turn, world, answers}
+use Rattle.recovery.specs.Sessions.{Case, Agree, afterCalls}
 use Rattle.words.proofs.Logic.{and-left, and-right}
 use Rattle.words.proofs.Memory.{memory-put, length-memory}
 use Rattle.points.proofs.Ways.{on-zeroing, on-filling, zero-on, fill-on}
@@ -239,7 +239,8 @@ known-after E w known (go n p) k = split (joined && (still && fit)) refl
 abbrev pub cutTurnOf : Edition → Turn → CutTurn
 cutTurnOf E t = record { answer = t .answer; state = cutWorld E (t .world) }
 
-cut-turn-is : (E : Edition) (w : World) (known : ℕ) (c : Call) → Whole E (w .words) → Known w known → cutTurn E (cutWorld E w) known c ≡ cutTurnOf E (turn E w c)
+cut-turn-is : (E : Edition) (w : World) (known : ℕ) (c : Call) → Whole E (w .words) → Known w known → cutTurn E (cutWorld E w) known c
+    ≡ cutTurnOf E (turn E w c)
 unfolding cutTurn turn handed
 cut-turn-is E w known (join n) e k = rw (flat-memory E (w .words) e)
 cut-turn-is E w known (begin n p offset text) e k = rw (flat-memory E (w .words) e)
@@ -294,17 +295,27 @@ cut-run-is E w known (c ∷ cs) e k =
     ap (λ (t : CutTurn). preceded (t .answer) (cutRun E (t .state) next cs)) (cut-turn-is E w known c e k)
     ∙ ap (preceded (turn E w c .answer)) (cut-run-is E (turn E w c .world) next cs (turn-whole E w c e) (known-after E w known c k))
 
--- what is tested of the answers and the world of the blocks holds of those of the definitions
+-- cases tested on the blocks hold of the definitions
 abbrev pub tested : (List Answer → World → List Case) → CutRun → Bool
-tested P (answered told v) = test (P told (uncut v))
+tested said (answered told v) = test (said told (uncut v))
 
-abbrev pub whole : Edition → World → Bool
-whole E w = eqb (length (w .words)) (blockCount E (w .words) * E .blockWords)
+abbrev pub whole : Edition → List ℕ → Bool
+whole E words = eqb (length words) (blockCount E words * E .blockWords)
 
-pub by-blocks : (E : Edition) (w : World) (cs : List Call) (P : List Answer → World → List Case)
-    → whole E w ≡ true → tested P (cutRun E (cutWorld E w) 0 cs) ≡ true → Agree (P (answers E w cs) (world E w cs))
-by-blocks E w cs P t h =
-    let e : Whole E (w .words) = eqb-true (length (w .words)) (blockCount E (w .words) * E .blockWords) t in
-    let f : test (P (answers E w cs) (uncut (cutWorld E (world E w cs)))) ≡ true = subst (λ (r : CutRun). tested P r ≡ true) (cut-run-is E w 0 cs e (nothing-known w)) h in
-    agree (P (answers E w cs) (world E w cs))
-    (subst (λ (v : World). test (P (answers E w cs) v) ≡ true) (uncut-cut E (world E w cs) (world-whole E w cs e)) f)
+abbrev pub testOn : Edition → World → List Call → (List Answer → World → List Case) → Bool
+testOn E w cs said = whole E (w .words) && tested said (cutRun E (cutWorld E w) 0 cs)
+
+pub by-blocks : (E : Edition) (w : World) (cs : List Call) (said : List Answer → World → List Case) → testOn E w cs said ≡ true → Agree (afterCalls E w cs said)
+by-blocks E w cs said h =
+    let l = and-left (whole E (w .words)) (tested said (cutRun E (cutWorld E w) 0 cs)) h in
+    let r = and-right (whole E (w .words)) (tested said (cutRun E (cutWorld E w) 0 cs)) h in
+    let e : Whole E (w .words) = eqb-true (length (w .words)) (blockCount E (w .words) * E .blockWords) l in
+    let f : test (said (answers E w cs) (uncut (cutWorld E (world E w cs)))) ≡ true =
+    subst (λ (r : CutRun). tested said r ≡ true) (cut-run-is E w 0 cs e (nothing-known w)) r in
+    agree (afterCalls E w cs said)
+    (subst (λ (v : World). test (said (answers E w cs) v) ≡ true) (uncut-cut E (world E w cs) (world-whole E w cs e)) f)
+
+-- for a proof that computes: what it unfolds beside `computing`
+unfoldable pub onBlocks : Unit {0}
+unfolding refusalIn stepIn afterIn cutTurn knownAfter cutRun
+onBlocks = tt

@@ -7,37 +7,29 @@ use mathlib.Core.List.{List, [], _∷_, _++_, map}
 use lib.ListN.{length, take, drop}
 use lib.Dec.{ltb}
 use borrow.Author.Tests.{ltb-true}
-use Rattle.words.specs.Edition.{Edition, two}
-use Rattle.words.specs.Logic.{first, all-of, some-of}
+use Rattle.words.specs.Edition.{Edition, one, two}
+use Rattle.words.specs.Logic.{all-of, some-of}
 use Rattle.points.specs.declared.StepAnswer.the-variants.{Stored, Moved, Extending, Committed, Refused}
 use Rattle.points.specs.Record.{noPoint}
 use Rattle.recovery.specs.Computing.{computing}
 use Rattle.recovery.specs.World.{World, Call, go, Answer, joins, begins, steps, leaves, turn, world, answers}
 use Rattle.recovery.specs.History.{alone, finishes}
 use Rattle.recovery.specs.Claim.{loneSteps}
-use Rattle.recovery.specs.Sessions.{Case, _is_, code}
-use Rattle.recovery.specs.OtherSizes.{OtherSizes, wide128, laidWorld, sessionCalls, sessionCases, reopenedCases, sizeCases, boundCases, loneStart, loneWorld, loneSaid, Tight}
+use Rattle.recovery.specs.Sessions.{_is_, code}
+use Rattle.recovery.specs.OtherSizes.{OtherSizes, wide128, wide256, laidWorld, sessionCalls, sessionCases, reopenedCases, sizeCases, boundCases, nearlyFull, loneStart, loneCalls, loneSaid, loneCases, Tight}
 use Rattle.words.proofs.Logic.{and-left, and-right}
 use Rattle.recovery.proofs.Computed.{test, agree}
-use Rattle.recovery.proofs.OnBlocks.{cutWorld, refusalIn, stepIn, afterIn, cutTurn, knownAfter, cutRun, tested, whole, by-blocks, CutRun}
+use Rattle.recovery.proofs.OnBlocks.{testOn, by-blocks, onBlocks}
 
 -- ---- the sessions
 
-whole-between : whole wide128 (laidWorld wide128 8) ≡ true
-unfolding computing
-whole-between = refl
-
-session-between : tested (reopenedCases wide128 128) (cutRun wide128 (cutWorld wide128 (laidWorld wide128 8)) 0 (sessionCalls wide128)) ≡ true
-unfolding computing refusalIn stepIn afterIn cutTurn knownAfter cutRun
-session-between = refl
-
-whole-two : whole two (laidWorld two 8) ≡ true
-unfolding computing
-whole-two = refl
-
-session-two : tested (sessionCases two 512) (cutRun two (cutWorld two (laidWorld two 8)) 0 (sessionCalls two)) ≡ true
-unfolding computing refusalIn stepIn afterIn cutTurn knownAfter cutRun
+session-two : testOn two (laidWorld two 8) (sessionCalls two) (sessionCases two 512) ≡ true
+unfolding computing onBlocks
 session-two = refl
+
+session-between : testOn wide128 (laidWorld wide128 8) (sessionCalls wide128) (reopenedCases wide128 128) ≡ true
+unfolding computing onBlocks
+session-between = refl
 
 -- ---- refusals, and the bound's values
 
@@ -84,47 +76,47 @@ module _ (E : Edition) (p : ℕ) where
   no-sooner [] n w h = not-yet n w h
   no-sooner (c ∷ cs) n w h = no-sooner cs n (turn E w c .world) h
 
-abbrev loneCase : ℕ → List Answer → World → List Case
-loneCase W told w = (map code told is loneSaid W) ∷ []
+-- the answers that the bound says finish the write at their end, and not before
+module _ (E : Edition) (n : ℕ) (e : loneSteps E ≡ suc n) (l : low (take n (drop (length (loneStart E)) (loneSaid E))) ≡ true)
+    (t : testOn E (nearlyFull E) (loneCalls E) (loneCases E) ≡ true) where
+  tight : Tight E
+  tight =
+      let q = by-blocks E (nearlyFull E) (loneCalls E) (loneCases E) t in
+      let r : map code (answers E (nearlyFull E) (loneStart E ++ alone 1 (suc n))) ≡ loneSaid E =
+      subst (λ (k : ℕ). map code (answers E (nearlyFull E) (loneStart E ++ alone 1 k)) ≡ loneSaid E) e (q .0) in
+      let m : n ≡ loneSteps E - 1 = omega (arith, e) in (
+        q,
+        subst (λ (k : ℕ). some-of finishes (answers E (world E (nearlyFull E) (loneStart E)) (alone 1 k)) ≡ false) m
+            (no-sooner E 1 (loneStart E) n (nearlyFull E) (subst (λ (xs : List ℕ). low (take n (drop (length (loneStart E)) xs)) ≡ true) (sym r) l)),
+      )
 
-abbrev loneRan : Edition → CutRun
-loneRan E = cutRun E (cutWorld E (loneWorld E)) 0 (loneStart E ++ alone 1 (loneSteps E))
+lone-one : testOn one (nearlyFull one) (loneCalls one) (loneCases one) ≡ true
+unfolding computing onBlocks
+lone-one = refl
 
-tight : (E : Edition) (W n : ℕ) → loneSteps E ≡ suc n → low (take n (drop (length (loneStart E)) (loneSaid W))) ≡ true
-    → whole E (loneWorld E) ≡ true → tested (loneCase W) (loneRan E) ≡ true → Tight E W
-tight E W n e l t h =
-    let q : map code (answers E (loneWorld E) (loneStart E ++ alone 1 (loneSteps E))) ≡ loneSaid W
-    = by-blocks E (loneWorld E) (loneStart E ++ alone 1 (loneSteps E)) (loneCase W) t h .0 in
-    let r : map code (answers E (loneWorld E) (loneStart E ++ alone 1 (suc n))) ≡ loneSaid W
-    = subst (λ (k : ℕ). map code (answers E (loneWorld E) (loneStart E ++ alone 1 k)) ≡ loneSaid W) e q in
-    let m : n ≡ loneSteps E - 1 = omega (arith, e) in (
-      q,
-      subst (λ (k : ℕ). some-of finishes (answers E (world E (loneWorld E) (loneStart E)) (alone 1 k)) ≡ false) m
-          (no-sooner E 1 (loneStart E) n (loneWorld E) (subst (λ (xs : List ℕ). low (take n (drop (length (loneStart E)) xs)) ≡ true) (sym r) l)),
-    )
+lone-128 : testOn wide128 (nearlyFull wide128) (loneCalls wide128) (loneCases wide128) ≡ true
+unfolding computing onBlocks
+lone-128 = refl
 
-lone-start : low (take 2563 (drop (length (loneStart two)) (loneSaid 512))) ≡ true
-lone-start = refl
+lone-256 : testOn wide256 (nearlyFull wide256) (loneCalls wide256) (loneCases wide256) ≡ true
+unfolding computing onBlocks
+lone-256 = refl
 
-whole-lone : whole two (loneWorld two) ≡ true
-unfolding computing
-whole-lone = refl
-
-lone-two : tested (loneCase 512) (loneRan two) ≡ true
-unfolding computing refusalIn stepIn afterIn cutTurn knownAfter cutRun
+lone-two : testOn two (nearlyFull two) (loneCalls two) (loneCases two) ≡ true
+unfolding computing onBlocks
 lone-two = refl
-
-tight-two : Tight two 512
-tight-two = tight two 512 2563 refl lone-start whole-lone lone-two
 
 -- ---- all of them
 
 pub other-sizes : OtherSizes
 unfolding OtherSizes
 other-sizes = (
-  by-blocks two (laidWorld two 8) (sessionCalls two) (sessionCases two 512) whole-two session-two,
-  by-blocks wide128 (laidWorld wide128 8) (sessionCalls wide128) (reopenedCases wide128 128) whole-between session-between,
+  by-blocks two (laidWorld two 8) (sessionCalls two) (sessionCases two 512) session-two,
+  by-blocks wide128 (laidWorld wide128 8) (sessionCalls wide128) (reopenedCases wide128 128) session-between,
   agree sizeCases sizes,
   agree boundCases bounds,
-  tight-two,
+  tight one 387 refl refl lone-one,
+  tight wide128 643 refl refl lone-128,
+  tight wide256 1283 refl refl lone-256,
+  tight two 2563 refl refl lone-two,
 )

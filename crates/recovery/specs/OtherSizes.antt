@@ -1,6 +1,6 @@
 -- Cases at other block sizes (document 02, K11): edition two, and sizes between with edition two's entries. Nobody needs them to believe the
 -- claims, which hold for every edition; they say in numbers what the definitions give where a block is not 64 words.
-use Prim.Native.Nat.{ℕ, _+_, _*_, _-_}
+use Prim.Native.Nat.{ℕ, _+_, _*_, _-_, _/_}
 use mathlib.Core.Path.{_≡_}
 use mathlib.Core.Bool.{false}
 use mathlib.Core.List.{List, [], _∷_, _++_, map}
@@ -9,7 +9,6 @@ use Rattle.words.specs.Edition.{Edition, edition, words128, words256, one, two,
 use Rattle.words.specs.Logic.{listFrom, some-of}
 use Rattle.words.specs.Memory.{memory, put, wordAt}
 use Rattle.words.specs.BlockMap.{freeCount}
-use Rattle.log.specs.declared.Shared.{Shared}
 use Rattle.log.specs.Entry.{entryOf, entryV, entryB, entryN, entryU, entryPoint, entryRest}
 use Rattle.log.specs.Chain.{log}
 use Rattle.log.specs.Opening.{numberOf, layoutRefusal, layout, openRefusal, fileOf, opened, openedFile}
@@ -18,9 +17,8 @@ use Rattle.points.specs.Record.{noPoint, noWrite, noTable}
 use Rattle.points.specs.Calls.{leaveRefusal}
 use Rattle.recovery.specs.World.{World, Call, join, begin, Answer, world, answers}
 use Rattle.recovery.specs.History.{enough, openWorld, alone, finishes}
-use Rattle.recovery.specs.Claim.{loneSteps}
-use Rattle.recovery.specs.Sessions.{Case, _is_, Agree, code, codesAt, done, stored, moved, extending, committed}
-use Rattle.recovery.specs.MoreSessions.{nearlyFull}
+use Rattle.recovery.specs.Claim.{runMost, loneSteps}
+use Rattle.recovery.specs.Sessions.{Case, _is_, Agree, afterCalls, code, codesAt, done, stored, moved, extending, committed}
 
 -- the two sizes between, of 1,024 and 2,048 bytes. No paper gives them a mark: these are the cases' own
 abbrev pub wide128 : Edition
@@ -85,15 +83,12 @@ reopenedCases E W told w =
     (let o = opened E (w .words) enough in (numberOf (o .reply) ∷ o .length ∷ o .entries ∷ o .free ∷ [] is 0 ∷ (8 * W + 24) ∷ 2 ∷ 4 ∷ []))
     ∷ sessionCases E W told w
 
-abbrev pub sessionAt : Edition → (List Answer → World → List Case) → List Case
-sessionAt E said = said (answers E (laidWorld E 8) (sessionCalls E)) (world E (laidWorld E 8) (sessionCalls E))
-
 -- (4,096 bytes of a block are many to the checker: opening is asked at the smaller size alone)
 abbrev pub sessionTwo : List Case
-sessionTwo = sessionAt two (sessionCases two 512)
+sessionTwo = afterCalls two (laidWorld two 8) (sessionCalls two) (sessionCases two 512)
 
 abbrev pub sessionBetween : List Case
-sessionBetween = sessionAt wide128 (reopenedCases wide128 128)
+sessionBetween = afterCalls wide128 (laidWorld wide128 8) (sessionCalls wide128) (reopenedCases wide128 128)
 
 -- ---- refusals follow the edition
 
@@ -140,35 +135,46 @@ sizeCases =
 
 -- ---- the bound of the lone write is tight
 
--- Two points begin the same write, of the last byte of virtual block 0 and the first of virtual block 1: each word of the two blocks has a byte
--- that is not the text's. Point 2 commits, which fills the log block. Then point 1 is alone
+-- a log block one entry from full, and 8 blocks after it
+abbrev pub nearlyFull : Edition → World
+nearlyFull E =
+    openWorld E (E .mark ∷ 1 ∷ replicate (E .blockWords - 2) 0
+    ++ (0 ∷ 0 ∷ replicate (E .blockWords - 3) (entryOf E 10 2 1 (blockBytes E) 0) ++ (0 ∷ []))
+    ++ replicate (E .blockWords * 8) 0) enough
+
+-- A text from the last byte of virtual block 0 to the first byte of virtual block 2 in edition one, 514 bytes, and of virtual block 1 in larger sizes, 2 bytes:
+-- each word of its first and its last block has a byte that is not the text's
+abbrev pub edgeText : Edition → ℕ → List ℕ
+edgeText E x = replicate (1022 / blockBytes E * blockBytes E + 2) x
+
+-- two points begin such a write; point 2 commits, which fills the log block. Then point 1 is alone
 abbrev pub loneStart : Edition → List Call
 loneStart E =
-    join 1 ∷ join 2 ∷ begin 1 noPoint (blockBytes E - 1) (7 ∷ 7 ∷ []) ∷ begin 2 noPoint (blockBytes E - 1) (8 ∷ 8 ∷ [])
-    ∷ alone 2 (2 * E .blockWords + 1)
+    join 1 ∷ join 2 ∷ begin 1 noPoint (blockBytes E - 1) (edgeText E 7) ∷ begin 2 noPoint (blockBytes E - 1) (edgeText E 8)
+    ∷ alone 2 (runMost E + 1)
 
-abbrev pub loneWorld : Edition → World
-loneWorld E = openWorld E (nearlyFull E) enough
+abbrev pub loneCalls : Edition → List Call
+loneCalls E = loneStart E ++ alone 1 (loneSteps E)
 
-abbrev pub loneAnswers : Edition → List Answer
-loneAnswers E = answers E (loneWorld E) (loneStart E ++ alone 1 (loneSteps E))
+-- alone: all words of the run, Moved, those of two blocks again, Extending, the words of a block zeroed, the link, the commit
+abbrev pub loneSaid : Edition → List ℕ
+loneSaid E =
+    let W = E .blockWords in
+    replicate 4 done ++ replicate (runMost E) stored ++ (committed 0 ∷ []) ++ replicate (runMost E) stored ++ (moved ∷ [])
+    ++ replicate (2 * W) stored ++ (extending ∷ []) ++ replicate (W + 1) stored ++ (committed 1 ∷ [])
 
--- alone: 2 W fills, Moved, 2 W refills, Extending, W zeroings, the link, the commit: 5 W + 4 steps
-abbrev pub loneSaid : ℕ → List ℕ
-loneSaid W =
-    replicate 4 done ++ replicate (2 * W) stored ++ (committed 0 ∷ [])
-    ++ replicate (2 * W) stored ++ (moved ∷ []) ++ replicate (2 * W) stored ++ (extending ∷ []) ++ replicate (W + 1) stored ++ (committed 1 ∷ [])
+abbrev pub loneCases : Edition → List Answer → World → List Case
+loneCases E told w = (map code told is loneSaid E) ∷ []
 
 -- with one step less the write is not finished
 abbrev pub NoSooner : Edition → Type 0
-NoSooner E = some-of finishes (answers E (world E (loneWorld E) (loneStart E)) (alone 1 (loneSteps E - 1))) ≡ false
+NoSooner E = some-of finishes (answers E (world E (nearlyFull E) (loneStart E)) (alone 1 (loneSteps E - 1))) ≡ false
 
-abbrev pub Tight : Edition → ℕ → Type 0
-Tight E W = (map code (loneAnswers E) ≡ loneSaid W) × NoSooner E
+abbrev pub Tight : Edition → Type 0
+Tight E = Agree (afterCalls E (nearlyFull E) (loneCalls E) (loneCases E)) × NoSooner E
 
 abbrev pub boundCases : List Case
 boundCases = (loneSteps one ∷ loneSteps wide128 ∷ loneSteps wide256 ∷ loneSteps two ∷ [] is 388 ∷ 644 ∷ 1284 ∷ 2564 ∷ []) ∷ []
 
 unfoldable pub OtherSizes : Type 0
-OtherSizes =
-    Agree sessionTwo × Agree sessionBetween × Agree sizeCases × Agree boundCases × Tight two 512
+OtherSizes = Agree sessionTwo × Agree sessionBetween × Agree sizeCases × Agree boundCases × Tight one × Tight wide128 × Tight wide256 × Tight two
