@@ -16,7 +16,8 @@ use Rattle.recovery.specs.World.{World, Call, go, Answer, joins, begins,
 use Rattle.recovery.specs.History.{alone, finishes}
 use Rattle.recovery.specs.Claim.{loneSteps}
 use Rattle.recovery.specs.Sessions.{_is_, code}
-use Rattle.recovery.specs.OtherSizes.{OtherSizes, wide128, wide256, laidWorld, sessionCalls, sessionCases, reopenedCases, sizeCases, boundCases, nearlyFull, loneStart, loneCalls, loneSaid, loneCases, Tight}
+use Rattle.recovery.specs.OtherSizes.{OtherSizes, wide128, wide256, laidWorld, sessionCalls, sessionCases, reopenedCases, sizeCases, boundCases}
+use Rattle.recovery.specs.OtherSizes.{nearlyFull, loneStart, loneCalls, loneSaid, loneCases, Tight}
 use Rattle.words.proofs.Logic.{and-left, and-right}
 use Rattle.recovery.proofs.Computed.{test, agree}
 use Rattle.recovery.proofs.OnBlocks.{testOn, by-blocks, onBlocks}
