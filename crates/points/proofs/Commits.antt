@@ -16,10 +16,10 @@ use Rattle.words.proofs.Logic.{agree}
 use Rattle.log.specs.Entry.{entryOf, legal}
 use Rattle.points.specs.declared.Write.{Write}
 use Rattle.points.specs.declared.Head.{Head}
-use Rattle.points.specs.Record.{span, runBlocks, firstEdge, lastEdge}
+use Rattle.points.specs.Record.{runBlocks, firstEdge, lastEdge}
 use Rattle.points.specs.Stepping.{entryFor}
 use Rattle.log.proofs.Entry.{Valid, packed, valid-legal}
-use Rattle.points.proofs.Facts.{spanned, span-few}
+use Rattle.points.proofs.Spans.{lies}
 
 -- ---- the entry
 
@@ -42,17 +42,7 @@ module _ (E : Edition) (blocks v b n u p : ℕ) (few : blocks ≤ 1024) (n-low :
   entry-legal : legal E blocks (entryOf E v b n u p) ≡ true
   entry-legal = valid-legal E blocks (entryOf E v b n u p) rules
 
--- a run lies in the file
-pub run-in-file : (E : Edition) (o t : ℕ) → 1 ≤ t → o + t ≤ fileEnd E → o / blockBytes E + span E o t ≤ 256
-run-in-file E o t = sized (λ W U. 1 ≤ t → o + t ≤ 256 * (8 * W) → o / (8 * W) + spanned W o t ≤ 256) (omega arith) E
-
--- the used bytes of its last block and the point number fit their fields
-pub used-few : (E : Edition) (o t : ℕ) → 1 ≤ t → o + t - blockBytes E * (o / blockBytes E + span E o t - 1) ≤ blockBytes E
-used-few E o t = sized (λ W U. 1 ≤ t → o + t - 8 * W * (o / (8 * W) + spanned W o t - 1) ≤ 8 * W) (omega arith) E
-
-used-some : (E : Edition) (o t : ℕ) → 1 ≤ t → 1 ≤ o + t - blockBytes E * (o / blockBytes E + span E o t - 1)
-used-some E o t = sized (λ W U. 1 ≤ t → 1 ≤ o + t - 8 * W * (o / (8 * W) + spanned W o t - 1)) (omega arith) E
-
+-- the used bytes and the point number fit their fields
 pub entry-kept :
     (E : Edition) (v b n u p : ℕ) → u ≤ blockBytes E → p < 32 → entryOf E v b n (u % 2 ^ E .usedBits) (p % 32) ≡ entryOf E v b n u p
 entry-kept E v b n u p hu hp =
@@ -65,11 +55,10 @@ pub entry-for-legal :
     → h .write .run + runBlocks E (h .write) ≤ blocks → blocks ≤ 1024 → h .number < 32 → legal E blocks (entryFor E h) ≡ true
 entry-for-legal E blocks h some few ends low inside max point =
     let w = h .write in
-    let k = span-few E (w .offset) (w .size) (record { some-text = some; few-text = few; ends-inside = ends }) in
+    let l = lies E (w .offset) (w .size) some in
     entry-legal E blocks (w .offset / blockBytes E) (w .run) (runBlocks E w)
     (w .offset + w .size - blockBytes E * (w .offset / blockBytes E + runBlocks E w - 1))
-    (h .number) max (k .0) (omega arith) (used-some E (w .offset) (w .size) some) (used-few E (w .offset) (w .size) some)
-    (run-in-file E (w .offset) (w .size) some ends) low inside point
+    (h .number) max (omega arith) (omega (arith, l .few few)) (l .usedLow) (l .usedHigh) (l .inFile ends) low inside point
 
 -- ---- the edges
 

@@ -1,5 +1,5 @@
 -- What a call that passes 10 and 11 knows, as named facts on numbers, which `omega` reads. Assumes nothing.
-use Prim.Native.Nat.{ℕ, zero, suc, _+_, _*_, _-_, _/_, _≤_, _<_}
+use Prim.Native.Nat.{ℕ, zero, suc, _+_, _*_, _-_, _≤_, _<_}
 use native.Mathlib.Omega.{arith}
 use mathlib.Core.Path.{_≡_, sym, _∙_}
 use mathlib.Core.Bool.{true, false, _&&_}
@@ -8,7 +8,7 @@ use lib.ListN.{length, getD}
 use lib.Dec.{leb, ltb}
 use borrow.Author.Tests.{leb-true, ltb-true, ltb-false, eqb-true, not-true, not-false}
 use Rattle.words.specs.Edition.{Edition, fileEnd, chainMax}
-use Rattle.words.proofs.Sizes.{sized}
+use Rattle.points.proofs.Spans.{lies}
 use Rattle.words.specs.Logic.{between, all-of}
 use Rattle.words.proofs.Logic.{and-left, and-right, every-all, any-none}
 use Rattle.words.proofs.Choice.{choose-true, choose-false}
@@ -152,11 +152,5 @@ table-inside blocks [] l e v = omega arith
 table-inside blocks (x ∷ xs) l e zero = ltb-true x blocks (and-left (ltb x blocks) (all-of (λ b. ltb b blocks) xs) e)
 table-inside blocks (x ∷ xs) l e (suc v) = table-inside blocks xs l (and-right (ltb x blocks) (all-of (λ b. ltb b blocks) xs) e) v
 
--- the blocks that a write spans, in numbers: W words a block
-abbrev pub spanned : ℕ → ℕ → ℕ → ℕ
-spanned W offset size = (offset + size - 1) / (8 * W) - offset / (8 * W) + 1
-
--- a write that obeys 16 and 17 spans 1 to 3 blocks, all of the file
 pub span-few : (E : Edition) (offset size : ℕ) → TextFits E offset size → (1 ≤ span E offset size) × (span E offset size ≤ 3)
-span-few E offset size t =
-    sized (λ W U. 1 ≤ size → size ≤ 1024 → (1 ≤ spanned W offset size) × (spanned W offset size ≤ 3)) (omega arith) E (t .some-text) (t .few-text)
+span-few E offset size t = (omega arith, lies E offset size (t .some-text) .few (t .few-text))

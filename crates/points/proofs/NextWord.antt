@@ -15,7 +15,7 @@ use Rattle.points.specs.declared.Phase.the-variants.{Filling, RefillFirs
 use Rattle.points.specs.declared.Write.{Write}
 use Rattle.points.specs.Record.{runWords}
 use Rattle.points.specs.Fill.{runStart, copies, wanted, seek, nextWord}
-use Rattle.points.proofs.Facts.{spanned}
+use Rattle.points.proofs.Spans.{spanned}
 use Rattle.points.proofs.Seek.{seek-is, seek-none, seek-same}
 
 module _ (E : Edition) (w : Write) where
@@ -60,10 +60,10 @@ module _ (E : Edition) (w : Write) where
 
   -- a run has a block, and its last block begins in the text
   run-some : E .blockWords ≤ runWords E w
-  run-some = sized (λ W U. W ≤ spanned W (w .offset) (w .size) * W) (omega arith) E
+  run-some = sized (λ W U. W ≤ spanned (8 * W) (w .offset) (w .size) * W) (omega arith) E
 
   run-last : 1 ≤ w .size → 8 * runWords E w < w .offset % blockBytes E + w .size + blockBytes E
-  run-last = sized (λ W U. 1 ≤ w .size → 8 * (spanned W (w .offset) (w .size) * W) < w .offset % (8 * W) + w .size + 8 * W) (omega arith) E
+  run-last = sized (λ W U. 1 ≤ w .size → 8 * (spanned (8 * W) (w .offset) (w .size) * W) < w .offset % (8 * W) + w .size + 8 * W) (omega arith) E
 
   module _ (k : ℕ) (low : w .position ≤ runWords E w) where
     pub first-found : First (w .position) k → k < E .blockWords → seek (w .position) (runWords E w - w .position) (wanted RefillFirst E w) ≡ k

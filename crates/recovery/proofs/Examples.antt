@@ -1,7 +1,7 @@
 -- The claims at small histories that are computed: each says in numbers what a claim says there, so that a claim with another meaning is refused
 -- by its value (the bound of the lone write: OtherSizes, `Tight`). `order-seen`: the old entry stands before the new one.
 -- `zeroing-held`, `left-free`: the map against the holdings while a log block is being zeroed, and after its point has left.
-use Prim.Native.Nat.{ℕ, _-_}
+use Prim.Native.Nat.{ℕ}
 use mathlib.Core.Path.{_≡_, refl, _∙_}
 use mathlib.Core.Bool.{true}
 use mathlib.Core.List.{List, [], _∷_, _++_}

@@ -1,6 +1,7 @@
--- Calls computed on the blocks. A step of the definitions counts the image's words, cuts it into blocks and looks at the 256 entries of a table: with 4,096
--- words that is too much for the checker to do some thousand times. `cutTurn` is `turn` with the image cut once, and with a table that is known to fit not
--- looked at again; `cut-run-is` says that a list of calls gives the same, `by-blocks` that cases tested on the blocks hold of the definitions.
+-- Calls computed on the blocks. A step of the definitions counts the image's words, cuts it into blocks and looks at the 256 entries of a table: with some
+-- thousand words that is too much for the checker to do some thousand times. A step of `cutTurn` is one of `turn` with the image kept cut, and with a table
+-- that is known to fit not looked at again; the other calls, which are few, put the image together. `cut-run-is` says that a list of calls gives the same,
+-- `by-blocks` that cases tested on the blocks hold of the definitions.
 use Prim.Native.Nat.{ℕ, zero, suc, _+_, _*_, _-_, _/_}
 use native.Mathlib.Omega.{arith}
 use native.Mathlib.Nat.{suc-mul, zero-mul}

@@ -1,4 +1,5 @@
--- The cases at other block sizes hold of the definitions: all are computed, on the blocks. Assumes nothing.
+-- The cases at other block sizes hold of the definitions. Sessions and lone writes are computed on the blocks, refusals and the values of the bound as they
+-- stand; that one step less does not finish a write follows from the answers. Assumes nothing.
 use Prim.Native.Nat.{ℕ, zero, suc, _+_, _-_, _<_}
 use native.Mathlib.Omega.{arith}
 use mathlib.Core.Path.{_≡_, refl, sym, ap₂, subst}

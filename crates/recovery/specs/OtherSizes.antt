@@ -1,5 +1,6 @@
 -- Cases at other block sizes (document 02, K11): edition two, and sizes between with edition two's entries. Nobody needs them to believe the
--- claims, which hold for every edition; they say in numbers what the definitions give where a block is not 64 words.
+-- claims, which hold for every edition; they say in numbers what the definitions give where a block is not 64 words. And the bound of the lone write, at
+-- all four sizes.
 use Prim.Native.Nat.{ℕ, _+_, _*_, _-_, _/_}
 use mathlib.Core.Path.{_≡_}
 use mathlib.Core.Bool.{false}
@@ -83,7 +84,7 @@ reopenedCases E W told w =
     (let o = opened E (w .words) enough in (numberOf (o .reply) ∷ o .length ∷ o .entries ∷ o .free ∷ [] is 0 ∷ (8 * W + 24) ∷ 2 ∷ 4 ∷ []))
     ∷ sessionCases E W told w
 
--- (4,096 bytes of a block are many to the checker: opening is asked at the smaller size alone)
+-- (4,096 bytes of a block are many to the checker: what opening answers after the session is asked at the smaller size alone)
 abbrev pub sessionTwo : List Case
 sessionTwo = afterCalls two (laidWorld two 8) (sessionCalls two) (sessionCases two 512)
 
@@ -129,8 +130,9 @@ sizeCases =
     -- 10: 2,048 words are 4 blocks and not 32, at edition one 32 and not 4
     ∷ (left two 4 0 2 ∷ left two 32 0 2 ∷ left one 32 0 2 ∷ left one 4 0 2 ∷ [] is 0 ∷ 10 ∷ 0 ∷ 10 ∷ [])
     -- 11: slot 512 and length 1,048,576 fit at edition two; at edition one slot 64 and length 131,072
-    ∷ (left two 4 0 512 ∷ left two 4 0 513 ∷ left two 4 1048576 2 ∷ left two 4 1048577 2 ∷ left one 32 0 65 ∷ left one 32 131073 2 ∷ []
-    is 0 ∷ 11 ∷ 0 ∷ 11 ∷ 11 ∷ 11 ∷ [])
+    ∷ (left two 4 0 512 ∷ left two 4 0 513 ∷ left two 4 1048576 2 ∷ left two 4 1048577 2 ∷ []
+    is 0 ∷ 11 ∷ 0 ∷ 11 ∷ [])
+    ∷ (left one 32 0 64 ∷ left one 32 0 65 ∷ left one 32 131072 2 ∷ left one 32 131073 2 ∷ [] is 0 ∷ 11 ∷ 0 ∷ 11 ∷ [])
     ∷ []
 
 -- ---- the bound of the lone write is tight

@@ -1,6 +1,7 @@
 -- `points::commit::entry_for`: used bytes and point number fit their fields, so the entry is the definition's.
 use mathlib.Core.Path.{_∙_}
-use Rattle.points.proofs.Commits.{used-few, entry-kept}
+use Rattle.points.proofs.Commits.{entry-kept}
+use Rattle.points.proofs.Spans.{lies}
 use Prim.Native.Nat.{_+_, _*_, _-_, _/_}
 use Rattle.words.specs.Edition.{one}
 use Rattle.points.specs.Record.{span}
@@ -53,7 +54,7 @@ returns c =
     let n = span one (w .offset) (w .size) in
     c .entry .ensures ∙ rw (span-call .ensures)
     (entry-kept one (w .offset / 512) (w .run) n (w .offset + w .size - 512 * (w .offset / 512 + n - 1)) (args .head .number)
-    (used-few one (w .offset) (w .size) (p .0)) (p .4))
+    (lies one (w .offset) (w .size) (p .0) .usedHigh) (p .4))
 
 pub entry-for-spec : {M : Type 1} → statement M
 entry-for-spec =
