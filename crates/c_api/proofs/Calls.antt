@@ -17,10 +17,11 @@ use Rattle.points.specs.declared.Stepped.{Stepped}
 use Rattle.points.specs.declared.Left.{Left}
 use Rattle.points.specs.declared.LentBegun.{LentBegun}
 use Rattle.points.specs.declared.LentStepped.{LentStepped}
-use Rattle.points.specs.Record.{badShared, noText}
+use Rattle.points.specs.Record.{badShared, noText, pointOf}
 use Rattle.points.specs.Calls.{joining, beginning, leaving}
-use Rattle.points.specs.Stepping.{stepping, answered, stepKind, stepValue}
-use Rattle.points.specs.Plan.{pointOf, sharedOf}
+use Rattle.points.specs.Plan.{answered}
+use Rattle.points.specs.Stepping.{stepping, stepKind, stepValue}
+use Rattle.points.specs.Search.{sharedOf, withNext}
 use Rattle.points.specs.Lent.{begunOf, steppedOf}
 use Rattle.points.specs.Reading.{reading, bufferAfter, locating}
 use Rattle.c_api.specs.declared.Count.{Count}
@@ -86,7 +87,7 @@ module _ (words shared taken : List ℕ) where
           → steppedOf lead left taken′ table′ text′ ≡ answered (stepping one words (sharedOf lead taken) (pointOf h table text))
           → image ≡ after one words (stepping one words (sharedOf lead taken) (pointOf h table text) .store)
           → kind ≡ stepKind (left .step) → value ≡ stepValue (left .step) → hs ≡ headNumbers (left .head)
-          → record { answer = record { kind = kind; value = value }; shared = sharedNumbers (sharedOf (record { blocks = lead .blocks; joined = lead .joined; next = left .next }) taken′); taken = taken′; head = hs; table = table′; text = text′; image = image }
+          → record { answer = record { kind = kind; value = value }; shared = sharedNumbers (sharedOf (withNext lead (left .next)) taken′); taken = taken′; head = hs; table = table′; text = text′; image = image }
           ≡ stepFor words shared taken head table text
       unfolding stepFor
       step-some lead el table text left taken′ table′ text′ image kind value hs e ei ek ev en =

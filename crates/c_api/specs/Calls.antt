@@ -10,10 +10,10 @@ use Rattle.log.specs.declared.Reply.{Reply}
 use Rattle.log.specs.Opening.{numberOf}
 use Rattle.points.specs.declared.Point.{Point}
 use Rattle.points.specs.declared.Left.{Left}
-use Rattle.points.specs.Record.{badShared, noText}
+use Rattle.points.specs.Record.{badShared, noText, pointOf}
 use Rattle.points.specs.Calls.{joining, beginning, leaving}
-use Rattle.points.specs.Stepping.{Outcome, stepping}
-use Rattle.points.specs.Plan.{pointOf}
+use Rattle.points.specs.Plan.{Outcome}
+use Rattle.points.specs.Stepping.{stepping}
 use Rattle.points.specs.Reading.{reading, bufferAfter, locating}
 use Rattle.c_api.specs.declared.Answer.{Answer}
 use Rattle.c_api.specs.declared.Count.{Count}

@@ -13,7 +13,7 @@ use Rattle.points.specs.declared.Numbers.{Numbers}
 use Rattle.points.specs.declared.Count as counted
 use Rattle.points.specs.Record.{phaseNumber, phaseOf}
 use Rattle.points.specs.Stepping.{stepKind, stepValue}
-use Rattle.points.specs.Plan.{sharedOf}
+use Rattle.points.specs.Search.{sharedOf}
 use Rattle.c_api.specs.declared.Opened.{Opened}
 use Rattle.c_api.specs.declared.Answer.{Answer}
 use Rattle.c_api.specs.declared.Count.{Count}

@@ -21,9 +21,8 @@ use Rattle.log.specs.Replay.{Mapped, replayOn}
 use Rattle.points.specs.declared.Head.{Head}
 use Rattle.points.specs.declared.Point.{Point}
 use Rattle.points.specs.declared.Begun.{Begun}
-use Rattle.points.specs.Record.{noText, isIdle, badText, pastEnd, span, fileAt, caughtUp}
+use Rattle.points.specs.Record.{noText, isIdle, badText, pastEnd, span, fileAt, caughtUp, unfit}
 use Rattle.points.specs.Search.{search, taking}
-use Rattle.points.specs.Unfit.{unfit}
 use Rattle.points.specs.Start.{Started}
 use Rattle.points.specs.Calls.{beginRefusal, beginning, textOf, newWrite}
 use Rattle.points.proofs.Facts.{TextFits, text-facts, shared-facts}

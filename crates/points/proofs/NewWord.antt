@@ -25,7 +25,7 @@ use Rattle.words.proofs.WordBytes.{bytes-view}
 use Rattle.points.specs.declared.Head.{Head}
 use Rattle.points.specs.Fill.{newWord, newByte, laidByte, runStart}
 use Rattle.points.specs.Record.{fileAt}
-use Rattle.points.specs.Plan.{mixedByte}
+use Rattle.points.specs.Lent.{mixedByte}
 
 -- eight bytes, each shifted to its place
 pub eight-bytes :

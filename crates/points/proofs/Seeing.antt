@@ -14,9 +14,9 @@ use Rattle.log.specs.declared.Seen.{Seen}
 use Rattle.log.specs.CatchUp.{Walk, ahead, broken}
 use Rattle.log.specs.Look.{seenBy}
 use Rattle.points.specs.declared.Head.{Head}
-use Rattle.points.specs.Unfit.{unfit}
+use Rattle.points.specs.Record.{recordReasons, unfit}
 use Rattle.points.specs.Sight.{sightRefusal}
-use Rattle.points.proofs.Unfit.{shared-reasons, unfit-before, fit-goes-on, first-settled, first-goes-on}
+use Rattle.points.proofs.Unfit.{unfit-before, fit-goes-on, first-settled, first-goes-on}
 
 -- reasons that all fail leave it to those that come after
 pub failed-before : (rs more : List Reason) → ((i : ℕ) → getD rs i no-reason .holds ≡ false) → first (rs ++ more) ≡ first more
@@ -37,7 +37,7 @@ module _ (E : Edition) (I : List ℕ) (s : Shared) (h : Head) (table : List ℕ)
   aheadBroken = broken E (s .blocks) (ahead E (memory E I) (s .blocks) (h .place))
 
   abbrev pub sight-reasons : List Reason
-  sight-reasons = shared-reasons E I s h table ++ 17 when past ∷ 18 when aheadBroken ∷ []
+  sight-reasons = recordReasons E I s h table ++ 17 when past ∷ 18 when aheadBroken ∷ []
 
   pub sight-unfit : (n : ℕ) → n ≡ unfit E I s h table → n ≢ 0 → n ≡ sightRefusal E I s h table past
   unfolding sightRefusal

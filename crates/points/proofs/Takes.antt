@@ -10,7 +10,8 @@ use Rattle.words.specs.BlockMap.{takenIn, markRun}
 use Rattle.words.specs.Search.{freeAmong, found}
 use Rattle.words.proofs.Choice.{choose-true, choose-false}
 use Rattle.log.specs.declared.Shared.{Shared}
-use Rattle.points.specs.Search.{search, nextAfter, taking}
+use Rattle.points.specs.declared.Numbers.{Numbers}
+use Rattle.points.specs.Search.{sharedOf, withNext, search, nextAfter, taking, takingOne}
 
 -- a start that is found is one of those tried
 among-le :
@@ -40,8 +41,9 @@ next-inside blocks b h = sym (choose-true _ b 1 (lt-ltb b blocks h))
 pub next-past : (blocks b : ℕ) → blocks ≤ b → 1 ≡ nextAfter blocks b
 next-past blocks b h = sym (choose-false _ b 1 (le-ltb b blocks h))
 
-pub taking-is :
-    (s : Shared) (run n next : ℕ) (map : List ℕ) → map ≡ markRun true (s .taken) run n → next ≡ nextAfter (s .blocks) (run + n)
-    → record { blocks = s .blocks; taken = map; joined = s .joined; next = next } ≡ taking s run n
-unfolding taking
-taking-is s run n next map em en = rw (em, en)
+pub taking-one :
+    (n : Numbers) (taken : List ℕ) (b next : ℕ) (map : List ℕ) → (b ≡ 0 → ⊥) → next ≡ nextAfter (n .blocks) (b + 1) → map ≡ markRun true taken b 1
+    → sharedOf (withNext n next) map ≡ takingOne (sharedOf n taken) b
+unfolding takingOne taking
+taking-one n taken zero next map h en em = absurd (h refl)
+taking-one n taken (suc b) next map h en em = rw (en, em)

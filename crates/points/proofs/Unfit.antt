@@ -3,7 +3,7 @@
 use Prim.Native.Nat.{ℕ, zero, suc}
 use native.Mathlib.Omega.{arith}
 use mathlib.Core.Path.{_≡_, refl, sym, _∙_}
-use mathlib.Core.Bool.{Bool, true, false, not}
+use mathlib.Core.Bool.{Bool, true, false}
 use mathlib.Core.List.{List, [], _∷_, _++_}
 use lib.ListN.{getD}
 use borrow.Author.Tests.{not-false}
@@ -13,8 +13,7 @@ use Rattle.words.proofs.Choice.{choose-true, choose-false}
 use Rattle.words.proofs.Tests.{no-reason, passes}
 use Rattle.log.specs.declared.Shared.{Shared}
 use Rattle.points.specs.declared.Head.{Head}
-use Rattle.points.specs.Record.{badShared, fits, isJoined}
-use Rattle.points.specs.Unfit.{unfit}
+use Rattle.points.specs.Record.{badShared, fits, isJoined, recordReasons, unfit}
 
 -- ---- any list of reasons
 
@@ -42,17 +41,17 @@ refused-so (suc n) done refused h = refl
 -- ---- 10, 11 and 14
 
 module _ (E : Edition) (words : List ℕ) (s : Shared) (h : Head) (table : List ℕ) where
-  abbrev pub shared-reasons : List Reason
-  shared-reasons = 10 when badShared E words s ∷ 11 when not (fits E (s .blocks) h table) ∷ 14 when not (isJoined s (h .number)) ∷ []
+  abbrev reasons : List Reason
+  reasons = recordReasons E words s h table
 
-  pub unfit-before : (more : List Reason) (k : ℕ) → unfit E words s h table ≡ suc k → first (shared-reasons ++ more) ≡ suc k
+  pub unfit-before : (more : List Reason) (k : ℕ) → unfit E words s h table ≡ suc k → first (reasons ++ more) ≡ suc k
   unfolding unfit
-  unfit-before more k e = settled-before shared-reasons more k e
+  unfit-before more k e = settled-before reasons more k e
 
   module _ (e : unfit E words s h table ≡ 0) where
-    passed : (i : ℕ) → getD shared-reasons i no-reason .holds ≡ false
+    passed : (i : ℕ) → getD reasons i no-reason .holds ≡ false
     unfolding unfit
-    passed = passes shared-reasons refl e
+    passed = passes reasons refl e
 
     pub fit-shared : badShared E words s ≡ false
     fit-shared = passed 0
@@ -63,5 +62,5 @@ module _ (E : Edition) (words : List ℕ) (s : Shared) (h : Head) (table : List 
     pub fit-joined : isJoined s (h .number) ≡ true
     fit-joined = not-false (isJoined s (h .number)) (passed 2)
 
-    pub fit-goes-on : (more : List Reason) → first (shared-reasons ++ more) ≡ first more
+    pub fit-goes-on : (more : List Reason) → first (reasons ++ more) ≡ first more
     fit-goes-on more = rw (fit-shared, fit-record, fit-joined)

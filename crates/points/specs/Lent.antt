@@ -1,12 +1,29 @@
--- What the calls answer that are lent a record's arrays: the record is the head that they answer, with the arrays as they leave them.
-use Prim.Native.Nat.{ℕ}
+-- For the contracts of the code, which is lent a record's parts: what it answers, what it settles, and what it asks for.
+use Prim.Native.Nat.{ℕ, _+_, _-_, _≤_, _<_}
+use mathlib.Core.Path.{_≡_}
+use mathlib.Core.Bool.{Bool, true, false, _&&_}
 use mathlib.Core.List.{List}
+use lib.ListN.{getD}
+use lib.Dec.{leb, ltb}
+use Rattle.words.specs.Edition.{Edition, one, blocksMax, fileEnd}
+use Rattle.words.specs.Word.{byteOf}
+use Rattle.words.specs.Memory.{Memory, memory, after}
+use Rattle.log.specs.declared.Shared.{Shared}
+use Rattle.points.specs.declared.Write.{Write}
+use Rattle.points.specs.declared.Head.{Head}
+use Rattle.points.specs.declared.Point.{Point}
 use Rattle.points.specs.declared.Begun.{Begun}
 use Rattle.points.specs.declared.Stepped.{Stepped}
 use Rattle.points.specs.declared.LentBegun.{LentBegun}
 use Rattle.points.specs.declared.LentStepped.{LentStepped}
 use Rattle.points.specs.declared.Numbers.{Numbers}
-use Rattle.points.specs.Plan.{pointOf, sharedOf}
+use Rattle.points.specs.declared.plan.Plan.{Plan}
+use Rattle.points.specs.Record.{textMax, runBlocks, runWords, pointOf}
+use Rattle.points.specs.Search.{sharedOf, withNext}
+use Rattle.points.specs.Plan.{answered}
+use Rattle.points.specs.Stepping.{stepRefusal, stepping}
+
+-- ---- answers: the record is the head that is answered, with the arrays as they are left
 
 abbrev pub begunOf : LentBegun → List ℕ → List ℕ → Begun
 begunOf left table text = record { reply = left .reply; shared = left .shared; point = pointOf (left .head) table text }
@@ -14,4 +31,39 @@ begunOf left table text = record { reply = left .reply; shared = left .shared; p
 -- a step changes the next place and the map alone of the shared record
 abbrev pub steppedOf : Numbers → LentStepped → List ℕ → List ℕ → List ℕ → Stepped
 steppedOf n left taken table text =
-    record { step = left .step; shared = sharedOf (record { blocks = n .blocks; joined = n .joined; next = left .next }) taken; point = pointOf (left .head) table text }
+    record { step = left .step; shared = sharedOf (withNext n (left .next)) taken; point = pointOf (left .head) table text }
+
+-- a step's answer, and the image after it
+pub record StepLeaves (words : List ℕ) (s : Shared) (p : Point) (answer : Stepped) (image : List ℕ) : Type 0 where
+  pub answers : answer ≡ answered (stepping one words s p)
+  pub stored : image ≡ after one words (stepping one words s p .store)
+
+-- ---- plans
+
+-- the plan is that of this part of a step, for the records that these parts make
+abbrev pub Plans : (Edition → Memory → Shared → Point → Plan) → List ℕ → Numbers → List ℕ → Head → List ℕ → List ℕ → Plan → Type 0
+Plans part words n taken h table text r = r ≡ part one (memory one words) (sharedOf n taken) (pointOf h table text)
+
+-- no reason of a step holds
+abbrev pub StepsOn : List ℕ → Numbers → List ℕ → Head → List ℕ → Type 0
+StepsOn words n taken h table = stepRefusal one words (sharedOf n taken) h table ≡ 0
+
+-- ---- what is asked of a write
+
+-- 16 and 17
+abbrev pub TextFits : Write → Type 0
+TextFits w = (1 ≤ w .size) × (w .size ≤ textMax) × (w .offset + w .size ≤ fileEnd one)
+
+-- and the entry's block and point numbers fit
+abbrev pub EntryFits : Head → Type 0
+EntryFits h = TextFits (h .write) × (h .write .run < blocksMax) × (h .number < 32)
+
+-- a place in the run, and how many words it has
+abbrev pub InRun : Write → ℕ → Type 0
+InRun w words = (1 ≤ w .size) × (w .size ≤ textMax) × (w .position ≤ words) × (words ≤ 192) × (words ≡ runWords one w)
+
+-- ---- a word of the run
+
+-- byte p of the run, of which the text has the bytes from `lead` to `end`; the word that is copied has those from `at` on
+unfoldable pub mixedByte : ℕ → List ℕ → ℕ → ℕ → ℕ → ℕ → ℕ
+mixedByte copied text lead end at p = elim (leb lead p && ltb p end) [ true ↦ getD text (p - lead) 0 | false ↦ byteOf copied (p - at) ]

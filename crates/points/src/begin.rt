@@ -3,9 +3,9 @@ ghost use mathlib.Core.Path.{_≡_};
 ghost use Prim.Native.Nat.{_≤_};
 ghost use lib.ListN.{length};
 ghost use Rattle.words.specs.Edition.{one};
+ghost use Rattle.points.specs.Record.{pointOf};
 ghost use Rattle.points.specs.Calls.{newWrite, textOf, beginning};
 ghost use Rattle.points.specs.Start.{Started};
-ghost use Rattle.points.specs.Plan.{pointOf};
 ghost use Rattle.points.specs.Lent.{begunOf};
 use crate::Begun;
 use crate::Head;
@@ -92,23 +92,18 @@ fn text_of(text: &[u8]) -> [u8; 1024]
     bytes
 }
 
-// The head of a write as it begins, at the tail.
-fn begun(number: u32, length: u32, place: Place, offset: u32, size: u32, run: u32) -> Head
-    ensures { λ r. ⌜ r ≡ record { number = number; length = length; place = place; write = newWrite offset size run } ⌝ }
+// The write as it begins.
+fn new_write(offset: u32, size: u32, run: u32) -> Write
+    ensures { λ r. ⌜ r ≡ newWrite offset size run ⌝ }
 {
-    Head {
-        number,
-        length,
-        place,
-        write: Write {
-            offset,
-            size,
-            run,
-            phase: Phase::Filling,
-            position: 0,
-            zeroing: 0,
-            retries: 0,
-        },
+    Write {
+        offset,
+        size,
+        run,
+        phase: Phase::Filling,
+        position: 0,
+        zeroing: 0,
+        retries: 0,
     }
 }
 
@@ -122,7 +117,8 @@ pub fn begin_lent(
     offset: usize,
     bytes: &[u8],
 ) -> LentBegun
-    ensures { λ r. ⌜ begunOf r (now (table .exit)) (now (text .exit)) ≡ beginning one (now (image .entry)) shared (pointOf head (now (table .entry)) (now (text .entry))) offset (now (bytes .entry)) ⌝ }
+    ensures { λ r. ⌜ begunOf r (now (table .exit)) (now (text .exit))
+        ≡ beginning one (now (image .entry)) shared (pointOf head (now (table .entry)) (now (text .entry))) offset (now (bytes .entry)) ⌝ }
 {
     let start = settle(image, shared, head, table, offset, bytes.len());
     if start.reason != 0 {
@@ -139,7 +135,7 @@ pub fn begin_lent(
     LentBegun {
         reply: Reply::Done,
         shared: crate::shared::take(shared, start.run, crate::record::span(at, size)),
-        head: begun(head.number, length, start.place, at, size, start.run),
+        head: crate::plan::standing(head, length, start.place, new_write(at, size, start.run)),
     }
 }
 

@@ -4,19 +4,19 @@ ghost use mathlib.Core.List.{List};
 ghost use Prim.Native.Nat.{ℕ, _+_, _≤_, _<_};
 ghost use Rattle.words.specs.Edition.{one};
 ghost use Rattle.words.specs.Memory.{Memory, memory};
-ghost use Rattle.log.specs.declared.Shared.{Shared};
-ghost use Rattle.log.specs.CatchUp.{ahead};
-ghost use Rattle.points.specs.Record.{runBlocks, firstEdge, lastEdge};
-ghost use Rattle.points.specs.Search.{search};
-ghost use Rattle.points.specs.Stepping.{refill, entryFor, commit, giveUp, extend, atEnd, moveOn, committing, stepRefusal};
-ghost use Rattle.points.specs.Plan.{pointOf, sharedOf, Settles};
+ghost use Rattle.points.specs.Record.{firstEdge, lastEdge};
+ghost use Rattle.points.specs.Search.{sharedOf};
+ghost use Rattle.points.specs.Stepping.{refill, entryFor, commit, giveUp, extend, atEnd, moveOn, committing};
+ghost use Rattle.points.specs.Lent.{StepsOn, EntryFits};
 use crate::Head;
 use crate::Numbers;
 use crate::Phase;
 use crate::StepAnswer;
 use crate::Write;
-use crate::plan::Change;
+use crate::plan::Frees;
+use crate::plan::Kind;
 use crate::plan::Plan;
+use crate::plan::Reads;
 
 // Whether the run's first block holds copied bytes.
 fn first_edge(write: Write) -> bool
@@ -60,17 +60,15 @@ fn refill(first: bool, last: bool, write: Write) -> Write
 }
 
 // The record catches up, and what new entries cover is filled again. Refused where the log is broken.
-fn move_on(image: &[u64], numbers: Numbers, head: Head) -> Plan
-    requires { ⌜ numbers .blocks ≤ 1024 ⌝ }
-    ensures { λ r. ⌜ ((taken table text : List ℕ) → Settles one (memory one (now (image .entry))) (sharedOf numbers taken) r (pointOf head table text)
-        (moveOn one (numbers .blocks) (ahead one (memory one (now (image .entry))) (numbers .blocks) (head .place)) (sharedOf numbers taken) (pointOf head table text))) ⌝ }
+fn move_on(image: &[u64], blocks: u32, head: Head) -> Plan
+    ensures { λ r. ⌜ r ≡ moveOn one (memory one (now (image .entry))) head blocks ⌝ }
 {
     let write = head.write;
     let v = write.offset / 512;
     let last = v + crate::record::span(write.offset, write.size) - 1;
-    let seen = log::ahead::look(image, numbers.blocks, head.place, v, last);
+    let seen = log::ahead::look(image, blocks, head.place, v, last);
     if seen.broken {
-        return crate::plan::refused(log::LOG_BROKEN, head);
+        return crate::plan::refused(head, log::LOG_BROKEN);
     }
     let later = refill(
         first_edge(write) & seen.first,
@@ -78,18 +76,20 @@ fn move_on(image: &[u64], numbers: Numbers, head: Head) -> Plan
         write,
     );
     let place = seen.place;
-    let caught = Head {
-        number: head.number,
-        length: head.length,
+    crate::plan::resting(
+        StepAnswer::Moved,
         place,
-        write: later,
-    };
-    crate::plan::resting(StepAnswer::Moved, caught, Change::CatchUp)
+        later,
+        Reads::AllAhead,
+        Frees::NoBlock,
+        0,
+        false,
+    )
 }
 
 // The entry of the write.
 fn entry_for(head: Head) -> u64
-    requires { ⌜ (1 ≤ head .write .size) × (head .write .size ≤ 1024) × (head .write .offset + head .write .size ≤ 131072) × (head .write .run < 1024) × (head .number < 32) ⌝ }
+    requires { ⌜ EntryFits head ⌝ }
     ensures { λ r. ⌜ r ≡ entryFor one head ⌝ }
 {
     let write = head.write;
@@ -106,57 +106,69 @@ fn entry_for(head: Head) -> u64
 }
 
 // The entry is stored and taken in, the blocks that it replaces become free, and the point is idle.
-fn commit(numbers: Numbers, head: Head) -> Plan
-    requires { ⌜ (1 ≤ head .write .size) × (head .write .size ≤ 1024) × (head .write .offset + head .write .size ≤ 131072) × (1 ≤ head .write .run)
-        × (head .write .run + runBlocks one (head .write) ≤ numbers .blocks) × (numbers .blocks ≤ 1024) × (head .number < 32) × (head .place .slot < 64) ⌝ }
-    ensures { λ r. ⌜ ((m : Memory) (taken table text : List ℕ) → Settles one m (sharedOf numbers taken) r (pointOf head table text) (commit one (sharedOf numbers taken) (pointOf head table text))) ⌝ }
+fn commit(head: Head) -> Plan
+    requires { ⌜ EntryFits head × (head .place .slot < 64) ⌝ }
+    ensures { λ r. ⌜ r ≡ commit one head ⌝ }
 {
     let entry = entry_for(head);
     let retries = head.write.retries;
-    crate::plan::storing(
-        StepAnswer::Committed(retries),
-        crate::plan::committed_head(head),
-        Change::TakeIn,
-        head.place.block,
-        head.place.slot,
-        entry,
-    )
+    Plan {
+        step: StepAnswer::Committed(retries),
+        place: crate::plan::next_slot(head.place),
+        write: crate::plan::no_write(),
+        reads: Reads::OwnEntry,
+        frees: Frees::Replaced,
+        takes: 0,
+        clears: true,
+        kind: Kind::Entry,
+        block: head.place.block,
+        word: head.place.slot,
+        value: entry,
+    }
 }
 
 // The write ends by 20 or 21: its run becomes free, and the point is idle.
-fn give_up(number: u32, head: Head) -> Plan
-    ensures { λ r. ⌜ ((m : Memory) (s : Shared) (table text : List ℕ) → Settles one m s r (pointOf head table text) (giveUp one number s (pointOf head table text))) ⌝ }
+fn give_up(head: Head, number: u32) -> Plan
+    ensures { λ r. ⌜ r ≡ giveUp one head number ⌝ }
 {
     crate::plan::resting(
         StepAnswer::Refused(number),
-        crate::plan::writing(head, crate::plan::no_write()),
-        Change::Clear,
+        head.place,
+        crate::plan::no_write(),
+        Reads::NoEntry,
+        Frees::Run,
+        0,
+        true,
     )
 }
 
 // A free block is taken, to be zeroed and linked.
 fn extend(head: Head, b: u32) -> Plan
-    ensures { λ r. ⌜ ((m : Memory) (s : Shared) (table text : List ℕ) → b ≡ search s 1 → Settles one m s r (pointOf head table text) (extend one s (pointOf head table text))) ⌝ }
+    ensures { λ r. ⌜ r ≡ extend one head b ⌝ }
 {
     let write = head.write;
     let zeroing = crate::plan::turned(write, Phase::Zeroing, 0, b, write.retries);
     crate::plan::resting(
         StepAnswer::Extending,
-        crate::plan::writing(head, zeroing),
-        Change::Take,
+        head.place,
+        zeroing,
+        Reads::NoEntry,
+        Frees::NoBlock,
+        b,
+        false,
     )
 }
 
 // The log place is at slot 64 with no next index: the chain is extended, or the write ends by 20 or 21.
 fn at_end(numbers: Numbers, taken: &[u64; 16], head: Head) -> Plan
-    ensures { λ r. ⌜ ((m : Memory) (table text : List ℕ) → Settles one m (sharedOf numbers (now (taken .entry))) r (pointOf head table text) (atEnd one (sharedOf numbers (now (taken .entry))) (pointOf head table text))) ⌝ }
+    ensures { λ r. ⌜ ((m : Memory) → r ≡ atEnd one m head (sharedOf numbers (now (taken .entry)))) ⌝ }
 {
     if 64 <= head.place.passed {
-        return give_up(crate::LOG_FULL, head);
+        return give_up(head, crate::LOG_FULL);
     }
     let b = crate::shared::search_lent(numbers, taken, 1);
     if b == 0 {
-        return give_up(crate::NO_LOG_BLOCK, head);
+        return give_up(head, crate::NO_LOG_BLOCK);
     }
     extend(head, b)
 }
@@ -169,20 +181,19 @@ pub(crate) fn committing<'a>(
     head: Head,
     table: &'a [u16; 256],
 ) -> Plan
-    requires { ⌜ stepRefusal one (now image) (sharedOf numbers (now taken)) head (now table) ≡ 0 ⌝ }
-    ensures { λ r. ⌜ ((text : List ℕ) → Settles one (memory one (now (image .entry))) (sharedOf numbers (now (taken .entry))) r (pointOf head (now (table .entry)) text)
-        (committing one (memory one (now (image .entry))) (sharedOf numbers (now (taken .entry))) (pointOf head (now (table .entry)) text))) ⌝ }
+    requires { ⌜ StepsOn (now image) numbers (now taken) head (now table) ⌝ }
+    ensures { λ r. ⌜ r ≡ committing one (memory one (now (image .entry))) head (sharedOf numbers (now (taken .entry))) ⌝ }
 {
     let slot = head.place.slot as usize;
     let part = words::image::block(image, head.place.block as usize);
     if slot < 64 {
         if words::image::word(part, slot) == 0 {
-            return commit(numbers, head);
+            return commit(head);
         }
-        return move_on(image, numbers, head);
+        return move_on(image, numbers.blocks, head);
     }
     if words::image::word(part, 0) == 0 {
         return at_end(numbers, taken, head);
     }
-    move_on(image, numbers, head)
+    move_on(image, numbers.blocks, head)
 }

@@ -11,7 +11,7 @@ ghost use Rattle.log.specs.Replay.{mappedByte};
 ghost use Rattle.points.specs.declared.Phase.the-variants.{RefillFirst, RefillLast, RefillBoth};
 ghost use Rattle.points.specs.Record.{runWords};
 ghost use Rattle.points.specs.Fill.{newWord, copies, wanted, seek, nextWord};
-ghost use Rattle.points.specs.Plan.{mixedByte};
+ghost use Rattle.points.specs.Lent.{TextFits, InRun, mixedByte};
 use crate::Head;
 use crate::Phase;
 use crate::Write;
@@ -91,7 +91,7 @@ pub(crate) fn new_word<'a>(
     text: &'a [u8; 1024],
     k: u32,
 ) -> u64
-    requires { ⌜ (1 ≤ head .write .size) × (head .write .size ≤ 1024) × (head .write .offset + head .write .size ≤ 131072) × (k < runWords one (head .write)) ⌝ }
+    requires { ⌜ TextFits (head .write) × (k < runWords one (head .write)) ⌝ }
     ensures { λ r. ⌜ r ≡ newWord one (memory one (now (image .entry))) head (now (table .entry)) (now (text .entry)) k ⌝ }
 {
     let offset = head.write.offset as usize;
@@ -138,7 +138,7 @@ fn copied_from(write: Write, from: u32) -> u32
 
 // The next word to fill again in the run's first block, or the run's words.
 fn next_in_first(write: Write, words: u32) -> u32
-    requires { ⌜ (write .size ≤ 1024) × (write .position ≤ words) × (words ≤ 192) × (words ≡ runWords one write) ⌝ }
+    requires { ⌜ InRun write words ⌝ }
     ensures { λ r. ⌜ r ≡ seek (write .position) (runWords one write - write .position) (wanted RefillFirst one write) ⌝ }
 {
     let k = copied_from(write, write.position);
@@ -150,7 +150,7 @@ fn next_in_first(write: Write, words: u32) -> u32
 
 // The next word to fill again in the run's last block, where that is not the first, or the run's words.
 fn next_in_last(write: Write, words: u32) -> u32
-    requires { ⌜ (1 ≤ write .size) × (write .size ≤ 1024) × (write .position ≤ words) × (words ≤ 192) × (words ≡ runWords one write) ⌝ }
+    requires { ⌜ InRun write words ⌝ }
     ensures { λ r. ⌜ r ≡ seek (write .position) (runWords one write - write .position) (wanted RefillLast one write) ⌝ }
 {
     let k = copied_from(write, greater(write.position, 64));
@@ -162,7 +162,7 @@ fn next_in_last(write: Write, words: u32) -> u32
 
 // The next word to fill again in either, or the run's words.
 fn next_in_both(write: Write, words: u32) -> u32
-    requires { ⌜ (1 ≤ write .size) × (write .size ≤ 1024) × (write .position ≤ words) × (words ≤ 192) × (words ≡ runWords one write) ⌝ }
+    requires { ⌜ InRun write words ⌝ }
     ensures { λ r. ⌜ r ≡ seek (write .position) (runWords one write - write .position) (wanted RefillBoth one write) ⌝ }
 {
     let k = copied_from(write, write.position);
@@ -174,7 +174,7 @@ fn next_in_both(write: Write, words: u32) -> u32
 
 // The next word of the run to fill, or the run's words where none is left.
 pub(crate) fn next_word(write: Write, words: u32) -> u32
-    requires { ⌜ (1 ≤ write .size) × (write .size ≤ 1024) × (write .position ≤ words) × (words ≤ 192) × (words ≡ runWords one write) ⌝ }
+    requires { ⌜ InRun write words ⌝ }
     ensures { λ r. ⌜ r ≡ nextWord one write ⌝ }
 {
     let phase = write.phase;

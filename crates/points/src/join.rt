@@ -2,7 +2,7 @@
 ghost use mathlib.Core.Path.{_≡_};
 ghost use Rattle.words.specs.Edition.{one};
 ghost use Rattle.words.specs.Memory.{memory};
-ghost use Rattle.points.specs.Record.{noTable, noText, noWrite};
+ghost use Rattle.points.specs.Record.{idleAt};
 ghost use Rattle.points.specs.Calls.{badFirst, joinRefusal, joining};
 use crate::Head;
 use crate::Joined;
@@ -40,7 +40,7 @@ fn join_refusal(image: &[u64], shared: Shared, number: u32) -> u32
 
 // An idle record at a log place: its length and its write fields are 0.
 fn idle_at(number: u32, place: Place) -> Point
-    ensures { λ r. ⌜ r ≡ record { head = record { number = number; length = 0; place = place; write = noWrite }; table = noTable; text = noText } ⌝ }
+    ensures { λ r. ⌜ r ≡ idleAt number place ⌝ }
 {
     let table = [0u16; 256];
     let text = [0u8; 1024];

@@ -4,7 +4,7 @@ ghost use mathlib.Core.List.{List};
 ghost use Prim.Native.Nat.{ℕ};
 ghost use Rattle.words.specs.Edition.{one};
 ghost use Rattle.points.specs.Calls.{withoutHeld, leaving};
-ghost use Rattle.points.specs.Plan.{pointOf};
+ghost use Rattle.points.specs.Record.{pointOf};
 use crate::Head;
 use crate::Left;
 use crate::Point;
@@ -20,7 +20,7 @@ fn free_held(map: &mut [u64], write: Write)
     if crate::record::is_idle(phase) {
         return;
     }
-    crate::claim::free_run(map, write);
+    crate::release::free_run(map, write);
     if crate::record::is_zeroing(phase) {
         words::map::free_block(map, write.zeroing as usize);
     }

@@ -1,59 +1,77 @@
-// What a step settles before it stores: the answer, the head, what becomes of table, text and shared record, and at most one store.
+// What a step settles before it stores: a plan, a field for each thing that it does. Each function looks at its own field.
 ghost use mathlib.Core.Path.{_≡_};
 ghost use mathlib.Core.Bool.{true, false};
-ghost use mathlib.Core.List.{List};
-ghost use Prim.Native.Nat.{ℕ, _<_};
+ghost use Prim.Native.Nat.{_<_};
 ghost use Rattle.words.specs.Edition.{one};
-ghost use Rattle.words.specs.Memory.{Memory};
-ghost use Rattle.log.specs.declared.Shared.{Shared};
-ghost use Rattle.points.specs.Record.{runWords, noWrite, writing};
-ghost use Rattle.points.specs.Plan.{pointOf, storing, resting, Settles};
-ghost use Rattle.points.specs.Stepping.{refused, turned, toCommit, retried, committedHead, linkedHead};
+ghost use Rattle.points.specs.Record.{runWords, noWrite, standing};
+ghost use Rattle.points.specs.Plan.{storing, resting};
+ghost use Rattle.points.specs.Stepping.{refused, turned, toCommit, retried, nextSlot, entering};
 use crate::Head;
 use crate::Phase;
 use crate::StepAnswer;
 use crate::Write;
 use log::Place;
 
-// What becomes of table, text and shared record. Keep: all stay. Clear: the write ends, its text is cleared and its run becomes free. TakeIn: the entry
-// stored is taken in, the text is cleared and what the entry replaces becomes free. CatchUp: all entries ahead are taken in. Take: the block to be
-// zeroed is taken. GiveBack: the block that was zeroed becomes free.
-pub enum Change {
-    Keep,
-    Clear,
-    TakeIn,
-    CatchUp,
-    Take,
-    GiveBack,
+// What the record takes in: nothing, the entry that the plan stores, all entries ahead.
+pub enum Reads {
+    NoEntry,
+    OwnEntry,
+    AllAhead,
 }
 
-// Where `stores` holds, word `word` from the first word of block `block` on gets `value`.
+// What becomes free: nothing, the run of the write, the blocks that the write replaces, the log block that was zeroed.
+pub enum Frees {
+    NoBlock,
+    Run,
+    Replaced,
+    Zeroed,
+}
+
+// What is stored: nothing, a word of the run, a zero, an entry, a next index.
+pub enum Kind {
+    NoStore,
+    Fill,
+    Zero,
+    Entry,
+    Link,
+}
+
+// The answer; the log place and the write that the point has then; what is read in, freed and taken, 0 for no block; whether the text is cleared; and
+// the store: word `word` from the first word of block `block` on gets `value`.
 pub struct Plan {
     pub step: StepAnswer,
-    pub head: Head,
-    pub change: Change,
-    pub stores: bool,
+    pub place: Place,
+    pub write: Write,
+    pub reads: Reads,
+    pub frees: Frees,
+    pub takes: u32,
+    pub clears: bool,
+    pub kind: Kind,
     pub block: u32,
     pub word: u32,
     pub value: u64,
 }
 
-// A plan that stores a word.
+// A plan that stores a word, and changes no more than the point's log place and write.
 pub(crate) fn storing(
-    step: StepAnswer,
-    head: Head,
-    change: Change,
+    kind: Kind,
     block: u32,
     word: u32,
     value: u64,
+    place: Place,
+    write: Write,
 ) -> Plan
-    ensures { λ r. ⌜ r ≡ storing step head change block word value ⌝ }
+    ensures { λ r. ⌜ r ≡ storing kind block word value place write ⌝ }
 {
     Plan {
-        step,
-        head,
-        change,
-        stores: true,
+        step: StepAnswer::Stored,
+        place,
+        write,
+        reads: Reads::NoEntry,
+        frees: Frees::NoBlock,
+        takes: 0,
+        clears: false,
+        kind,
         block,
         word,
         value,
@@ -61,14 +79,26 @@ pub(crate) fn storing(
 }
 
 // A plan that stores nothing.
-pub(crate) fn resting(step: StepAnswer, head: Head, change: Change) -> Plan
-    ensures { λ r. ⌜ r ≡ resting step head change ⌝ }
+pub(crate) fn resting(
+    step: StepAnswer,
+    place: Place,
+    write: Write,
+    reads: Reads,
+    frees: Frees,
+    takes: u32,
+    clears: bool,
+) -> Plan
+    ensures { λ r. ⌜ r ≡ resting step place write reads frees takes clears ⌝ }
 {
     Plan {
         step,
-        head,
-        change,
-        stores: false,
+        place,
+        write,
+        reads,
+        frees,
+        takes,
+        clears,
+        kind: Kind::NoStore,
         block: 0,
         word: 0,
         value: 0,
@@ -76,10 +106,18 @@ pub(crate) fn resting(step: StepAnswer, head: Head, change: Change) -> Plan
 }
 
 // A step that is refused changes nothing.
-pub(crate) fn refused(number: u32, head: Head) -> Plan
-    ensures { λ r. ⌜ ((m : Memory) (s : Shared) (table text : List ℕ) → Settles one m s r (pointOf head table text) (refused number s (pointOf head table text))) ⌝ }
+pub(crate) fn refused(head: Head, number: u32) -> Plan
+    ensures { λ r. ⌜ r ≡ refused one head number ⌝ }
 {
-    resting(StepAnswer::Refused(number), head, Change::Keep)
+    resting(
+        StepAnswer::Refused(number),
+        head.place,
+        head.write,
+        Reads::NoEntry,
+        Frees::NoBlock,
+        0,
+        false,
+    )
 }
 
 // The write at another phase and position.
@@ -97,14 +135,13 @@ pub(crate) fn turned(write: Write, phase: Phase, position: u32, zeroing: u32, re
     }
 }
 
-// The head with another write.
-pub(crate) fn writing(head: Head, write: Write) -> Head
-    ensures { λ r. ⌜ r ≡ writing head write ⌝ }
+// The head with another length, log place and write.
+pub(crate) fn standing(head: Head, length: u32, place: Place, write: Write) -> Head
+    ensures { λ r. ⌜ r ≡ standing head length place write ⌝ }
 {
-    let place = head.place;
     Head {
         number: head.number,
-        length: head.length,
+        length,
         place,
         write,
     }
@@ -150,39 +187,26 @@ pub(crate) fn to_commit(write: Write, retries: u16) -> Write
     turned(write, Phase::Filling, run_words(write), 0, retries)
 }
 
-// The head with its log place at slot 2 of the log block that it has zeroed.
-pub(crate) fn linked_head(head: Head) -> Head
-    requires { ⌜ head .place .passed < 64 ⌝ }
-    ensures { λ r. ⌜ r ≡ linkedHead one head ⌝ }
+// The log place one slot on.
+pub(crate) fn next_slot(at: Place) -> Place
+    requires { ⌜ at .slot < 64 ⌝ }
+    ensures { λ r. ⌜ r ≡ nextSlot at ⌝ }
 {
-    let old = head.write;
-    let write = to_commit(old, old.retries);
-    Head {
-        number: head.number,
-        length: head.length,
-        place: Place {
-            block: old.zeroing,
-            slot: 2,
-            passed: head.place.passed + 1,
-        },
-        write,
+    Place {
+        block: at.block,
+        slot: at.slot + 1,
+        passed: at.passed,
     }
 }
 
-// The head one slot on, idle.
-pub(crate) fn committed_head(head: Head) -> Head
-    requires { ⌜ head .place .slot < 64 ⌝ }
-    ensures { λ r. ⌜ r ≡ committedHead head (head .length) ⌝ }
+// The log place at slot 2 of a log block that is entered.
+pub(crate) fn entering(at: Place, block: u32) -> Place
+    requires { ⌜ at .passed < 64 ⌝ }
+    ensures { λ r. ⌜ r ≡ entering at block ⌝ }
 {
-    let write = no_write();
-    Head {
-        number: head.number,
-        length: head.length,
-        place: Place {
-            block: head.place.block,
-            slot: head.place.slot + 1,
-            passed: head.place.passed,
-        },
-        write,
+    Place {
+        block,
+        slot: 2,
+        passed: at.passed + 1,
     }
 }

@@ -3,8 +3,7 @@ ghost use mathlib.Core.Path.{_≡_};
 ghost use mathlib.Core.Bool.{true, false};
 ghost use Prim.Native.Nat.{_<_};
 ghost use Rattle.words.specs.BlockMap.{withBit};
-ghost use Rattle.points.specs.Search.{search, nextAfter, taking, withJoined, withTaken};
-ghost use Rattle.points.specs.Plan.{numbersOf, sharedOf};
+ghost use Rattle.points.specs.Search.{search, nextAfter, taking, takingOne, withJoined, withTaken, withNext, numbersOf, sharedOf};
 use crate::Numbers;
 use log::Shared;
 
@@ -82,16 +81,36 @@ pub(crate) fn next_after(blocks: u32, b: u64) -> u32
     1
 }
 
+// The shared record with another map and next place.
+pub(crate) fn with_map(shared: Shared, taken: [u64; 16], next: u32) -> Shared
+    ensures { λ r. ⌜ r ≡ sharedOf (withNext (numbersOf shared) next) taken ⌝ }
+{
+    let mut s = shared;
+    s.taken = taken;
+    s.next = next;
+    s
+}
+
 // The shared record with a run taken, and the next place after it.
 pub(crate) fn take(shared: Shared, run: u32, n: u32) -> Shared
     ensures { λ r. ⌜ r ≡ taking shared run n ⌝ }
 {
     let mut map = shared.taken;
     words::map::take_run(&mut map, run as usize, n as usize);
-    Shared {
-        blocks: shared.blocks,
-        taken: map,
-        joined: shared.joined,
-        next: next_after(shared.blocks, run as u64 + n as u64),
+    with_map(
+        shared,
+        map,
+        next_after(shared.blocks, run as u64 + n as u64),
+    )
+}
+
+// A block is taken, 0 for none, and the next place answered.
+pub(crate) fn take_one(numbers: Numbers, taken: &mut [u64; 16], b: u32) -> u32
+    ensures { λ r. ⌜ sharedOf (withNext numbers r) (now (taken .exit)) ≡ takingOne (sharedOf numbers (now (taken .entry))) b ⌝ }
+{
+    if b == 0 {
+        return numbers.next;
     }
+    words::map::take_run(taken, b as usize, 1);
+    next_after(numbers.blocks, b as u64 + 1)
 }

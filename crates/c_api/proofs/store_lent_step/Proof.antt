@@ -46,7 +46,7 @@ returns-2 c =
     let a = c .before .before .before .before .before .before .before .before .before .before .before .before .before .before .before .before .before .before .before .before .args in
     let s = c .before .before .before .before .before .before .before .step-lent in
     step-some (a .image .now) (a .shared .now) (a .taken .now) (a .head .now) (sym (c .before .before .before .before .before .before .before .before .before .before .before .before .before .before .before .before .before .is-known .ensures) ∙ not-false _ (c .before .before .before .before .before .before .before .before .before .before .before .before .before .before .before .before .if1 .left)) _ (c .before .before .before .before .before .before .before .before .before .before .head .ensures) _ (c .before .before .before .before .before .before .before .before .before .before .before .before .before .before .lead .ensures) (a .table .now) (a .text .now)
-    (s .result) (s .last .1 .1 .0) (s .last .1 .1 .1 .1 .0) (s .last .1 .1 .1 .1 .1 .0) _ _ _ _ (s .ensures .0) (s .ensures .1) (c .before .kind .ensures) (c .value .ensures) (c .before .before .of-head .ensures)
+    (s .result) (s .last .1 .1 .0) (s .last .1 .1 .1 .1 .0) (s .last .1 .1 .1 .1 .1 .0) _ _ _ _ (s .ensures .answers) (s .ensures .stored) (c .before .kind .ensures) (c .value .ensures) (c .before .before .of-head .ensures)
 
 pub store-lent-step-spec : {M : Type 1} → statement M
 store-lent-step-spec =

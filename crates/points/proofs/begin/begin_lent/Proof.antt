@@ -4,7 +4,7 @@ use native.Mathlib.Omega.{arith}
 use mathlib.Core.Path.{sym, _∙_}
 use borrow.Author.Needs.{needs}
 use Rattle.words.specs.Edition.{one}
-use Rattle.points.specs.Plan.{pointOf}
+use Rattle.points.specs.Record.{pointOf}
 use Rattle.points.proofs.Begins.{Ready, ready, begin-refused, begin-done}
 use Rattle.points.proofs.begin.begin_lent.Statement.{statement}
 use Rattle.points.proofs.begin.begin_lent.Tie as tie
@@ -46,20 +46,24 @@ span-requires c κs = search needs
 take-requires : tie.Need-take-requires
 take-requires c κs = search needs
 
-begun-requires : tie.Need-begun-requires
-begun-requires c κs = search needs
+new-write-requires : tie.Need-new-write-requires
+new-write-requires c κs = search needs
+
+standing-requires : tie.Need-standing-requires
+standing-requires c κs = search needs
 
 returns-2 : tie.Need-returns-2
 returns-2 c =
-    let a = c .before .before .before .before .before .before .before .before .before .before .before .before .args in
-    let q = c .before .before .before .before .before .before .before .before .settle in
-    let z = c .before .before .before .before .before .before .if1 .left in
-    let r = passed (c .before .before .before .before .before .before) in
+    let taken = c .before .before in
+    let q = taken .before .before .before .before .before .before .before .settle in
+    let z = taken .before .before .before .before .before .if1 .left in
+    let r = passed (taken .before .before .before .before .before) in
+    let a = taken .before .before .before .before .before .before .before .before .before .before .before .args in
     begin-done one (a .image .now) (a .shared) (pointOf (a .head) (a .table .now) (a .text .now)) (a .offset) (a .bytes .now) r _ _ _ _ _ _ _ _
-    (q .ensures .tail z) (q .ensures .found z) (c .before .before .before .before .catch-up .ensures (r .few) (r .sound))
-    (c .before .before .before .text-of .ensures) (c .begun .ensures) (c .before .before .span .ensures) (c .before .take .ensures)
+    (q .ensures .tail z) (q .ensures .found z) (taken .before .before .before .catch-up .ensures (r .few) (r .sound))
+    (taken .before .before .text-of .ensures) (rw (c .before .new-write .ensures) at (c .standing .ensures)) (taken .before .span .ensures) (taken .take .ensures)
 
 pub begin-lent-spec : {M : Type 1} → statement M
 begin-lent-spec =
     tie.close
-    (tie.spec settle-requires returns catch-up-requires text-of-requires cast-at cast-size span-requires take-requires begun-requires returns-2)
+    (tie.spec settle-requires returns catch-up-requires text-of-requires cast-at cast-size span-requires take-requires new-write-requires standing-requires returns-2)

@@ -1,8 +1,8 @@
 -- `points::commit::at_end`: 20, 21 or a block to zero, in the order of the reasons.
 use mathlib.Core.Path.{sym, _∙_}
 use Rattle.words.specs.Edition.{one}
-use Rattle.points.specs.Plan.{pointOf, sharedOf}
-use Rattle.points.proofs.Planned.{settles-as, end-full, end-none, end-free}
+use Rattle.points.specs.Search.{sharedOf}
+use Rattle.points.proofs.Ready.{end-full, end-none, end-free}
 use borrow.Author.Needs.{needs}
 use Rattle.points.proofs.commit.at_end.Statement.{statement}
 use Rattle.points.proofs.commit.at_end.Tie as tie
@@ -11,9 +11,8 @@ give-up-requires : tie.Need-give-up-requires
 give-up-requires c κs = search needs
 
 returns : tie.Need-returns
-returns c m table text = let a = c .before .before .before .args in
-    settles-as (c .give-up .ensures m (sharedOf (a .numbers) (a .taken .now)) table text)
-    (end-full one m (sharedOf (a .numbers) (a .taken .now)) (pointOf (a .head) table text) (c .before .if1 .taken))
+returns c m = let a = c .before .before .before .args in
+    c .give-up .ensures ∙ sym (end-full one m (sharedOf (a .numbers) (a .taken .now)) (a .head) (c .before .if1 .taken))
 
 search-lent-requires : tie.Need-search-lent-requires
 search-lent-requires c κs = search needs
@@ -22,23 +21,23 @@ give-up-requires-2 : tie.Need-give-up-requires-2
 give-up-requires-2 c κs = search needs
 
 returns-2 : tie.Need-returns-2
-returns-2 c m table text =
+returns-2 c m =
     let if1 = c .before .before .before .if1 in
     let search = c .before .before .search-lent in
     let a = c .before .before .before .before .before .args in
-    settles-as (c .give-up2 .ensures m (sharedOf (a .numbers) (a .taken .now)) table text)
-    (end-none one m (sharedOf (a .numbers) (a .taken .now)) (pointOf (a .head) table text) (if1 .left) (sym (search .ensures) ∙ c .before .if2 .taken))
+    c .give-up2 .ensures
+    ∙ sym (end-none one m (sharedOf (a .numbers) (a .taken .now)) (a .head) (if1 .left) (sym (search .ensures) ∙ c .before .if2 .taken))
 
 extend-requires : tie.Need-extend-requires
 extend-requires c κs = search needs
 
 returns-3 : tie.Need-returns-3
-returns-3 c m table text =
+returns-3 c m =
     let if1 = c .before .before .before .if1 in
     let search = c .before .before .search-lent in
     let a = c .before .before .before .before .before .args in
-    settles-as (c .extend .ensures m (sharedOf (a .numbers) (a .taken .now)) table text (search .ensures))
-    (end-free one m (sharedOf (a .numbers) (a .taken .now)) (pointOf (a .head) table text) (if1 .left) (λ e. c .before .if2 .left (search .ensures ∙ e)))
+    c .extend .ensures ∙ rw (search .ensures)
+    (sym (end-free one m (sharedOf (a .numbers) (a .taken .now)) (a .head) (if1 .left) (λ e. c .before .if2 .left (search .ensures ∙ e))))
 
 pub at-end-spec : {M : Type 1} → statement M
 at-end-spec =

@@ -6,9 +6,8 @@ use Rattle.words.specs.Memory.{memory}
 use Prim.Native.Nat.{ℕ}
 use mathlib.Core.List.{List}
 use lib.ListN.{getD}
-use Rattle.points.specs.Plan.{pointOf, sharedOf}
-use Rattle.points.proofs.Planned.{settles-as}
-use Rattle.points.proofs.Ready.{ready, slot-empty, slot-taken, chain-ends, chain-goes-on}
+use Rattle.points.specs.Search.{sharedOf}
+use Rattle.points.proofs.Ready.{ready, run-below, slot-empty, slot-taken, chain-ends, chain-goes-on}
 use Rattle.points.proofs.Leaves.{joined-small}
 use borrow.Author.Needs.{needs}
 use Rattle.points.proofs.commit.committing.Statement.{statement}
@@ -33,35 +32,32 @@ commit-requires c κs =
     let a = c .before .before .before .before .before .before .before .args in
     let f = ready one (a .image .now) (sharedOf (a .numbers) (a .taken .now)) (a .head) (a .table .now) pre in
     let r = f .run in
-    (r .text .some-text, r .text .few-text, r .text .ends-inside, r .run-some, r .run-inside, f .shared .few-blocks, joined-small (a .numbers .joined) (a .head .number) (omega arith) (f .joined), if1 .taken)
+    let t = r .text in
+    (((t .some-text, t .few-text, t .ends-inside), run-below f, joined-small (a .numbers .joined) (a .head .number) (omega arith) (f .joined)), if1 .taken)
 
 returns : tie.Need-returns
-returns c text =
+returns c =
     let block = c .before .before .before .before .block in
     let if1 = c .before .before .before .if1 in
     let word = c .before .before .word in
     let a = c .before .before .before .before .before .before .before .before .args in
     let m = memory one (a .image .now) in
-    settles-as (c .commit .ensures m (a .taken .now) (a .table .now) text)
-    (slot-empty one m (sharedOf (a .numbers) (a .taken .now)) (pointOf (a .head) (a .table .now) text) (if1 .taken)
+    c .commit .ensures ∙ sym
+    (slot-empty one m (sharedOf (a .numbers) (a .taken .now)) (a .head) (if1 .taken)
     (sym (word .ensures ∙ ap (λ (part : List ℕ). getD part (a .head .place .slot) 0) (block .ensures)) ∙ c .before .if2 .taken))
 
 move-on-requires : tie.Need-move-on-requires
-move-on-requires c κs =
-    let pre = c .before .before .before .before .before .before .before .pre in
-    let a = c .before .before .before .before .before .before .before .args in
-    let f = ready one (a .image .now) (sharedOf (a .numbers) (a .taken .now)) (a .head) (a .table .now) pre in
-    f .shared .few-blocks
+move-on-requires c κs = search needs
 
 returns-2 : tie.Need-returns-2
-returns-2 c text =
+returns-2 c =
     let block = c .before .before .before .before .block in
     let if1 = c .before .before .before .if1 in
     let word = c .before .before .word in
     let a = c .before .before .before .before .before .before .before .before .args in
     let m = memory one (a .image .now) in
-    settles-as (c .move-on .ensures (a .taken .now) (a .table .now) text)
-    (slot-taken one m (sharedOf (a .numbers) (a .taken .now)) (pointOf (a .head) (a .table .now) text) (if1 .taken)
+    c .move-on .ensures ∙ sym
+    (slot-taken one m (sharedOf (a .numbers) (a .taken .now)) (a .head) (if1 .taken)
     (λ e. c .before .if2 .left (word .ensures ∙ ap (λ (part : List ℕ). getD part (a .head .place .slot) 0) (block .ensures) ∙ e)))
 
 word-requires-2 : tie.Need-word-requires-2
@@ -71,7 +67,7 @@ at-end-requires : tie.Need-at-end-requires
 at-end-requires c κs = search needs
 
 returns-3 : tie.Need-returns-3
-returns-3 c text =
+returns-3 c =
     let pre = c .before .before .before .before .before .before .before .before .pre in
     let block = c .before .before .before .before .block in
     let if1 = c .before .before .before .if1 in
@@ -79,19 +75,15 @@ returns-3 c text =
     let a = c .before .before .before .before .before .before .before .before .args in
     let m = memory one (a .image .now) in
     let f = ready one (a .image .now) (sharedOf (a .numbers) (a .taken .now)) (a .head) (a .table .now) pre in
-    settles-as (c .at-end .ensures m (a .table .now) text)
-    (chain-ends one m (sharedOf (a .numbers) (a .taken .now)) (pointOf (a .head) (a .table .now) text) (omega (arith, if1 .left, f .place .slot-high))
+    c .at-end .ensures m ∙ sym
+    (chain-ends one m (sharedOf (a .numbers) (a .taken .now)) (a .head) (omega (arith, if1 .left, f .place .slot-high))
     (sym (word2 .ensures ∙ ap (λ (part : List ℕ). getD part 0 0) (block .ensures)) ∙ c .before .if3 .taken))
 
 move-on-requires-2 : tie.Need-move-on-requires-2
-move-on-requires-2 c κs =
-    let pre = c .before .before .before .before .before .before .before .pre in
-    let a = c .before .before .before .before .before .before .before .args in
-    let f = ready one (a .image .now) (sharedOf (a .numbers) (a .taken .now)) (a .head) (a .table .now) pre in
-    f .shared .few-blocks
+move-on-requires-2 c κs = search needs
 
 returns-4 : tie.Need-returns-4
-returns-4 c text =
+returns-4 c =
     let pre = c .before .before .before .before .before .before .before .before .pre in
     let block = c .before .before .before .before .block in
     let if1 = c .before .before .before .if1 in
@@ -99,8 +91,8 @@ returns-4 c text =
     let a = c .before .before .before .before .before .before .before .before .args in
     let m = memory one (a .image .now) in
     let f = ready one (a .image .now) (sharedOf (a .numbers) (a .taken .now)) (a .head) (a .table .now) pre in
-    settles-as (c .move-on2 .ensures (a .taken .now) (a .table .now) text)
-    (chain-goes-on one m (sharedOf (a .numbers) (a .taken .now)) (pointOf (a .head) (a .table .now) text) (omega (arith, if1 .left, f .place .slot-high))
+    c .move-on2 .ensures ∙ sym
+    (chain-goes-on one m (sharedOf (a .numbers) (a .taken .now)) (a .head) (omega (arith, if1 .left, f .place .slot-high))
     (λ e. c .before .if3 .left (word2 .ensures ∙ ap (λ (part : List ℕ). getD part 0 0) (block .ensures) ∙ e)))
 
 pub committing-spec : {M : Type 1} → statement M

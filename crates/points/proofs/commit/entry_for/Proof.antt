@@ -54,7 +54,7 @@ returns c =
     let n = span one (w .offset) (w .size) in
     c .entry .ensures ∙ rw (span-call .ensures)
     (entry-kept one (w .offset / 512) (w .run) n (w .offset + w .size - 512 * (w .offset / 512 + n - 1)) (args .head .number)
-    (lies one (w .offset) (w .size) (p .0) .usedHigh) (p .4))
+    (lies one (w .offset) (w .size) (p .0 .0) .usedHigh) (p .2))
 
 pub entry-for-spec : {M : Type 1} → statement M
 entry-for-spec =

@@ -1,10 +1,8 @@
 -- `points::commit::move_on`: what the walk saw is what the definition asks of it.
-use mathlib.Core.Path.{_≡_, sym, ap, _∙_}
+use mathlib.Core.Path.{sym, _∙_}
 use Rattle.words.specs.Edition.{one}
 use Rattle.words.specs.Memory.{memory}
-use Rattle.log.specs.declared.Seen.{Seen}
-use Rattle.points.specs.Plan.{sharedOf}
-use Rattle.points.proofs.Planned.{seenNow, stop-settles, move-settles}
+use Rattle.points.proofs.Ready.{move-stops, move-goes}
 use borrow.Author.Needs.{needs}
 use Rattle.points.proofs.commit.move_on.Statement.{statement}
 use Rattle.points.proofs.commit.move_on.Tie as tie
@@ -25,14 +23,12 @@ refused-requires : tie.Need-refused-requires
 refused-requires c κs = search needs
 
 returns : tie.Need-returns
-returns c taken table text =
+returns c =
     let span = c .before .before .before .span in
-    let a = c .before .before .before .before .before .before .before .args in
     let w = c .before .before .look in
-    let m = memory one (a .image .now) in
-    let e : w .result ≡ seenNow one m (sharedOf (a .numbers) taken) (a .head) table text = rw (span .ensures) at (w .ensures) in
-    stop-settles one m (sharedOf (a .numbers) taken) (a .head) table text (c .refused .result) (sym (ap (λ (s : Seen). s .broken) e) ∙ c .before .if1 .taken)
-    (c .refused .ensures m (sharedOf (a .numbers) taken) table text)
+    let a = c .before .before .before .before .before .before .before .args in
+    c .refused .ensures
+    ∙ sym (move-stops one (memory one (a .image .now)) (a .head) (a .blocks) (w .result) (rw (span .ensures) at (w .ensures)) (c .before .if1 .taken))
 
 first-edge-requires : tie.Need-first-edge-requires
 first-edge-requires c κs = search needs
@@ -47,8 +43,7 @@ resting-requires : tie.Need-resting-requires
 resting-requires c κs = search needs
 
 returns-2 : tie.Need-returns-2
-returns-2 c taken table text =
-    let pre = c .before .before .before .before .before .before .before .before .before .before .before .before .before .pre in
+returns-2 c =
     let span = c .before .before .before .before .before .before .before .before .before .span in
     let if1 = c .before .before .before .before .before .before .before .if1 in
     let first-edge = c .before .before .before .before .before .before .first-edge in
@@ -56,10 +51,8 @@ returns-2 c taken table text =
     let refill = c .before .before .refill in
     let a = c .before .before .before .before .before .before .before .before .before .before .before .before .before .args in
     let w = c .before .before .before .before .before .before .before .before .look in
-    let m = memory one (a .image .now) in
-    let e : w .result ≡ seenNow one m (sharedOf (a .numbers) taken) (a .head) table text = rw (span .ensures) at (w .ensures) in
-    rw (c .resting .ensures, refill .ensures, first-edge .ensures, last-edge .ensures, e)
-    (move-settles one m (sharedOf (a .numbers) taken) (a .head) table text pre (sym (ap (λ (s : Seen). s .broken) e) ∙ if1 .left))
+    rw (c .resting .ensures, refill .ensures, first-edge .ensures, last-edge .ensures)
+    (sym (move-goes one (memory one (a .image .now)) (a .head) (a .blocks) (w .result) (rw (span .ensures) at (w .ensures)) (if1 .left)))
 
 pub move-on-spec : {M : Type 1} → statement M
 move-on-spec =

@@ -4,8 +4,6 @@ use Rattle.words.specs.Edition.{one}
 use Rattle.words.specs.Memory.{memory}
 use borrow.Author.Tests.{lt-ltb, le-ltb}
 use Rattle.words.proofs.Tests.{is-zero, not-zero}
-use Rattle.points.specs.Plan.{pointOf}
-use Rattle.points.proofs.Planned.{settles-as}
 use Rattle.points.proofs.Ways.{zero-on, link-on, lost-on}
 use borrow.Author.Needs.{needs}
 use Rattle.points.proofs.extend.extending.Statement.{statement}
@@ -15,9 +13,9 @@ zero-out-requires : tie.Need-zero-out-requires
 zero-out-requires c κs = search needs
 
 returns : tie.Need-returns
-returns c s table text = let a = c .before .before .before .before .args in
+returns c = let a = c .before .before .before .before .args in
     let m = memory one (a .image .now) in
-    settles-as (c .zero-out .ensures m s table text) (zero-on one m s (pointOf (a .head) table text) (lt-ltb _ _ (c .before .if1 .taken)))
+    c .zero-out .ensures ∙ sym (zero-on one m (a .head) (lt-ltb _ _ (c .before .if1 .taken)))
 
 cast-next-index : tie.Need-cast-next-index
 cast-next-index c = search needs
@@ -29,25 +27,23 @@ link-requires : tie.Need-link-requires
 link-requires c κs = search needs
 
 returns-2 : tie.Need-returns-2
-returns-2 c s table text =
+returns-2 c =
     let if1 = c .before .before .before .before .if1 in
     let next-index = c .before .before .next-index in
     let a = c .before .before .before .before .before .before .before .args in
     let m = memory one (a .image .now) in
-    settles-as (c .link .ensures m s table text)
-    (link-on one m s (pointOf (a .head) table text) (le-ltb _ _ (if1 .left)) (is-zero _ (sym (next-index .ensures) ∙ c .before .if2 .taken)))
+    c .link .ensures ∙ sym (link-on one m (a .head) (le-ltb _ _ (if1 .left)) (is-zero _ (sym (next-index .ensures) ∙ c .before .if2 .taken)))
 
 give-back-requires : tie.Need-give-back-requires
 give-back-requires c κs = search needs
 
 returns-3 : tie.Need-returns-3
-returns-3 c s table text =
+returns-3 c =
     let if1 = c .before .before .before .before .if1 in
     let next-index = c .before .before .next-index in
     let a = c .before .before .before .before .before .before .before .args in
     let m = memory one (a .image .now) in
-    settles-as (c .give-back .ensures m s table text)
-    (lost-on one m s (pointOf (a .head) table text) (le-ltb _ _ (if1 .left)) (not-zero _ (λ e. c .before .if2 .left (next-index .ensures ∙ e))))
+    c .give-back .ensures ∙ sym (lost-on one m (a .head) (le-ltb _ _ (if1 .left)) (not-zero _ (λ e. c .before .if2 .left (next-index .ensures ∙ e))))
 
 pub extending-spec : {M : Type 1} → statement M
 extending-spec =

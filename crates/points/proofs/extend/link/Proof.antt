@@ -1,22 +1,25 @@
--- `points::extend::link`: the zeroed block's index is stored in word 0 of the log block.
-use Rattle.words.specs.Edition.{one}
-use Rattle.points.proofs.Planned.{link-settles}
+-- `points::extend::link`: the log place enters the new block, and nothing is left to fill.
+use Rattle.points.specs.Stepping.{link}
 use borrow.Author.Needs.{needs}
 use Rattle.points.proofs.extend.link.Statement.{statement}
 use Rattle.points.proofs.extend.link.Tie as tie
 
-cast-zeroing : tie.Need-cast-zeroing
-cast-zeroing c = search needs
+cast-storing : tie.Need-cast-storing
+cast-storing c = search needs
 
-linked-head-requires : tie.Need-linked-head-requires
-linked-head-requires c κs = search needs
+entering-requires : tie.Need-entering-requires
+entering-requires c κs = search needs
+
+to-commit-requires : tie.Need-to-commit-requires
+to-commit-requires c κs = search needs
 
 storing-requires : tie.Need-storing-requires
 storing-requires c κs = search needs
 
 returns : tie.Need-returns
-returns c m s table text = let a = c .before .before .before .args in
-    rw (c .storing .ensures, c .before .linked-head .ensures) (link-settles one m s (a .head) table text)
+unfolding link
+returns c = rw (c .storing .ensures, c .before .to-commit .ensures, c .before .before .entering .ensures)
 
 pub link-spec : {M : Type 1} → statement M
-link-spec = tie.close (tie.spec cast-zeroing linked-head-requires storing-requires returns)
+link-spec =
+    tie.close (tie.spec cast-storing entering-requires to-commit-requires storing-requires returns)

@@ -1,7 +1,6 @@
--- `points::extend::zero_out`: the word at the position gets 0.
-use native.Mathlib.Omega.{arith}
-use Rattle.words.specs.Edition.{one}
-use Rattle.points.proofs.Planned.{zero-settles}
+-- `points::extend::zero_out`: the position one on.
+use native.Mathlib.Numerals.{add-one}
+use Rattle.points.specs.Stepping.{zeroOut}
 use borrow.Author.Needs.{needs}
 use Rattle.points.proofs.extend.zero_out.Statement.{statement}
 use Rattle.points.proofs.extend.zero_out.Tie as tie
@@ -12,18 +11,12 @@ add-turned c = search needs
 turned-requires : tie.Need-turned-requires
 turned-requires c κs = search needs
 
-writing-requires : tie.Need-writing-requires
-writing-requires c κs = search needs
-
 storing-requires : tie.Need-storing-requires
 storing-requires c κs = search needs
 
 returns : tie.Need-returns
-returns c m s table text =
-    let turned = c .before .before .turned in
-    let a = c .before .before .before .before .args in
-    rw (c .storing .ensures, c .before .writing .ensures, turned .ensures) (zero-settles one m s (a .head) table text (omega arith))
+unfolding zeroOut
+returns c = rw (c .storing .ensures, c .before .turned .ensures, add-one)
 
 pub zero-out-spec : {M : Type 1} → statement M
-zero-out-spec =
-    tie.close (tie.spec add-turned turned-requires writing-requires storing-requires returns)
+zero-out-spec = tie.close (tie.spec add-turned turned-requires storing-requires returns)

@@ -2,7 +2,7 @@
 use Prim.Native.Nat.{_+_, _-_}
 use mathlib.Core.Path.{_≡_}
 use native.Mathlib.Omega.{arith}
-use Rattle.points.specs.Plan.{mixedByte}
+use Rattle.points.specs.Lent.{mixedByte}
 use Rattle.points.proofs.NewWord.{Done, next-byte}
 use Rattle.points.proofs.fill.edge_word.Statement.{statement}
 use Rattle.points.proofs.fill.edge_word.Tie as tie

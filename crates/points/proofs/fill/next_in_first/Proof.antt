@@ -20,7 +20,7 @@ returns-2 c =
     let pre = c .before .before .pre in
     let a = c .before .before .args in
     let k = c .before .copied-from in
-    pre .3 ∙ sym (first-done one (a .write) (k .result) (omega arith) (k .ensures) (c .if1 .left))
+    pre .4 ∙ sym (first-done one (a .write) (k .result) (omega arith) (k .ensures) (c .if1 .left))
 
 pub next-in-first-spec : {M : Type 1} → statement M
 next-in-first-spec = tie.close (tie.spec copied-from-requires returns returns-2)

@@ -3,8 +3,7 @@ use native.Mathlib.Omega.{arith}
 use mathlib.Core.Path.{_≡_, sym, _∙_}
 use borrow.Author.Needs.{needs}
 use Rattle.words.specs.Edition.{one}
-use Rattle.points.specs.Unfit.{unfit}
-use Rattle.points.specs.Plan.{pointOf}
+use Rattle.points.specs.Record.{unfit, pointOf}
 use Rattle.points.proofs.Leaves.{leave-refused, leave-done, joined-small}
 use Rattle.points.proofs.Unfit.{fit-joined}
 use Rattle.points.proofs.leave.leave_lent.Statement.{statement}

@@ -1,7 +1,7 @@
 -- `points::record::bad_numbers` meets its contract: its tests are those of the list, from the first on. Assumes nothing.
 use borrow.Author.Needs.{needs}
 use Rattle.words.specs.Edition.{one}
-use Rattle.points.specs.Plan.{sharedOf}
+use Rattle.points.specs.Search.{sharedOf}
 use Rattle.points.proofs.Fits.{shared-tests}
 use Rattle.points.proofs.record.bad_numbers.Statement.{statement}
 use Rattle.points.proofs.record.bad_numbers.Tie as tie

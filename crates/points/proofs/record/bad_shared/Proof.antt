@@ -3,7 +3,7 @@ use mathlib.Core.Path.{_∙_, ap}
 use Rattle.words.specs.Edition.{one}
 use Rattle.points.specs.declared.Numbers.{Numbers}
 use Rattle.points.specs.Record.{badShared}
-use Rattle.points.specs.Plan.{sharedOf}
+use Rattle.points.specs.Search.{sharedOf}
 use borrow.Author.Needs.{needs}
 use Rattle.points.proofs.record.bad_shared.Statement.{statement}
 use Rattle.points.proofs.record.bad_shared.Tie as tie

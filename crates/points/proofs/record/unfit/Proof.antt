@@ -2,8 +2,8 @@
 use mathlib.Core.Path.{_∙_, ap}
 use Rattle.words.specs.Edition.{one}
 use Rattle.points.specs.declared.Numbers.{Numbers}
-use Rattle.points.specs.Unfit.{unfit}
-use Rattle.points.specs.Plan.{sharedOf}
+use Rattle.points.specs.Record.{unfit}
+use Rattle.points.specs.Search.{sharedOf}
 use borrow.Author.Needs.{needs}
 use Rattle.points.proofs.record.unfit.Statement.{statement}
 use Rattle.points.proofs.record.unfit.Tie as tie

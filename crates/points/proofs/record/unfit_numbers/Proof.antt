@@ -6,9 +6,8 @@ use Prim.Native.Nat.{ℕ}
 use borrow.Author.Needs.{needs}
 use borrow.Author.Tests.{not-true, not-false}
 use Rattle.words.specs.Edition.{one}
-use Rattle.points.specs.Record.{badShared, fits}
-use Rattle.points.specs.Unfit.{unfit}
-use Rattle.points.specs.Plan.{sharedOf}
+use Rattle.points.specs.Record.{badShared, fits, unfit}
+use Rattle.points.specs.Search.{sharedOf}
 use Rattle.points.proofs.record.unfit_numbers.Statement.{statement}
 use Rattle.points.proofs.record.unfit_numbers.Tie as tie
 

@@ -2,7 +2,7 @@
 use mathlib.Core.Path.{_∙_, ap}
 use Rattle.points.specs.declared.Numbers.{Numbers}
 use Rattle.points.specs.Search as search
-use Rattle.points.specs.Plan.{sharedOf}
+use Rattle.points.specs.Search.{sharedOf}
 use borrow.Author.Needs.{needs}
 use Rattle.points.proofs.shared.search.Statement.{statement}
 use Rattle.points.proofs.shared.search.Tie as tie

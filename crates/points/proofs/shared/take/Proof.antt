@@ -1,6 +1,6 @@
--- `points::shared::take` meets its contract: the map and the next place are the definition's. Assumes nothing.
+-- `points::shared::take`: the map and the next place are the definition's.
+use Rattle.points.specs.Search.{taking}
 use borrow.Author.Needs.{needs}
-use Rattle.points.proofs.Takes.{taking-is}
 use Rattle.points.proofs.shared.take.Statement.{statement}
 use Rattle.points.proofs.shared.take.Tie as tie
 
@@ -16,8 +16,12 @@ add-next-after c = search needs
 next-after-requires : tie.Need-next-after-requires
 next-after-requires c κs = search needs
 
+with-map-requires : tie.Need-with-map-requires
+with-map-requires c κs = search needs
+
 returns : tie.Need-returns
-returns c = let a = c .before .before .before .before .before .args in taking-is (a .shared) (a .run) (a .n) _ _ (c .before .before .take-run .ensures) (c .next-after .ensures)
+unfolding taking
+returns c = rw (c .with-map .ensures, c .before .next-after .ensures, c .before .before .before .take-run .ensures)
 
 pub take-spec : {M : Type 1} → statement M
 take-spec =
@@ -27,4 +31,5 @@ take-spec =
     take-run-requires
     add-next-after
     next-after-requires
+    with-map-requires
     returns)

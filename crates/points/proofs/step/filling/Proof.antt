@@ -2,8 +2,9 @@
 use native.Mathlib.Omega.{arith}
 use Rattle.words.specs.Edition.{one}
 use Rattle.words.specs.Memory.{memory}
-use Rattle.points.specs.Plan.{pointOf, sharedOf}
-use Rattle.points.proofs.Planned.{settles-as}
+use Rattle.points.specs.Record.{pointOf}
+use Rattle.points.specs.Search.{sharedOf}
+use mathlib.Core.Path.{sym, _∙_}
 use Rattle.points.proofs.Ready.{ready, ready-position, fills, commits}
 use Rattle.points.proofs.Facts.{span-few}
 use borrow.Author.Needs.{needs}
@@ -35,7 +36,7 @@ fill-requires c κs =
     let a = c .before .before .before .before .args in
     let f = ready one (a .image .now) (sharedOf (a .numbers) (a .taken .now)) (a .head) (a .table .now) (pre .0) in
     let t = f .run .text in
-    (t .some-text, t .few-text, t .ends-inside, rw (run-words .ensures) at (c .if1 .taken))
+    ((t .some-text, t .few-text, t .ends-inside), rw (run-words .ensures) at (c .if1 .taken))
 
 returns : tie.Need-returns
 returns c =
@@ -43,7 +44,7 @@ returns c =
     let next-word = c .before .before .next-word in
     let a = c .before .before .before .before .before .args in
     let m = memory one (a .image .now) in
-    settles-as (c .fill .ensures (sharedOf (a .numbers) (a .taken .now)))
+    c .fill .ensures (sharedOf (a .numbers) (a .taken .now)) ∙ sym
     (fills one m (sharedOf (a .numbers) (a .taken .now)) (pointOf (a .head) (a .table .now) (a .text .now)) (next-word .result) (run-words .result)
     (next-word .ensures) (run-words .ensures) (c .before .if1 .taken))
 
@@ -58,7 +59,7 @@ returns-2 c =
     let next-word = c .before .before .next-word in
     let a = c .before .before .before .before .before .args in
     let m = memory one (a .image .now) in
-    settles-as (c .committing .ensures (a .text .now))
+    c .committing .ensures ∙ sym
     (commits one m (sharedOf (a .numbers) (a .taken .now)) (pointOf (a .head) (a .table .now) (a .text .now)) (next-word .result) (run-words .result)
     (next-word .ensures) (run-words .ensures) (c .before .if1 .left))
 

@@ -1,9 +1,8 @@
 -- `points::step::settle`: the reasons in their order, then what the step does.
 use mathlib.Core.Path.{sym, _∙_}
 use Rattle.words.specs.Edition.{one}
-use Rattle.words.specs.Memory.{memory}
-use Rattle.points.specs.Plan.{pointOf, sharedOf}
-use Rattle.points.proofs.Planned.{settles-as}
+use Rattle.points.specs.Record.{pointOf}
+use Rattle.points.specs.Search.{sharedOf}
 use Rattle.points.proofs.Ready.{turned-down, none-under-way, under-way, goes-on}
 use borrow.Author.Needs.{needs}
 use Rattle.points.proofs.step.settle.Statement.{statement}
@@ -19,8 +18,7 @@ returns : tie.Need-returns
 returns c =
     let unfit = c .before .before .unfit-numbers in
     let a = c .before .before .before .before .args in
-    let m = memory one (a .image .now) in
-    settles-as (c .refused .ensures m (sharedOf (a .numbers) (a .taken .now)) (a .table .now) (a .text .now))
+    c .refused .ensures ∙ sym
     (turned-down one (a .image .now) (sharedOf (a .numbers) (a .taken .now)) (pointOf (a .head) (a .table .now) (a .text .now)) (unfit .result)
     (unfit .ensures (a .taken .now)) (c .before .if1 .taken))
 
@@ -36,8 +34,7 @@ returns-2 c =
     let if1 = c .before .before .before .before .if1 in
     let is-idle = c .before .before .is-idle in
     let a = c .before .before .before .before .before .before .before .args in
-    let m = memory one (a .image .now) in
-    settles-as (c .refused2 .ensures m (sharedOf (a .numbers) (a .taken .now)) (a .table .now) (a .text .now))
+    c .refused2 .ensures ∙ sym
     (none-under-way one (a .image .now) (sharedOf (a .numbers) (a .taken .now)) (pointOf (a .head) (a .table .now) (a .text .now))
     (sym (unfit .ensures (a .taken .now)) ∙ if1 .left) (sym (is-idle .ensures) ∙ c .before .if2 .taken))
 
@@ -55,7 +52,7 @@ returns-3 c =
     let if1 = c .before .before .before .before .if1 in
     let is-idle = c .before .before .is-idle in
     let a = c .before .before .before .before .before .before .before .args in
-    settles-as (c .write-on .ensures)
+    c .write-on .ensures ∙ sym
     (goes-on one (a .image .now) (sharedOf (a .numbers) (a .taken .now)) (pointOf (a .head) (a .table .now) (a .text .now))
     (under-way one (a .image .now) (sharedOf (a .numbers) (a .taken .now)) (pointOf (a .head) (a .table .now) (a .text .now))
     (sym (unfit .ensures (a .taken .now)) ∙ if1 .left) (sym (is-idle .ensures) ∙ c .before .if2 .left)))

@@ -1,7 +1,18 @@
 -- `points::step::step`: the step on copies of map, table and text.
+use Rattle.points.proofs.Planned.{whole-step}
 use borrow.Author.Needs.{needs}
 use Rattle.points.proofs.step.step.Statement.{statement}
 use Rattle.points.proofs.step.step.Tie as tie
+
+-- the way back, call by call
+abbrev stepped : tie.After-with-map → tie.After-step-lent
+stepped c = c .before .before .before .before
+
+abbrev lent : tie.After-step-lent → tie.After-text
+lent c = c .before .before .before .before .before
+
+abbrev numbered : tie.After-text → tie.After-numbers
+numbered c = c .before .before .before .before
 
 numbers-requires : tie.Need-numbers-requires
 numbers-requires c κs = search needs
@@ -9,14 +20,19 @@ numbers-requires c κs = search needs
 step-lent-requires : tie.Need-step-lent-requires
 step-lent-requires c κs = search needs
 
+with-map-requires : tie.Need-with-map-requires
+with-map-requires c κs = search needs
+
 same-length : tie.Need-same-length
 same-length c = search needs
 
 returns : tie.Need-returns
 returns c =
-    let n = c .before .before .before .before .before .before .before .before .before .before .before .before .numbers in
-    let s = c .before .before .before .step-lent in
-    rw (n .ensures) (rw (n .ensures) at (s .ensures))
+    let s = stepped c in
+    let n = numbered (lent s) in
+    let a = n .before .before .args in
+    whole-step (a .image .now) (a .shared) (a .point) (n .numbers .result) (s .step-lent .result) _ _ _ _ (c .with-map .result)
+    (n .numbers .ensures) (c .with-map .ensures) (s .step-lent .ensures)
 
 pub step-spec : {M : Type 1} → statement M
-step-spec = tie.close (tie.spec numbers-requires step-lent-requires same-length returns)
+step-spec = tie.close (tie.spec numbers-requires step-lent-requires with-map-requires same-length returns)

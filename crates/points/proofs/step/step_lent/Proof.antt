@@ -1,30 +1,62 @@
--- `points::step::step_lent`: the plan stands for the outcome of the definition; the map, the table, the text and the image are left as the plan says.
-use mathlib.Core.Path.{sym, ap, _∙_}
-use mathlib.Core.Option.{Option}
+-- `points::step::step_lent`: what the plan asks for, the plan of a step has; map, table, text and image are left as the plan says.
+use mathlib.Core.Path.{sym, ap, subst, _∙_}
+use Prim.Native.Nat.{_<_, _^_}
+use native.Mathlib.Omega.{arith}
 use Rattle.words.specs.Edition.{one}
-use Rattle.words.specs.Memory.{memory, after, Store}
-use Rattle.points.specs.Stepping.{Outcome, answered}
-use Rattle.points.specs.Plan.{pointOf, sharedOf}
-use Rattle.points.proofs.Planned.{answers, stored-by}
+use Rattle.words.specs.Memory.{memory, after}
+use Rattle.points.specs.declared.plan.Plan.{Plan}
+use Rattle.points.specs.Record.{pointOf}
+use Rattle.points.specs.Search.{sharedOf}
+use Rattle.points.specs.Plan.{answered, carriedOut}
+use Rattle.points.specs.Stepping.{stepping}
+use Rattle.points.proofs.Planned.{Sound, planned-sound, carried-out}
 use borrow.Author.Needs.{needs}
 use Rattle.points.proofs.step.step_lent.Statement.{statement}
 use Rattle.points.proofs.step.step_lent.Tie as tie
 
+-- the way back, call by call
+abbrev stored : tie.After-standing → tie.After-store
+stored c = c .before .before .before
+
+abbrev kept : tie.After-store → tie.After-keep-text
+kept c = c .before .before
+
+abbrev read : tie.After-keep-text → tie.After-read-in
+read c = c .before .before
+
+abbrev taken : tie.After-read-in → tie.After-take-one
+taken c = c .before .before .before
+
+abbrev released : tie.After-take-one → tie.After-release
+released c = c .before .before
+
+abbrev settled : tie.After-release → tie.After-settle
+settled c = c .before .before .before
+
+abbrev start : tie.After-settle → tie.Start
+start c = c .before .before .before .before .before .before
+
+few-joined : (c : tie.Start) → c .args .numbers .joined < 2 ^ 32
+few-joined c = omega arith
+
+-- what the plan asks for
+sound : (c : tie.After-settle) → let a = start c .args in Sound one (memory one (a .image .now)) (sharedOf (a .numbers) (a .taken .now)) (a .head) (c .settle .result)
+sound c =
+    let a = start c .args in
+    subst (Sound one (memory one (a .image .now)) (sharedOf (a .numbers) (a .taken .now)) (a .head)) (sym (c .settle .ensures))
+    (planned-sound one (a .image .now) (sharedOf (a .numbers) (a .taken .now)) (pointOf (a .head) (a .table .now) (a .text .now)) (few-joined (start c)))
+
 settle-requires : tie.Need-settle-requires
 settle-requires c κs = search needs
 
-claim-requires : tie.Need-claim-requires
-claim-requires c κs =
-    let settle = c .before .before .settle in
-    settle .ensures .claim
+release-requires : tie.Need-release-requires
+release-requires c κs = sound (c .before .before) .frees
 
-next-place-requires : tie.Need-next-place-requires
-next-place-requires c κs = search needs
+take-one-requires : tie.Need-take-one-requires
+take-one-requires c κs = search needs
 
-take-in-requires : tie.Need-take-in-requires
-take-in-requires c κs =
-    let settle = c .before .before .before .before .before .before .settle in
-    settle .ensures .change
+read-in-requires : tie.Need-read-in-requires
+read-in-requires c κs = sound (settled (released (c .before .before))) .reads
 
 keep-text-requires : tie.Need-keep-text-requires
 keep-text-requires c κs = search needs
@@ -32,42 +64,34 @@ keep-text-requires c κs = search needs
 store-requires : tie.Need-store-requires
 store-requires c κs = search needs
 
-lengthened-requires : tie.Need-lengthened-requires
-lengthened-requires c κs = search needs
+standing-requires : tie.Need-standing-requires
+standing-requires c κs = search needs
 
 same-length : tie.Need-same-length
 same-length c = search needs
 
 returns : tie.Need-returns
+unfolding stepping carriedOut
 returns c =
-    let settle = c .before .before .before .before .before .before .before .before .before .before .before .before .before .before .settle in
-    let claim = c .before .before .before .before .before .before .before .before .before .before .before .claim in
-    let next = c .before .before .before .before .before .before .before .before .before .before .next-place in
-    let take-in = c .before .before .before .before .before .before .before .take-in in
-    let keep-text = c .before .before .before .before .before .keep-text in
-    let store = c .before .before .before .store in
-    let a = c .before .before .before .before .before .before .before .before .before .before .before .before .before .before .before .before .before .before .before .before .args in
-    let plan = settle .result in
-    let m = memory one (a .image .now) in
+    let text = kept (stored c) in
+    let table = read text in
+    let block = taken table in
+    let map = released block in
+    let plan = settled map in
+    let a = start plan .args in
+    let s = sharedOf (a .numbers) (a .taken .now) in
     let p = pointOf (a .head) (a .table .now) (a .text .now) in
-    let o = settle .ensures .outcome in (
-      answers one m (a .numbers) (a .taken .now) plan p (c .lengthened .result) (claim .last .0) (take-in .last .1 .1 .1 .0) (keep-text .last .0)
-          (next .result) (take-in .result) (claim .ensures) (next .ensures) (take-in .ensures)
-          (keep-text .ensures) (c .lengthened .ensures) ∙ ap answered o,
-      store .ensures ∙ ap (λ (x : Option Store). after one (a .image .now) x)
-          (sym (stored-by one m (sharedOf (a .numbers) (a .taken .now)) plan p) ∙ ap (λ (x : Outcome). x .store) o),
-    )
+    let m = memory one (a .image .now) in
+    let e = plan .settle .ensures in
+    record {
+      answers = carried-out one m (a .numbers) (a .taken .now) (plan .settle .result) p (c .standing .result) (map .release .last .0)
+          (block .take-one .last .1 .0) (table .read-in .last .1 .1 .1 .0) (text .keep-text .last .0) (block .take-one .result) (table .read-in .result)
+          (map .release .ensures) (block .take-one .ensures) (table .read-in .ensures) (text .keep-text .ensures) (c .standing .ensures)
+          ∙ ap (λ (x : Plan). answered (carriedOut one m s p x)) e;
+      stored = stored c .store .ensures ∙ ap (λ (x : Plan). after one (a .image .now) (carriedOut one m s p x .store)) e;
+    }
 
 pub step-lent-spec : {M : Type 1} → statement M
 step-lent-spec =
     tie.close
-    (tie.spec
-    settle-requires
-    claim-requires
-    next-place-requires
-    take-in-requires
-    keep-text-requires
-    store-requires
-    lengthened-requires
-    same-length
-    returns)
+    (tie.spec settle-requires release-requires take-one-requires read-in-requires keep-text-requires store-requires standing-requires same-length returns)

@@ -2,8 +2,8 @@
 use mathlib.Core.Path.{sym, _∙_}
 use Rattle.words.specs.Edition.{one}
 use Rattle.words.specs.Memory.{memory}
-use Rattle.points.specs.Plan.{pointOf, sharedOf}
-use Rattle.points.proofs.Planned.{settles-as}
+use Rattle.points.specs.Record.{pointOf}
+use Rattle.points.specs.Search.{sharedOf}
 use Rattle.points.proofs.Ready.{ready-zeroing}
 use Rattle.points.proofs.Ways.{on-zeroing, on-filling}
 use borrow.Author.Needs.{needs}
@@ -26,7 +26,7 @@ returns c =
     let is-zeroing = c .before .before .is-zeroing in
     let a = c .before .before .before .before .before .args in
     let m = memory one (a .image .now) in
-    settles-as (c .extending .ensures (sharedOf (a .numbers) (a .taken .now)) (a .table .now) (a .text .now))
+    c .extending .ensures ∙ sym
     (on-zeroing one m (sharedOf (a .numbers) (a .taken .now)) (pointOf (a .head) (a .table .now) (a .text .now))
     (sym (is-zeroing .ensures) ∙ c .before .if1 .taken))
 
@@ -40,7 +40,7 @@ returns-2 c =
     let is-zeroing = c .before .before .is-zeroing in
     let a = c .before .before .before .before .before .args in
     let m = memory one (a .image .now) in
-    settles-as (c .filling .ensures)
+    c .filling .ensures ∙ sym
     (on-filling one m (sharedOf (a .numbers) (a .taken .now)) (pointOf (a .head) (a .table .now) (a .text .now))
     (sym (is-zeroing .ensures) ∙ c .before .if1 .left))
 

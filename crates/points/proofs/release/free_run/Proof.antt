@@ -1,8 +1,8 @@
--- `points::claim::free_run`: as many blocks as the write spans. Assumes nothing.
-use Rattle.points.specs.Calls.{withoutRun}
+-- `points::release::free_run`: as many blocks as the write spans. Assumes nothing.
+use Rattle.points.specs.Plan.{withoutRun}
 use borrow.Author.Needs.{needs}
-use Rattle.points.proofs.claim.free_run.Statement.{statement}
-use Rattle.points.proofs.claim.free_run.Tie as tie
+use Rattle.points.proofs.release.free_run.Statement.{statement}
+use Rattle.points.proofs.release.free_run.Tie as tie
 
 cast-free-run : tie.Need-cast-free-run
 cast-free-run c = search needs

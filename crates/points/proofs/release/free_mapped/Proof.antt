@@ -1,9 +1,9 @@
--- `points::claim::free_mapped`: 0 stands for no block.
+-- `points::release::free_mapped`: 0 stands for no block.
 use mathlib.Core.Path.{_∙_}
 use Rattle.points.proofs.Commits.{free-none, free-one}
 use borrow.Author.Needs.{needs}
-use Rattle.points.proofs.claim.free_mapped.Statement.{statement}
-use Rattle.points.proofs.claim.free_mapped.Tie as tie
+use Rattle.points.proofs.release.free_mapped.Statement.{statement}
+use Rattle.points.proofs.release.free_mapped.Tie as tie
 
 free-block-requires : tie.Need-free-block-requires
 free-block-requires c κs = search needs

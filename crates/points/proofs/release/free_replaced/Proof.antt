@@ -1,8 +1,7 @@
--- `points::claim::free_replaced`: as many blocks as the write spans, from its first on. Assumes nothing.
-use borrow.Author.Tests.{leb-true}
+-- `points::release::free_replaced`: as many blocks as the write spans, from its first on. Assumes nothing.
 use borrow.Author.Needs.{needs}
-use Rattle.points.proofs.claim.free_replaced.Statement.{statement}
-use Rattle.points.proofs.claim.free_replaced.Tie as tie
+use Rattle.points.proofs.release.free_replaced.Statement.{statement}
+use Rattle.points.proofs.release.free_replaced.Tie as tie
 
 span-requires : tie.Need-span-requires
 span-requires c κs = search needs
@@ -14,7 +13,7 @@ cast-free-mapped-from-2 : tie.Need-cast-free-mapped-from-2
 cast-free-mapped-from-2 c = search needs
 
 free-mapped-from-requires : tie.Need-free-mapped-from-requires
-free-mapped-from-requires c κs = let p = c .before .before .before .before .pre in rw (c .before .before .span .ensures) (leb-true _ _ p)
+free-mapped-from-requires c κs = let p = c .before .before .before .before .pre in rw (c .before .before .span .ensures) p
 
 same-length : tie.Need-same-length
 same-length c = search needs

@@ -1,4 +1,4 @@
--- `points::claim::free_mapped_from`: what is left to free makes of the map so far what the whole list makes of the first.
+-- `points::release::free_mapped_from`: what is left to free makes of the map so far what the whole list makes of the first.
 use mathlib.Core.Path.{_≡_, refl, _∙_}
 use native.Mathlib.Omega.{arith}
 use Prim.Native.Nat.{_+_}
@@ -7,8 +7,8 @@ use lib.ListN.{length, take, drop}
 use Rattle.words.specs.BlockMap.{markAll}
 use Rattle.points.proofs.Commits.{freed-one, freed-all}
 use borrow.Author.Needs.{needs}
-use Rattle.points.proofs.claim.free_mapped_from.Statement.{statement}
-use Rattle.points.proofs.claim.free_mapped_from.Tie as tie
+use Rattle.points.proofs.release.free_mapped_from.Statement.{statement}
+use Rattle.points.proofs.release.free_mapped_from.Tie as tie
 
 abbrev Inv-loop : tie.InvT-loop
 Inv-loop map₀ table v n at₀ left₀ map at left =
