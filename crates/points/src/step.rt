@@ -6,7 +6,7 @@ ghost use Prim.Native.Nat.{_<_};
 ghost use Rattle.words.specs.Edition.{one};
 ghost use Rattle.words.specs.Memory.{memory, after};
 ghost use Rattle.log.specs.declared.Shared.{Shared};
-ghost use Rattle.points.specs.Record.{runWords, isZeroing, fileAt, pointOf};
+ghost use Rattle.points.specs.Record.{runWords, isZeroing, pointOf};
 ghost use Rattle.points.specs.Search.{sharedOf};
 ghost use Rattle.points.specs.Plan.{readIn, textAfter, stores, storeOf, Readable};
 ghost use Rattle.points.specs.Stepping.{fill, filling, writeOn, planned};
@@ -19,6 +19,7 @@ use crate::Stepped;
 use crate::plan::Kind;
 use crate::plan::Plan;
 use crate::plan::Reads;
+use log::Place;
 use log::Shared;
 
 // Word k of the run is filled.
@@ -100,19 +101,20 @@ fn settle<'a>(
 fn read_in(
     image: &[u64],
     blocks: u32,
-    head: Head,
+    at: Place,
     table: &mut [u16; 256],
+    length: u32,
     reads: Reads,
     entry: u64,
 ) -> u32
-    requires { ⌜ Readable reads one (memory one (now image)) blocks (head .place) entry ⌝ }
+    requires { ⌜ Readable reads one (memory one (now image)) blocks at entry ⌝ }
     ensures { λ r. ⌜ record { table = now (table .exit); size = r }
-        ≡ readIn reads one (memory one (now (image .entry))) blocks (head .place) entry (fileAt head (now (table .entry))) ⌝ }
+        ≡ readIn reads one (memory one (now (image .entry))) blocks at entry (record { table = now (table .entry); size = length }) ⌝ }
 {
     match reads {
-        Reads::NoEntry => head.length,
-        Reads::OwnEntry => log::ahead::take_entry(entry, blocks, table, head.length),
-        Reads::AllAhead => log::ahead::catch_up(image, blocks, head.place, table, head.length),
+        Reads::NoEntry => length,
+        Reads::OwnEntry => log::ahead::take_entry(entry, blocks, table, length),
+        Reads::AllAhead => log::ahead::catch_up(image, blocks, at, table, length),
     }
 }
 
@@ -164,7 +166,15 @@ pub fn step_lent(
     crate::release::release(taken, frees, head.write, table);
     let next = crate::shared::take_one(numbers, taken, plan.takes);
     let reads = plan.reads;
-    let length = read_in(image, numbers.blocks, head, table, reads, plan.value);
+    let length = read_in(
+        image,
+        numbers.blocks,
+        head.place,
+        table,
+        head.length,
+        reads,
+        plan.value,
+    );
     keep_text(text, plan.clears);
     let kind = plan.kind;
     store(image, kind, plan.block, plan.word, plan.value);
