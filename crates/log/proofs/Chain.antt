@@ -64,10 +64,13 @@ module _ (m : Memory) (map : List ℕ) (n b : ℕ) where
   unfolding markAll
   links-marked-all h = rw (chain-none m n b h)
 
+-- its indexes and a bound that none of them reaches
+module _ (m : Memory) (n b : ℕ) where
   pub links-below : (k : ℕ) → 0 < n → (b ≡ 0 → ⊥) → some-of (outside k) (chainFrom m n b) ≡ false → b < k
   links-below k h ne e = leb-false k b (or-left (leb k b) _ (rw (chain-next m n b h ne) at e))
 
-  pub links-rest : (k : ℕ) → 0 < n → (b ≡ 0 → ⊥) → some-of (outside k) (chainFrom m n b) ≡ false → some-of (outside k) (chainFrom m (n - 1) (nextIndex m b)) ≡ false
+  pub links-rest :
+      (k : ℕ) → 0 < n → (b ≡ 0 → ⊥) → some-of (outside k) (chainFrom m n b) ≡ false → some-of (outside k) (chainFrom m (n - 1) (nextIndex m b)) ≡ false
   links-rest k h ne e = or-right (leb k b) _ (rw (chain-next m n b h ne) at e)
 
 -- the chain's indexes are not 0

@@ -67,10 +67,10 @@ module _ {words scratch : List ℕ} (p : Passed one words scratch) where
 
   -- the log's length from the place where the walk ended
   pub count-is :
-      (end : Place) → end ≡ placeAfter (ahead one (memory one words) (blockCount one words) (startOf words))
+      (end : Place) → end ≡ placeAfter (startOf words) (ahead one (memory one words) (blockCount one words) (startOf words))
       → (64 ≤ end .slot + 62 * end .passed) × (end .slot ≤ 64) × (end .passed ≤ 64)
       × ((n : ℕ) → n + 64 ≡ end .slot + 62 * end .passed → n ≡ length (log (memory one words)))
-  count-is end e = let k = log-count words (p .index) (p .ends) in rw e (omega (arith, k .0), k .2, k .1, λ n h. omega (arith, k .0))
+  count-is end e = let k = log-count words (p .index) (p .ends) in rw e (omega (arith, k .0), k .2, omega (arith, k .1), λ n h. omega (arith, k .0))
 
   -- the entries are legal, and taken in
   pub taken-in :
