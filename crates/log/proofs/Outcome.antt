@@ -14,7 +14,7 @@ use Rattle.words.specs.Logic.{listFrom}
 use Rattle.words.specs.Memory.{memory, blockCount}
 use Rattle.log.specs.CatchUp.{ahead, placeAfter, broken}
 use Rattle.log.specs.Chain.{firstIndex, chain, log}
-use Rattle.log.specs.Opening.{badEntry, fileOf, openRefusal, takenAtOpening, sharedAtOpening, openedWith, opened, scratchMark, scratchAfter}
+use Rattle.log.specs.Opening.{badEntry, fileOf, openRefusal, refusedWith, takenAtOpening, sharedAtOpening, openedWith, opened, scratchMark, scratchAfter}
 use Rattle.log.specs.Parts.{startOf, Takable, Markable}
 use Rattle.log.specs.Replay.{Mapped, replayOn, nothing, replay, shared, dirtyEnd}
 use Rattle.log.specs.declared.Place.{Place}
@@ -22,7 +22,7 @@ use Rattle.log.specs.declared.Reply.the-variants.{Done}
 use Rattle.words.proofs.Memory.{size-facts}
 use Rattle.log.proofs.Chain.{inside-outside}
 use Rattle.log.proofs.Cover.{fresh}
-use Rattle.log.proofs.Opening.{Passed, refusedWith, refused-opened, refused-scratch, refused-cleared, is-7, is-8, is-9, is-0, done-opened, done-scratch}
+use Rattle.log.proofs.Opening.{Passed, refused-opened, refused-scratch, refused-cleared, is-7, is-8, is-9, is-0, done-opened, done-scratch}
 use Rattle.log.proofs.Sound.{Sound, sound-fresh, sound-replay}
 use Rattle.log.proofs.Start.{chain-inside, first-inside, start-entries, start-broken, log-count}
 
@@ -153,8 +153,7 @@ module _ (E : Edition) {words scratch table : List ℕ} {size : ℕ} (h : Held E
 module _ {words scratch table : List ℕ} {size : ℕ} (h : Held one words scratch table size) where
   pub takable : Takable words table
   takable = record {
-    entries = sound one h .width;
-    inside = λ v. omega (arith, sound one h .inImage v, size-facts one words (h .passed .size) .2);
+    fits = record { entries = sound one h .width; inside = λ v. omega (arith, sound one h .inImage v, size-facts one words (h .passed .size) .2) };
     chained =
         inside-outside (blockCount one words) 1024 (chain (memory one words)) (size-facts one words (h .passed .size) .2)
         (chain-inside one words (h .passed .index));

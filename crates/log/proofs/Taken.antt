@@ -167,7 +167,7 @@ module _ (words table : List ℕ) (t : Takable words table) where
     base-is = e2 ∙ ap (λ (k : List ℕ). markAll true k cs) e1
 
     pub met-shared : met ≡ clash map2 table → met ≡ shared table cs
-    met-shared e = e ∙ ap (λ (k : List ℕ). clash k table) base-is ∙ clash-shared table cs (table-below table (t .inside)) (outside-below cs (t .chained)) positive
+    met-shared e = e ∙ ap (λ (k : List ℕ). clash k table) base-is ∙ clash-shared table cs (table-below table (t .fits .inside)) (outside-below cs (t .chained)) positive
 
     pub map-taken : map3 ≡ markAll true map2 table → map3 ≡ mapOf (takenAtOpening table cs)
-    map-taken e = e ∙ ap (λ (k : List ℕ). markAll true k table) base-is ∙ map-opened table cs (table-below table (t .inside)) (outside-below cs (t .chained)) positive
+    map-taken e = e ∙ ap (λ (k : List ℕ). markAll true k table) base-is ∙ map-opened table cs (table-below table (t .fits .inside)) (outside-below cs (t .chained)) positive

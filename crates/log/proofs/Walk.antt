@@ -12,7 +12,7 @@ use Rattle.words.specs.Edition.{Edition}
 use Rattle.words.specs.Logic.{upToZero}
 use Rattle.words.specs.Memory.{Memory, memory, blockAt}
 use Rattle.log.specs.CatchUp.{Walk, ended, following, walkIn, walk}
-use Rattle.log.specs.Chain.{nextIndex, chainFrom, slotsOf}
+use Rattle.log.specs.Chain.{nextIndex, chainFrom, entriesFrom, slotsOf}
 use Rattle.words.proofs.Sizes.{sized}
 use Rattle.words.proofs.Logic.{upToZero-append, upToZero-le, upToZero-stops, upToZero-full}
 use Rattle.words.proofs.Memory.{block-outside, block-length}
@@ -22,7 +22,7 @@ use Rattle.log.proofs.Chain.{chain-end}
 
 -- the entries of one log block from slot i on
 abbrev pub here : Memory → ℕ → ℕ → List ℕ
-here m b i = upToZero (drop i (blockAt m b))
+here m b i = entriesFrom i (blockAt m b)
 
 module _ (E : Edition) (m : Memory) (blocks b i : ℕ) where
   abbrev es : List ℕ
