@@ -16,7 +16,7 @@ use Rattle.log.specs.CatchUp.{ahead, placeAfter, broken}
 use Rattle.log.specs.Chain.{firstIndex, chain, log}
 use Rattle.log.specs.Opening.{badEntry, fileOf, openRefusal, refusedWith, takenAtOpening, sharedAtOpening, openedWith, opened, scratchMark, scratchAfter}
 use Rattle.log.specs.Parts.{startOf, Takable, Markable}
-use Rattle.log.specs.Replay.{Mapped, replayOn, nothing, replay, shared, dirtyEnd}
+use Rattle.log.specs.Replay.{Mapped, replayOn, nothing, replay, sharesBlock, dirtyEnd}
 use Rattle.log.specs.declared.Place.{Place}
 use Rattle.log.specs.declared.Reply.the-variants.{Done}
 use Rattle.words.proofs.Memory.{size-facts}
@@ -59,11 +59,11 @@ module _ {words scratch : List ℕ} (p : Passed one words scratch) where
   pub at-start : (st : Place) → st ≡ record { block = firstIndex (memory one words) % 2 ^ 32; slot = 2; passed = 1 } → st ≡ startOf words
   at-start st e = e ∙ ap (λ (b : ℕ). record { block = b; slot = 2; passed = 1 }) (mod-eq-of-lt (omega (arith, first-small one p)))
 
-  pub seen-bad :
+  pub walk-bad :
       (st : Place) → st ≡ startOf words
       → broken one (blockCount one words) (ahead one (memory one words) (blockCount one words) st)
       ≡ badEntry one (blockCount one words) (log (memory one words))
-  seen-bad st e = rw e (start-broken words (p .index) (p .ends))
+  walk-bad st e = rw e (start-broken words (p .index) (p .ends))
 
   -- the log's length from the place where the walk ended
   pub count-is :
@@ -105,9 +105,9 @@ module _ (E : Edition) {words scratch table : List ℕ} {size : ℕ} (h : Held E
   pub file-small : size ≤ fileEnd E
   file-small = sound .small
 
-  module _ (met : Bool) (em : met ≡ shared table (chain (memory E words))) where
-    met-is : met ≡ shared (fileOf E (memory E words) .table) (chain (memory E words))
-    met-is = em ∙ ap (λ (t : List ℕ). shared t (chain (memory E words))) table-is
+  module _ (met : Bool) (em : met ≡ sharesBlock table (chain (memory E words))) where
+    met-is : met ≡ sharesBlock (fileOf E (memory E words) .table) (chain (memory E words))
+    met-is = em ∙ ap (λ (t : List ℕ). sharesBlock t (chain (memory E words))) table-is
 
     -- 8
     pub out-8 : met ≡ true → (opened E words scratch ≡ refusedWith 8) × (scratchAfter E words scratch ≡ replicate 1024 0 ++ drop 1024 scratch)

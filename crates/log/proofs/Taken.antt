@@ -16,7 +16,7 @@ use Rattle.words.specs.Memory.{memory}
 use Rattle.log.specs.Chain.{firstIndex, chain}
 use Rattle.log.specs.Opening.{takenAtOpening}
 use Rattle.log.specs.Parts.{clash, Takable}
-use Rattle.log.specs.Replay.{live, repeated, shared}
+use Rattle.log.specs.Replay.{live, repeated, sharesBlock}
 use Rattle.words.proofs.BlockMap.{taken-mark, markAll-one}
 use Rattle.words.proofs.MapOf.{sound-zeros, zeros-free, sound-mark, Below, sound-markAll, taken-markAll, taken-markAll-zero, Sound, map-is, in-map}
 use Rattle.words.proofs.Tests.{eqb-sym}
@@ -138,9 +138,9 @@ module _ (table cs : List ℕ) (tb : Below table) (cb : Below cs) (cp : Positive
   some-chain (suc b ∷ xs) = ap₂ _||_ (base-taken b) (some-chain xs) ∙ sym (live-more (suc b) xs cs cp)
 
   -- 8
-  pub clash-shared : clash (base cs) table ≡ shared table cs
-  unfolding shared any
-  clash-shared = clash-is (base cs) table tb base-sound ∙ ap (λ (t : Bool). repeated table || t) (some-chain table ∙ sym (or-false (some-of (live table) cs)))
+  pub clash-shares : clash (base cs) table ≡ sharesBlock table cs
+  unfolding sharesBlock any
+  clash-shares = clash-is (base cs) table tb base-sound ∙ ap (λ (t : Bool). repeated table || t) (some-chain table ∙ sym (or-false (some-of (live table) cs)))
 
   all-taken : (b : ℕ) → taken (markAll true (base cs) table) b ≡ takenAtOpening table cs b
   unfolding takenAtOpening any
@@ -166,8 +166,8 @@ module _ (words table : List ℕ) (t : Takable words table) where
     base-is : map2 ≡ base cs
     base-is = e2 ∙ ap (λ (k : List ℕ). markAll true k cs) e1
 
-    pub met-shared : met ≡ clash map2 table → met ≡ shared table cs
-    met-shared e = e ∙ ap (λ (k : List ℕ). clash k table) base-is ∙ clash-shared table cs (table-below table (t .fits .inside)) (outside-below cs (t .chained)) positive
+    pub met-shares : met ≡ clash map2 table → met ≡ sharesBlock table cs
+    met-shares e = e ∙ ap (λ (k : List ℕ). clash k table) base-is ∙ clash-shares table cs (table-below table (t .fits .inside)) (outside-below cs (t .chained)) positive
 
     pub map-taken : map3 ≡ markAll true map2 table → map3 ≡ mapOf (takenAtOpening table cs)
     map-taken e = e ∙ ap (λ (k : List ℕ). markAll true k table) base-is ∙ map-opened table cs (table-below table (t .fits .inside)) (outside-below cs (t .chained)) positive

@@ -12,7 +12,7 @@ use Rattle.words.specs.BlockMap.{taken, mark, markAll, mapOf}
 use Rattle.log.specs.declared.Place.{Place}
 use Rattle.log.specs.Chain.{firstIndex, chain, outside, badSuperblock, badIndex, endless, badLog}
 use Rattle.log.specs.Opening.{takenAtOpening, cleared}
-use Rattle.log.specs.Replay.{Mapped, replayOn, shared}
+use Rattle.log.specs.Replay.{Mapped, replayOn, sharesBlock}
 
 -- ---- catching up
 
@@ -51,15 +51,16 @@ TakesBlocks blocks before after met = (after ≡ markAll true before blocks) × 
 abbrev pub TakesAll : List ℕ → List ℕ → List ℕ → Bool → Type 0
 TakesAll words table map met =
     let logBlocks = chain (memory one words) in
-    (met ≡ shared table logBlocks) × (map ≡ mapOf (takenAtOpening table logBlocks))
+    (met ≡ sharesBlock table logBlocks) × (map ≡ mapOf (takenAtOpening table logBlocks))
 
--- place i of a scratch over which the table's virtual blocks, from v on, and these log blocks are marked
-unfoldable pub placed : List ℕ → ℕ → List ℕ → ℕ → ℕ
-placed [] v scratch i = getD scratch i 0
-placed (b ∷ bs) v scratch i = elim (eqb i b) [ true ↦ suc v | false ↦ placed bs (suc v) scratch i ]
+-- place i of a scratch in which each block of the table is marked with one more than its virtual block, the table's first being v
+unfoldable pub liveMark : List ℕ → ℕ → List ℕ → ℕ → ℕ
+liveMark [] v scratch i = getD scratch i 0
+liveMark (b ∷ bs) v scratch i = elim (eqb i b) [ true ↦ suc v | false ↦ liveMark bs (suc v) scratch i ]
 
-unfoldable pub over : List ℕ → List ℕ → ℕ → ℕ
-over bs scratch i = elim (member i bs) [ true ↦ 65535 | false ↦ getD scratch i 0 ]
+-- place i of a scratch in which these log blocks are marked
+unfoldable pub chainMark : List ℕ → List ℕ → ℕ → ℕ
+chainMark bs scratch i = elim (member i bs) [ true ↦ 65535 | false ↦ getD scratch i 0 ]
 
 -- a scratch has these marks, by place
 abbrev pub HasMarks : (ℕ → ℕ) → List ℕ → Type 0

@@ -1,6 +1,6 @@
 -- Block 0, the chain and the table are taken one after the other.
 use borrow.Author.Needs.{needs}
-use Rattle.log.proofs.Taken.{met-shared, map-taken}
+use Rattle.log.proofs.Taken.{met-shares, map-taken}
 use Rattle.log.proofs.open.take_all.Statement.{statement}
 use Rattle.log.proofs.open.take_all.Tie as tie
 
@@ -27,7 +27,7 @@ returns c = let a = c .before .before .before .before .before .before .before .b
     let z = c .before .before .before .before .before .before .before .take-block in
     let k = c .before .before .before .before .take-chain in
     let l = c .before .take-live in (
-      met-shared (a .image .now) (a .table .now) (c .before .before .before .before .before .before .before .before .before .before .pre) (z .last .0) (k .last .1 .0) (l .last .1 .0) (l .result) (z .ensures) (k .ensures) (l .ensures .1),
+      met-shares (a .image .now) (a .table .now) (c .before .before .before .before .before .before .before .before .before .before .pre) (z .last .0) (k .last .1 .0) (l .last .1 .0) (l .result) (z .ensures) (k .ensures) (l .ensures .1),
       map-taken (a .image .now) (a .table .now) (c .before .before .before .before .before .before .before .before .before .before .pre) (z .last .0) (k .last .1 .0) (l .last .1 .0) (l .result) (z .ensures) (k .ensures) (l .ensures .0),
     )
 
