@@ -23,12 +23,16 @@ take-live-requires : tie.Need-take-live-requires
 take-live-requires c κs = search needs
 
 returns : tie.Need-returns
-returns c = let a = c .before .before .before .before .before .before .before .before .before .before .args in
-    let z = c .before .before .before .before .before .before .before .take-block in
-    let k = c .before .before .before .before .take-chain in
-    let l = c .before .take-live in (
-      met-shares (a .image .now) (a .table .now) (c .before .before .before .before .before .before .before .before .before .before .pre) (z .last .0) (k .last .1 .0) (l .last .1 .0) (l .result) (z .ensures) (k .ensures) (l .ensures .1),
-      map-taken (a .image .now) (a .table .now) (c .before .before .before .before .before .before .before .before .before .before .pre) (z .last .0) (k .last .1 .0) (l .last .1 .0) (l .result) (z .ensures) (k .ensures) (l .ensures .0),
+returns c =
+    let l = c .before .take-live in
+    let k = c .before .before .before .before in
+    let z = k .before .before .before in
+    let q = z .before .before .before in
+    let a = q .args in (
+      met-shares (a .image .now) (a .table .now) (q .pre) (z .take-block .last .0) (k .take-chain .last .1 .0) (l .last .1 .0) (l .result)
+          (z .take-block .ensures) (k .take-chain .ensures) (l .ensures .1),
+      map-taken (a .image .now) (a .table .now) (q .pre) (z .take-block .last .0) (k .take-chain .last .1 .0) (l .last .1 .0) (l .result)
+          (z .take-block .ensures) (k .take-chain .ensures) (l .ensures .0),
     )
 
 pub take-all-spec : {M : Type 1} → statement M
