@@ -50,7 +50,8 @@ module _ (words scratch : List ℕ) (some : answered one words scratch ≢ 0) (s
     (es : st ≡ record { block = firstIndex (memory one words) % 2 ^ 32; slot = 2; passed = 1 }) where
   pub rows-opened :
       (table : List ℕ) (size : ℕ)
-      → (answered one words scratch ≤ 1024 → broken one (answered one words scratch) (ahead one (memory one words) (answered one words scratch) st) ≡ false
+      → (answered one words scratch ≤ 1024
+      → broken one (answered one words scratch) (ahead one (memory one words) (answered one words scratch) st) ≡ false
       → _≡_ {A = Mapped} (record { table = table; size = size })
       (replayOn one (record { table = replicate 256 0; size = 0 }) (ahead one (memory one words) (answered one words scratch) st .entries)))
       → table ≡ rowsOf one words scratch

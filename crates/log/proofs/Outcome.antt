@@ -14,7 +14,8 @@ use Rattle.words.specs.Logic.{listFrom}
 use Rattle.words.specs.Memory.{memory, blockCount}
 use Rattle.log.specs.CatchUp.{ahead, placeAfter, broken}
 use Rattle.log.specs.Chain.{firstIndex, chain, log}
-use Rattle.log.specs.Opening.{badEntry, fileOf, openRefusal, refusedWith, takenAtOpening, sharedAtOpening, openedWith, opened, scratchMark, scratchAfter}
+use Rattle.log.specs.Opening.{badEntry, fileOf, openRefusal, refusedWith, takenAtOpening}
+use Rattle.log.specs.Opening.{sharedAtOpening, openedWith, opened, scratchMark, scratchAfter}
 use Rattle.log.specs.Parts.{startOf, Takable, Markable}
 use Rattle.log.specs.Replay.{Mapped, replayOn, nothing, replay, sharesBlock, dirtyEnd}
 use Rattle.log.specs.declared.Place.{Place}
@@ -50,7 +51,8 @@ module _ (E : Edition) {words scratch : List ℕ} (p : Passed E words scratch) w
 
   -- 7
   pub out-7 :
-      badEntry E (blockCount E words) (log (memory E words)) ≡ true → (opened E words scratch ≡ refusedWith 7) × (scratchAfter E words scratch ≡ scratch)
+      badEntry E (blockCount E words) (log (memory E words)) ≡ true
+      → (opened E words scratch ≡ refusedWith 7) × (scratchAfter E words scratch ≡ scratch)
   out-7 h = let e = is-7 E words scratch p h in (refused-opened E words scratch 6 e, refused-scratch E words scratch 6 e (omega arith))
 
 -- `startOf` is edition one's
@@ -145,7 +147,8 @@ module _ (E : Edition) {words scratch table : List ℕ} {size : ℕ} (h : Held E
         out-opened map n free ek en efr = done-opened E words scratch none ∙ (rw (en, efr, ek, table-is, size-is))
 
         pub out-scratch :
-            (s out : List ℕ) → s ≡ replicate 1024 0 ++ drop 1024 scratch → out ≡ listFrom 0 1024 (scratchMark table (chain (memory E words))) ++ drop 1024 s
+            (s out : List ℕ) → s ≡ replicate 1024 0 ++ drop 1024 scratch
+            → out ≡ listFrom 0 1024 (scratchMark table (chain (memory E words))) ++ drop 1024 s
             → out ≡ scratchAfter E words scratch
         out-scratch s out e eo = eo ∙ (rw (cleared-rest scratch s e, table-is)) ∙ sym (done-scratch E words scratch none)
 

@@ -75,7 +75,11 @@ module _ (E : Edition) (words : List ℕ) (idx : badIndex (blockCount E words) (
   chain-inside = index-facts .1
 
   pub first-some : firstIndex m ≡ 0 → ⊥
-  first-some e = let f : isZero (firstIndex m) ≡ false = index-facts .0 in let z : _≡_ {A = Bool} true false = rw e at f in let q : _≡_ {A = ℕ} 0 1 = cc in omega arith
+  first-some e =
+      let f : isZero (firstIndex m) ≡ false = index-facts .0 in
+      let z : _≡_ {A = Bool} true false = rw e at f in
+      let q : _≡_ {A = ℕ} 0 1 = cc in
+      omega arith
 
   chain-is : chain m ≡ firstIndex m ∷ chainFrom m 63 (nextIndex m (firstIndex m))
   unfolding chain

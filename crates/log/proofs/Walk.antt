@@ -46,7 +46,8 @@ module _ (E : Edition) (m : Memory) (blocks b i : ℕ) where
   walk-full x h n = rw (le-ltb _ _ h, walk, walkIn, n)
 
   pub walk-out :
-      (room x : ℕ) → E .blockWords ≤ i + length es → nextIndex m b ≡ suc x → blocks ≤ suc x → from-here (suc room) ≡ ended es b (i + length es) false
+      (room x : ℕ) → E .blockWords ≤ i + length es → nextIndex m b ≡ suc x → blocks ≤ suc x
+      → from-here (suc room) ≡ ended es b (i + length es) false
   unfolding walk walkIn
   walk-out room x h n o = rw (le-ltb _ _ h, walk, walkIn, n, le-ltb (suc x) blocks o)
 
@@ -62,7 +63,8 @@ module _ (E : Edition) (m : Memory) (blocks b i : ℕ) where
 pub record Ways (E : Edition) (m : Memory) (blocks : ℕ) (P : ℕ → ℕ → ℕ → Walk → Type 0) : Type 0 where
   pub stop : (room b i : ℕ) → i + length (here m b i) < E .blockWords → P room b i (ended (here m b i) b (i + length (here m b i)) true)
   pub last :
-      (room b i : ℕ) → E .blockWords ≤ i + length (here m b i) → nextIndex m b ≡ 0 → P room b i (ended (here m b i) b (i + length (here m b i)) true)
+      (room b i : ℕ) → E .blockWords ≤ i + length (here m b i) → nextIndex m b ≡ 0
+      → P room b i (ended (here m b i) b (i + length (here m b i)) true)
   pub full :
       (b i x : ℕ) → E .blockWords ≤ i + length (here m b i) → nextIndex m b ≡ suc x → P 0 b i (ended (here m b i) b (i + length (here m b i)) false)
   pub out :
@@ -104,7 +106,8 @@ block-short E words b = go (decLe (length words / E .blockWords) b)
     go (yes h) = rw (block-outside E words b h) (omega arith)
     go (no n) = omega (arith, block-length E words b (omega arith))
 
-pub tail-small : (E : Edition) (words : List ℕ) (b i t : ℕ) → i < 2 ^ 32 → t ≡ i + length (upToZero (drop i (blockAt (memory E words) b))) → t < 2 ^ 32
+pub tail-small :
+    (E : Edition) (words : List ℕ) (b i t : ℕ) → i < 2 ^ 32 → t ≡ i + length (upToZero (drop i (blockAt (memory E words) b))) → t < 2 ^ 32
 tail-small E words b i t h e = let l = tail-le i (blockAt (memory E words) b) in let s = block-short E words b in omega arith
 
 -- a full block more
