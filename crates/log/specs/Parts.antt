@@ -70,12 +70,12 @@ HasMarks mark scratch = (i : ℕ) → getD scratch i 0 ≡ mark i
 abbrev pub LongEnough : List ℕ → Type 0
 LongEnough scratch = blocksMax ≤ length scratch
 
--- the table has its 256 entries, all below 1,024
+-- the table has 256 entries, all below 1,024
 pub record TableFits (table : List ℕ) : Type 0 where
   pub entries : length table ≡ 256
   pub inside : (v : ℕ) → getD table v 0 < 1024
 
--- so are the log blocks
+-- the log blocks are below 1,024
 abbrev pub ChainFits : List ℕ → Type 0
 ChainFits words = some-of (outside 1024) (chain (memory one words)) ≡ false
 
