@@ -64,10 +64,14 @@ module _ (m : Memory) (map : List ℕ) (n b : ℕ) where
   unfolding markAll
   links-marked-all h = rw (chain-none m n b h)
 
+-- its indexes and a bound that none of them reaches
+module _ (m : Memory) (n b : ℕ) where
   pub links-below : (k : ℕ) → 0 < n → (b ≡ 0 → ⊥) → some-of (outside k) (chainFrom m n b) ≡ false → b < k
   links-below k h ne e = leb-false k b (or-left (leb k b) _ (rw (chain-next m n b h ne) at e))
 
-  pub links-rest : (k : ℕ) → 0 < n → (b ≡ 0 → ⊥) → some-of (outside k) (chainFrom m n b) ≡ false → some-of (outside k) (chainFrom m (n - 1) (nextIndex m b)) ≡ false
+  pub links-rest :
+      (k : ℕ) → 0 < n → (b ≡ 0 → ⊥) → some-of (outside k) (chainFrom m n b) ≡ false
+      → some-of (outside k) (chainFrom m (n - 1) (nextIndex m b)) ≡ false
   links-rest k h ne e = or-right (leb k b) _ (rw (chain-next m n b h ne) at e)
 
 -- the chain's indexes are not 0
@@ -83,7 +87,8 @@ chain-positive m (suc n) (suc b) = (λ e. omega arith, chain-positive m n (nextI
 
 pub outside-below : (xs : List ℕ) → some-of (outside 1024) xs ≡ false → Below xs
 outside-below [] h = tt
-outside-below (x ∷ xs) h = (leb-false 1024 x (or-left (leb 1024 x) (some-of (outside 1024) xs) h), outside-below xs (or-right (leb 1024 x) (some-of (outside 1024) xs) h))
+outside-below (x ∷ xs) h =
+    (leb-false 1024 x (or-left (leb 1024 x) (some-of (outside 1024) xs) h), outside-below xs (or-right (leb 1024 x) (some-of (outside 1024) xs) h))
 
 pub inside-outside : (k l : ℕ) (xs : List ℕ) → k ≤ l → some-of (outside k) xs ≡ false → some-of (outside l) xs ≡ false
 inside-outside k l [] le h = refl
@@ -116,7 +121,9 @@ module _ (m : Memory) where
   unfolding endless
   endless-start = refl
 
-  pub endless-on : (n b : ℕ) → 0 < n → (b ≡ 0 → ⊥) → ltb n (length (chainFrom m (suc n) b)) ≡ ltb (n - 1) (length (chainFrom m (suc (n - 1)) (nextIndex m b)))
+  pub endless-on :
+      (n b : ℕ) → 0 < n → (b ≡ 0 → ⊥)
+      → ltb n (length (chainFrom m (suc n) b)) ≡ ltb (n - 1) (length (chainFrom m (suc (n - 1)) (nextIndex m b)))
   endless-on zero b h ne = absurd (omega arith)
   endless-on (suc n) b h ne =
       let e : suc n - 1 ≡ n = omega arith in

@@ -17,7 +17,7 @@ use Rattle.log.specs.declared.Opened.{Opened}
 use Rattle.log.specs.declared.Place.{Place}
 use Rattle.words.proofs.Memory.{size-facts}
 use Rattle.log.proofs.Opening.{refusal-passed, refused-opened, done-opened}
-use Rattle.log.proofs.Outcome.{blocks-small, at-start, seen-bad, taken-in}
+use Rattle.log.proofs.Outcome.{blocks-small, at-start, walk-bad, taken-in}
 
 module _ (E : Edition) (words scratch : List ℕ) where
   abbrev answered : ℕ
@@ -50,7 +50,8 @@ module _ (words scratch : List ℕ) (some : answered one words scratch ≢ 0) (s
     (es : st ≡ record { block = firstIndex (memory one words) % 2 ^ 32; slot = 2; passed = 1 }) where
   pub rows-opened :
       (table : List ℕ) (size : ℕ)
-      → (answered one words scratch ≤ 1024 → broken one (answered one words scratch) (ahead one (memory one words) (answered one words scratch) st) ≡ false
+      → (answered one words scratch ≤ 1024
+      → broken one (answered one words scratch) (ahead one (memory one words) (answered one words scratch) st) ≡ false
       → _≡_ {A = Mapped} (record { table = table; size = size })
       (replayOn one (record { table = replicate 256 0; size = 0 }) (ahead one (memory one words) (answered one words scratch) st .entries)))
       → table ≡ rowsOf one words scratch
@@ -61,5 +62,5 @@ module _ (words scratch : List ℕ) (some : answered one words scratch ≢ 0) (s
       let s = at-start (k .0) st es in
       let c : answered one words scratch ≡ blockCount one words = opened-count one words scratch none in
       let taken = rw c at caught in
-      let h = taken-in (k .0) (k .1) st s table size (taken (blocks-small one (k .0)) (seen-bad (k .0) st s ∙ k .1)) in
+      let h = taken-in (k .0) (k .1) st s table size (taken (blocks-small one (k .0)) (walk-bad (k .0) st s ∙ k .1)) in
       ap (λ (f : Mapped). f .table) (h .file) ∙ (rw (none, rowsOf))

@@ -14,15 +14,16 @@ use Rattle.words.specs.Logic.{listFrom}
 use Rattle.words.specs.Memory.{memory, blockCount}
 use Rattle.log.specs.CatchUp.{ahead, placeAfter, broken}
 use Rattle.log.specs.Chain.{firstIndex, chain, log}
-use Rattle.log.specs.Opening.{badEntry, fileOf, openRefusal, takenAtOpening, sharedAtOpening, openedWith, opened, scratchMark, scratchAfter}
+use Rattle.log.specs.Opening.{badEntry, fileOf, openRefusal, refusedWith, takenAtOpening}
+use Rattle.log.specs.Opening.{sharedAtOpening, openedWith, opened, scratchMark, scratchAfter}
 use Rattle.log.specs.Parts.{startOf, Takable, Markable}
-use Rattle.log.specs.Replay.{Mapped, replayOn, nothing, replay, shared, dirtyEnd}
+use Rattle.log.specs.Replay.{Mapped, replayOn, nothing, replay, sharesBlock, dirtyEnd}
 use Rattle.log.specs.declared.Place.{Place}
 use Rattle.log.specs.declared.Reply.the-variants.{Done}
 use Rattle.words.proofs.Memory.{size-facts}
 use Rattle.log.proofs.Chain.{inside-outside}
 use Rattle.log.proofs.Cover.{fresh}
-use Rattle.log.proofs.Opening.{Passed, refusedWith, refused-opened, refused-scratch, refused-cleared, is-7, is-8, is-9, is-0, done-opened, done-scratch}
+use Rattle.log.proofs.Opening.{Passed, refused-opened, refused-scratch, refused-cleared, is-7, is-8, is-9, is-0, done-opened, done-scratch}
 use Rattle.log.proofs.Sound.{Sound, sound-fresh, sound-replay}
 use Rattle.log.proofs.Start.{chain-inside, first-inside, start-entries, start-broken, log-count}
 
@@ -50,7 +51,8 @@ module _ (E : Edition) {words scratch : List ℕ} (p : Passed E words scratch) w
 
   -- 7
   pub out-7 :
-      badEntry E (blockCount E words) (log (memory E words)) ≡ true → (opened E words scratch ≡ refusedWith 7) × (scratchAfter E words scratch ≡ scratch)
+      badEntry E (blockCount E words) (log (memory E words)) ≡ true
+      → (opened E words scratch ≡ refusedWith 7) × (scratchAfter E words scratch ≡ scratch)
   out-7 h = let e = is-7 E words scratch p h in (refused-opened E words scratch 6 e, refused-scratch E words scratch 6 e (omega arith))
 
 -- `startOf` is edition one's
@@ -59,18 +61,18 @@ module _ {words scratch : List ℕ} (p : Passed one words scratch) where
   pub at-start : (st : Place) → st ≡ record { block = firstIndex (memory one words) % 2 ^ 32; slot = 2; passed = 1 } → st ≡ startOf words
   at-start st e = e ∙ ap (λ (b : ℕ). record { block = b; slot = 2; passed = 1 }) (mod-eq-of-lt (omega (arith, first-small one p)))
 
-  pub seen-bad :
+  pub walk-bad :
       (st : Place) → st ≡ startOf words
       → broken one (blockCount one words) (ahead one (memory one words) (blockCount one words) st)
       ≡ badEntry one (blockCount one words) (log (memory one words))
-  seen-bad st e = rw e (start-broken words (p .index) (p .ends))
+  walk-bad st e = rw e (start-broken words (p .index) (p .ends))
 
   -- the log's length from the place where the walk ended
   pub count-is :
-      (end : Place) → end ≡ placeAfter (ahead one (memory one words) (blockCount one words) (startOf words))
+      (end : Place) → end ≡ placeAfter (startOf words) (ahead one (memory one words) (blockCount one words) (startOf words))
       → (64 ≤ end .slot + 62 * end .passed) × (end .slot ≤ 64) × (end .passed ≤ 64)
       × ((n : ℕ) → n + 64 ≡ end .slot + 62 * end .passed → n ≡ length (log (memory one words)))
-  count-is end e = let k = log-count words (p .index) (p .ends) in rw e (omega (arith, k .0), k .2, k .1, λ n h. omega (arith, k .0))
+  count-is end e = let k = log-count words (p .index) (p .ends) in rw e (omega (arith, k .0), k .2, omega (arith, k .1), λ n h. omega (arith, k .0))
 
   -- the entries are legal, and taken in
   pub taken-in :
@@ -105,9 +107,9 @@ module _ (E : Edition) {words scratch table : List ℕ} {size : ℕ} (h : Held E
   pub file-small : size ≤ fileEnd E
   file-small = sound .small
 
-  module _ (met : Bool) (em : met ≡ shared table (chain (memory E words))) where
-    met-is : met ≡ shared (fileOf E (memory E words) .table) (chain (memory E words))
-    met-is = em ∙ ap (λ (t : List ℕ). shared t (chain (memory E words))) table-is
+  module _ (met : Bool) (em : met ≡ sharesBlock table (chain (memory E words))) where
+    met-is : met ≡ sharesBlock (fileOf E (memory E words) .table) (chain (memory E words))
+    met-is = em ∙ ap (λ (t : List ℕ). sharesBlock t (chain (memory E words))) table-is
 
     -- 8
     pub out-8 : met ≡ true → (opened E words scratch ≡ refusedWith 8) × (scratchAfter E words scratch ≡ replicate 1024 0 ++ drop 1024 scratch)
@@ -145,7 +147,8 @@ module _ (E : Edition) {words scratch table : List ℕ} {size : ℕ} (h : Held E
         out-opened map n free ek en efr = done-opened E words scratch none ∙ (rw (en, efr, ek, table-is, size-is))
 
         pub out-scratch :
-            (s out : List ℕ) → s ≡ replicate 1024 0 ++ drop 1024 scratch → out ≡ listFrom 0 1024 (scratchMark table (chain (memory E words))) ++ drop 1024 s
+            (s out : List ℕ) → s ≡ replicate 1024 0 ++ drop 1024 scratch
+            → out ≡ listFrom 0 1024 (scratchMark table (chain (memory E words))) ++ drop 1024 s
             → out ≡ scratchAfter E words scratch
         out-scratch s out e eo = eo ∙ (rw (cleared-rest scratch s e, table-is)) ∙ sym (done-scratch E words scratch none)
 
@@ -153,8 +156,7 @@ module _ (E : Edition) {words scratch table : List ℕ} {size : ℕ} (h : Held E
 module _ {words scratch table : List ℕ} {size : ℕ} (h : Held one words scratch table size) where
   pub takable : Takable words table
   takable = record {
-    entries = sound one h .width;
-    inside = λ v. omega (arith, sound one h .inImage v, size-facts one words (h .passed .size) .2);
+    fits = record { entries = sound one h .width; inside = λ v. omega (arith, sound one h .inImage v, size-facts one words (h .passed .size) .2) };
     chained =
         inside-outside (blockCount one words) 1024 (chain (memory one words)) (size-facts one words (h .passed .size) .2)
         (chain-inside one words (h .passed .index));

@@ -1,60 +1,63 @@
 -- The walk from the log's start, once 1, 4 and 5 are passed: it is sound and passes the log.
 use mathlib.Core.Path.{_≡_, _∙_, sym, refl, ap}
+use mathlib.Core.Logic.{_≢_}
 use mathlib.Core.List.{List, [], _∷_}
 use mathlib.Core.Bool.{true, false, Bool, or-false}
-use Prim.Native.Nat.{ℕ, zero, suc, _-_, _+_, _≤_, _<_, _*_}
-use native.Mathlib.Decide.{decLe}
+use Prim.Native.Nat.{ℕ, suc, _-_, _+_, _≤_, _<_, _*_}
 use native.Mathlib.Omega.{arith}
 use lib.Dec.{ltb, leb}
-use lib.ListN.{length, drop}
+use lib.ListN.{length}
 use borrow.Author.Tests.{ltb-false, leb-false}
 use Rattle.words.specs.Edition.{Edition, one, chainMax}
 use Rattle.words.specs.Logic.{isZero, some-of, any, upToZero}
-use Rattle.words.specs.Memory.{Memory, memory, blockCount, blockAt}
-use Rattle.log.specs.CatchUp.{Walk, walk, ahead, broken}
+use Rattle.words.specs.Memory.{Memory, memory, blockCount}
+use Rattle.log.specs.CatchUp.{Walk, ahead, broken}
 use Rattle.log.specs.Chain.{firstIndex, nextIndex, chainFrom, chain, slotsOf, log, outside, badIndex, endless}
 use Rattle.log.specs.Opening.{badEntry}
 use Rattle.log.specs.Parts.{startOf}
-use Rattle.words.proofs.Logic.{or-left, or-right, any-none}
+use Rattle.words.proofs.Logic.{or-left, any-none}
 use Rattle.words.proofs.Memory.{block-length}
-use Rattle.log.proofs.Chain.{chain-next, endless-start, endless-on}
-use Rattle.log.proofs.Walk.{walk-stop, walk-last, walk-on, Claim, walk-entries, Counted, counted}
+use Rattle.log.proofs.Chain.{chain-next, links-below, links-rest, endless-start, endless-on}
+use Rattle.log.proofs.Walk.{Ways, by-turns, walk-entries, walk-counts}
 
 module _ (E : Edition) (m : Memory) (blocks : ℕ) where
-  -- no index of the chain is outside, and it ends in time: then the walk is sound
-  SoundFrom : ℕ → ℕ → ℕ → ℕ → Type 0
-  SoundFrom room passed b i = walk E m blocks room passed b i .sound ≡ true
+  -- no index of the chain from block b on is outside, and it ends in time
+  pub record Ends (room b : ℕ) : Type 0 where
+    pub inside : some-of (outside blocks) (chainFrom m (suc room) b) ≡ false
+    pub ends : ltb (suc room) (length (chainFrom m (suc (suc room)) b)) ≡ false
 
-  sound-by :
-      (room passed b i : ℕ) → some-of (outside blocks) (chainFrom m (suc room) (suc b)) ≡ false → ltb (suc room) (length (chainFrom m (suc (suc room)) (suc b))) ≡ false
-      → ((r x : ℕ) → room ≡ suc r → some-of (outside blocks) (chainFrom m (suc r) (suc x)) ≡ false → ltb (suc r) (length (chainFrom m (suc (suc r)) (suc x))) ≡ false → SoundFrom r (suc passed) (suc x) 2)
-      → Dec (E .blockWords ≤ i + length (upToZero (drop i (blockAt m (suc b))))) → (n : ℕ) → nextIndex m (suc b) ≡ n → SoundFrom room passed (suc b) i
-  unfolding SoundFrom
-  sound-by room passed b i out ends ih (no l) n en = ap (λ (w : Walk). w .sound) (walk-stop E m blocks passed (suc b) i room (omega arith))
-  sound-by room passed b i out ends ih (yes f) zero en = ap (λ (w : Walk). w .sound) (walk-last E m blocks passed (suc b) i room f en)
-  sound-by zero passed b i out ends ih (yes f) (suc x) en =
-      let e : ltb 1 (length (chainFrom m 2 (suc b))) ≡ ltb 0 (length (chainFrom m 1 (nextIndex m (suc b)))) = endless-on m 1 (suc b) (omega arith) (λ z. omega arith) in
-      let c : chainFrom m 1 (suc x) ≡ suc x ∷ chainFrom m 0 (nextIndex m (suc x)) = chain-next m 1 (suc x) (omega arith) (λ z. omega arith) in
-      let l = ltb-false 0 (length (suc x ∷ chainFrom m 0 (nextIndex m (suc x)))) (rw c at (rw en at (sym e ∙ ends))) in
-      absurd (omega arith)
-  sound-by (suc r) passed b i out ends ih (yes f) (suc x) en =
-      let c : chainFrom m (suc (suc r)) (suc b) ≡ suc b ∷ chainFrom m (suc r) (nextIndex m (suc b)) = chain-next m (suc (suc r)) (suc b) (omega arith) (λ z. omega arith) ∙ ap (λ (k : ℕ). suc b ∷ chainFrom m k (nextIndex m (suc b))) (omega arith) in
-      let o : some-of (outside blocks) (chainFrom m (suc r) (suc x)) ≡ false = rw en at (or-right (leb blocks (suc b)) _ (rw c at out)) in
-      let d : chainFrom m (suc r) (suc x) ≡ suc x ∷ chainFrom m (suc r - 1) (nextIndex m (suc x)) = chain-next m (suc r) (suc x) (omega arith) (λ z. omega arith) in
-      let inside : suc x < blocks = leb-false blocks (suc x) (or-left (leb blocks (suc x)) _ (rw d at o)) in
-      let e : ltb (suc (suc r)) (length (chainFrom m (suc (suc (suc r))) (suc b))) ≡ ltb (suc r) (length (chainFrom m (suc (suc r)) (nextIndex m (suc b)))) =
-      endless-on m (suc (suc r)) (suc b) (omega arith) (λ z. omega arith) ∙ ap (λ (k : ℕ). ltb k (length (chainFrom m (suc k) (nextIndex m (suc b))))) (omega arith) in
-      ap (λ (w : Walk). w .sound) (walk-on E m blocks passed (suc b) i r x f en inside) ∙ ih r x refl o (rw en at (sym e ∙ ends))
+  abbrev SoundFrom : ℕ → ℕ → ℕ → Walk → Type 0
+  SoundFrom room b i w = b ≢ 0 → Ends room b → w .sound ≡ true
 
-  sound-all :
-      (room passed b i : ℕ) → some-of (outside blocks) (chainFrom m (suc room) (suc b)) ≡ false → ltb (suc room) (length (chainFrom m (suc (suc room)) (suc b))) ≡ false
-      → SoundFrom room passed (suc b) i
-  sound-all zero passed b i out ends =
-      sound-by zero passed b i out ends (λ r x e. absurd (omega arith)) (decLe (E .blockWords) (i + length (upToZero (drop i (blockAt m (suc b))))))
-      (nextIndex m (suc b)) refl
-  sound-all (suc room) passed b i out ends =
-      sound-by (suc room) passed b i out ends (λ r x e o n. let q : r ≡ room = omega arith in rw q (sound-all room (suc passed) x 2 (rw q at o) (rw q at n)))
-      (decLe (E .blockWords) (i + length (upToZero (drop i (blockAt m (suc b)))))) (nextIndex m (suc b)) refl
+  module _ (room b x : ℕ) (some : b ≢ 0) (next : nextIndex m b ≡ suc x) where
+    -- where it ends in time with no block to come, there is no next block
+    none-next : Ends 0 b → ⊥
+    none-next c =
+        let e : ltb 1 (length (chainFrom m 2 b)) ≡ ltb 0 (length (chainFrom m 1 (nextIndex m b))) = endless-on m 1 b (omega arith) some in
+        let d : chainFrom m 1 (suc x) ≡ suc x ∷ chainFrom m 0 (nextIndex m (suc x)) = chain-next m 1 (suc x) (omega arith) (λ z. omega arith) in
+        let l = ltb-false 0 (length (suc x ∷ chainFrom m 0 (nextIndex m (suc x)))) (rw d at (rw next at (sym e ∙ c .ends))) in
+        omega arith
+
+    less : suc (suc room) - 1 ≡ suc room
+    less = omega arith
+
+    ends-on : Ends (suc room) b → Ends room (suc x)
+    ends-on c = record {
+      inside = rw (next, less) at (links-rest m (suc (suc room)) b blocks (omega arith) some (c .inside));
+      ends = rw (next, less) at (sym (endless-on m (suc (suc room)) b (omega arith) some) ∙ c .ends);
+    }
+
+    next-below : Ends (suc room) b → suc x < blocks
+    next-below c = links-below m (suc room) (suc x) blocks (omega arith) (λ z. omega arith) (ends-on c .inside)
+
+  sound-ways : Ways E m blocks SoundFrom
+  sound-ways = record {
+    stop = λ room b i l some c. refl;
+    last = λ room b i f z some c. refl;
+    full = λ b i x f e some c. absurd (none-next 0 b x some e c);
+    out = λ room b i x f e o some c. absurd (omega (arith, next-below room b x some e c));
+    on = λ room b i x w f e o more some c. more (λ z. omega arith) (ends-on room b x some e c);
+  }
 
 -- what the tests 1, 4 and 5 leave
 module _ (E : Edition) (words : List ℕ) (idx : badIndex (blockCount E words) (memory E words) ≡ false) where
@@ -72,7 +75,11 @@ module _ (E : Edition) (words : List ℕ) (idx : badIndex (blockCount E words) (
   chain-inside = index-facts .1
 
   pub first-some : firstIndex m ≡ 0 → ⊥
-  first-some e = let f : isZero (firstIndex m) ≡ false = index-facts .0 in let z : _≡_ {A = Bool} true false = rw e at f in let q : _≡_ {A = ℕ} 0 1 = cc in omega arith
+  first-some e =
+      let f : isZero (firstIndex m) ≡ false = index-facts .0 in
+      let z : _≡_ {A = Bool} true false = rw e at f in
+      let q : _≡_ {A = ℕ} 0 1 = cc in
+      omega arith
 
   chain-is : chain m ≡ firstIndex m ∷ chainFrom m 63 (nextIndex m (firstIndex m))
   unfolding chain
@@ -90,17 +97,15 @@ module _ (words : List ℕ) (idx : badIndex (blockCount one words) (memory one w
   count = blockCount one words
 
   pub start-sound : ahead one image count (startOf words) .sound ≡ true
-  unfolding ahead chain SoundFrom
+  unfolding ahead chain
   start-sound =
-      let s : firstIndex image ≡ suc (firstIndex image - 1) = let h = first-some one words idx in omega arith in
-      let c : some-of (outside count) (chainFrom image 64 (suc (firstIndex image - 1))) ≡ false = rw (← s) (chain-inside one words idx) in
-      let e : ltb 64 (length (chainFrom image 65 (suc (firstIndex image - 1)))) ≡ false = rw (← s) (sym (endless-start image) ∙ ends) in
-      rw s (sound-all one image count 63 1 (firstIndex image - 1) 2 c e)
+      by-turns one image count (SoundFrom one image count) (sound-ways one image count) 63 (firstIndex image) 2 (first-some one words idx)
+      (record { inside = chain-inside one words idx; ends = sym (endless-start image) ∙ ends })
 
   pub start-entries : ahead one image count (startOf words) .entries ≡ log image
-  unfolding Claim ahead log slotsOf
+  unfolding ahead log slotsOf
   start-entries =
-      walk-entries one image count (λ b h. block-length one words b h) (omega arith) 63 1 (firstIndex image) 2 (first-inside one words idx)
+      walk-entries one image count (λ b h. block-length one words b h) (omega arith) 63 (firstIndex image) 2 (first-inside one words idx)
       (omega arith) start-sound ∙ ap (λ (bs : List ℕ). upToZero (slotsOf image bs)) (sym (chain-is one words idx))
 
   pub start-broken : broken one count (ahead one image count (startOf words)) ≡ badEntry one count (log image)
@@ -111,10 +116,10 @@ module _ (words : List ℕ) (idx : badIndex (blockCount one words) (memory one w
 pub log-count :
     (words : List ℕ) (idx : badIndex (blockCount one words) (memory one words) ≡ false) → endless (memory one words) ≡ false
     → let w = ahead one (memory one words) (blockCount one words) (startOf words) in
-    (length (log (memory one words)) + 64 ≡ w .slot + 62 * w .passed) × (w .passed ≤ 64) × (w .slot ≤ 64)
-unfolding ahead Counted
+    (length (log (memory one words)) + 2 ≡ w .slot + 62 * w .entered) × (w .entered ≤ 63) × (w .slot ≤ 64)
+unfolding ahead
 log-count words idx ends =
-    let k = counted one (memory one words) (blockCount one words) (λ b h. block-length one words b h) 63 1 (firstIndex (memory one words)) 2
+    let k = walk-counts one (memory one words) (blockCount one words) (λ b h. block-length one words b h) 63 (firstIndex (memory one words)) 2
     (first-inside one words idx) (omega arith) (start-sound words idx ends) in
     let e = ap length (start-entries words idx ends) in
     (omega (arith, k .0, e), k .1, k .2)

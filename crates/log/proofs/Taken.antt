@@ -16,7 +16,7 @@ use Rattle.words.specs.Memory.{memory}
 use Rattle.log.specs.Chain.{firstIndex, chain}
 use Rattle.log.specs.Opening.{takenAtOpening}
 use Rattle.log.specs.Parts.{clash, Takable}
-use Rattle.log.specs.Replay.{live, repeated, shared}
+use Rattle.log.specs.Replay.{live, repeated, sharesBlock}
 use Rattle.words.proofs.BlockMap.{taken-mark, markAll-one}
 use Rattle.words.proofs.MapOf.{sound-zeros, zeros-free, sound-mark, Below, sound-markAll, taken-markAll, taken-markAll-zero, Sound, map-is, in-map}
 use Rattle.words.proofs.Tests.{eqb-sym}
@@ -34,7 +34,9 @@ unfolding markAll clash
 one-none map zero e = (refl, refl)
 one-none map (suc b) e = absurd (omega arith)
 
-pub one-some : (map out : List ℕ) (b : ℕ) (t : Bool) → (b ≡ 0 → ⊥) → t ≡ taken map b → out ≡ mark true map b → (out ≡ markAll true map (b ∷ [])) × (t ≡ clash map (b ∷ []))
+pub one-some :
+    (map out : List ℕ) (b : ℕ) (t : Bool) → (b ≡ 0 → ⊥) → t ≡ taken map b → out ≡ mark true map b
+    → (out ≡ markAll true map (b ∷ [])) × (t ≡ clash map (b ∷ []))
 unfolding markAll clash
 one-some map out zero t ne et eo = absurd (ne refl)
 one-some map out (suc b) t ne et eo = (eo, et ∙ sym (or-false (taken map (suc b))))
@@ -44,12 +46,17 @@ module _ (table map out : List ℕ) (v : ℕ) (h : v < length table) (eo : out �
   pub live-marks : markAll true map (drop v table) ≡ markAll true out (drop (v + 1) table)
   live-marks = rw (drop-cons table v 0 h, add-one, eo) (markAll-one map (getD table v 0) (drop (suc v) table))
 
-  pub live-clash : (met t both : Bool) → t ≡ clash map (getD table v 0 ∷ []) → both ≡ met || t → met || clash map (drop v table) ≡ both || clash out (drop (v + 1) table)
+  pub live-clash :
+      (met t both : Bool) → t ≡ clash map (getD table v 0 ∷ []) → both ≡ met || t
+      → met || clash map (drop v table) ≡ both || clash out (drop (v + 1) table)
   live-clash met t both et eb =
       rw (drop-cons table v 0 h, add-one, eo, eb, et)
-      (ap (λ (z : Bool). met || z) (clash-one map (getD table v 0) (drop (suc v) table)) ∙ sym (or-assoc met (clash map (getD table v 0 ∷ [])) (clash (markAll true map (getD table v 0 ∷ [])) (drop (suc v) table))))
+      (ap (λ (z : Bool). met || z) (clash-one map (getD table v 0) (drop (suc v) table))
+      ∙ sym (or-assoc met (clash map (getD table v 0 ∷ [])) (clash (markAll true map (getD table v 0 ∷ [])) (drop (suc v) table))))
 
-pub live-end : (table map : List ℕ) (v : ℕ) (met : Bool) → length table ≤ v → (markAll true map (drop v table) ≡ map) × (met || clash map (drop v table) ≡ met)
+pub live-end :
+    (table map : List ℕ) (v : ℕ) (met : Bool) → length table ≤ v
+    → (markAll true map (drop v table) ≡ map) × (met || clash map (drop v table) ≡ met)
 unfolding markAll clash
 live-end table map v met h = rw (drop-of-length-le table h) (refl, or-false met)
 
@@ -68,7 +75,8 @@ someTaken map [] = false
 someTaken map (zero ∷ bs) = someTaken map bs
 someTaken map (suc b ∷ bs) = taken map (suc b) || someTaken map bs
 
-some-mark : (map : List ℕ) (b : ℕ) (xs : List ℕ) → b < 1023 → Sound map → someTaken (mark true map (suc b)) xs ≡ member (suc b) xs || someTaken map xs
+some-mark :
+    (map : List ℕ) (b : ℕ) (xs : List ℕ) → b < 1023 → Sound map → someTaken (mark true map (suc b)) xs ≡ member (suc b) xs || someTaken map xs
 unfolding someTaken
 some-mark map b [] h s = refl
 some-mark map b (zero ∷ xs) h s = rw (ne-eqb (suc b) 0 (λ e. omega arith)) (some-mark map b xs h s)
@@ -83,9 +91,12 @@ unfolding clash repeated someTaken
 clash-is map [] h s = refl
 clash-is map (zero ∷ xs) h s = clash-is map xs (h .1) s
 clash-is map (suc b ∷ xs) h s =
-    ap (λ (t : Bool). taken map (suc b) || t) (clash-is (mark true map (suc b)) xs (h .1) (sound-mark map (suc b) (h .0) s) ∙ ap (λ (t : Bool). repeated xs || t) (some-mark map b xs (omega arith) s))
-    ∙ sym (or-assoc (taken map (suc b)) (repeated xs) (member (suc b) xs || someTaken map xs)) ∙ ap (λ (t : Bool). t || (member (suc b) xs || someTaken map xs)) (or-comm (taken map (suc b)) (repeated xs))
-    ∙ middle (repeated xs) (taken map (suc b)) (member (suc b) xs) (someTaken map xs) ∙ ap (λ (t : Bool). t || (taken map (suc b) || someTaken map xs)) (or-comm (repeated xs) (member (suc b) xs))
+    ap (λ (t : Bool). taken map (suc b) || t)
+    (clash-is (mark true map (suc b)) xs (h .1) (sound-mark map (suc b) (h .0) s) ∙ ap (λ (t : Bool). repeated xs || t) (some-mark map b xs (omega arith) s))
+    ∙ sym (or-assoc (taken map (suc b)) (repeated xs) (member (suc b) xs || someTaken map xs))
+    ∙ ap (λ (t : Bool). t || (member (suc b) xs || someTaken map xs)) (or-comm (taken map (suc b)) (repeated xs))
+    ∙ middle (repeated xs) (taken map (suc b)) (member (suc b) xs) (someTaken map xs)
+    ∙ ap (λ (t : Bool). t || (taken map (suc b) || someTaken map xs)) (or-comm (repeated xs) (member (suc b) xs))
 
 -- ---- a live block that is a log block
 
@@ -123,12 +134,16 @@ module _ (table cs : List ℕ) (tb : Below table) (cb : Below cs) (cp : Positive
   base-sound = sound-markAll (mark true (replicate 16 0) 0) cs cb zero-sound
 
   base-zero : taken (base cs) 0 ≡ true
-  base-zero = taken-markAll-zero (mark true (replicate 16 0) 0) cs cb zero-sound ∙ taken-mark (replicate 16 0) 0 0 (in-map {b = 0} sound-zeros (omega arith)) ∙ ap (λ (t : Bool). t || taken (replicate 16 0) 0) (eq-eqb 0 0 refl)
+  base-zero =
+      taken-markAll-zero (mark true (replicate 16 0) 0) cs cb zero-sound ∙ taken-mark (replicate 16 0) 0 0 (in-map {b = 0} sound-zeros (omega arith))
+      ∙ ap (λ (t : Bool). t || taken (replicate 16 0) 0) (eq-eqb 0 0 refl)
 
   base-taken : (b : ℕ) → taken (base cs) (suc b) ≡ member (suc b) cs
   base-taken b =
       taken-markAll (mark true (replicate 16 0) 0) cs b cb zero-sound
-      ∙ ap (λ (t : Bool). member (suc b) cs || t) (taken-mark (replicate 16 0) 0 (suc b) (in-map {b = 0} sound-zeros (omega arith)) ∙ ap₂ _||_ (ne-eqb (suc b) 0 (λ e. omega arith)) (zeros-free (suc b)))
+      ∙ ap (λ (t : Bool). member (suc b) cs || t)
+      (taken-mark (replicate 16 0) 0 (suc b) (in-map {b = 0} sound-zeros (omega arith))
+      ∙ ap₂ _||_ (ne-eqb (suc b) 0 (λ e. omega arith)) (zeros-free (suc b)))
       ∙ or-false (member (suc b) cs)
 
   some-chain : (xs : List ℕ) → someTaken (base cs) xs ≡ some-of (live xs) cs
@@ -138,15 +153,17 @@ module _ (table cs : List ℕ) (tb : Below table) (cb : Below cs) (cp : Positive
   some-chain (suc b ∷ xs) = ap₂ _||_ (base-taken b) (some-chain xs) ∙ sym (live-more (suc b) xs cs cp)
 
   -- 8
-  pub clash-shared : clash (base cs) table ≡ shared table cs
-  unfolding shared any
-  clash-shared = clash-is (base cs) table tb base-sound ∙ ap (λ (t : Bool). repeated table || t) (some-chain table ∙ sym (or-false (some-of (live table) cs)))
+  pub clash-shares : clash (base cs) table ≡ sharesBlock table cs
+  unfolding sharesBlock any
+  clash-shares =
+      clash-is (base cs) table tb base-sound ∙ ap (λ (t : Bool). repeated table || t) (some-chain table ∙ sym (or-false (some-of (live table) cs)))
 
   all-taken : (b : ℕ) → taken (markAll true (base cs) table) b ≡ takenAtOpening table cs b
   unfolding takenAtOpening any
   all-taken zero = taken-markAll-zero (base cs) table tb base-sound ∙ base-zero
   all-taken (suc b) =
-      taken-markAll (base cs) table b tb base-sound ∙ ap (λ (t : Bool). member (suc b) table || t) (base-taken b) ∙ or-comm (member (suc b) table) (member (suc b) cs)
+      taken-markAll (base cs) table b tb base-sound ∙ ap (λ (t : Bool). member (suc b) table || t) (base-taken b)
+      ∙ or-comm (member (suc b) table) (member (suc b) cs)
       ∙ ap (λ (t : Bool). member (suc b) cs || t) (sym (or-false (member (suc b) table)))
 
   -- the map
@@ -166,8 +183,12 @@ module _ (words table : List ℕ) (t : Takable words table) where
     base-is : map2 ≡ base cs
     base-is = e2 ∙ ap (λ (k : List ℕ). markAll true k cs) e1
 
-    pub met-shared : met ≡ clash map2 table → met ≡ shared table cs
-    met-shared e = e ∙ ap (λ (k : List ℕ). clash k table) base-is ∙ clash-shared table cs (table-below table (t .inside)) (outside-below cs (t .chained)) positive
+    pub met-shares : met ≡ clash map2 table → met ≡ sharesBlock table cs
+    met-shares e =
+        e ∙ ap (λ (k : List ℕ). clash k table) base-is
+        ∙ clash-shares table cs (table-below table (t .fits .inside)) (outside-below cs (t .chained)) positive
 
     pub map-taken : map3 ≡ markAll true map2 table → map3 ≡ mapOf (takenAtOpening table cs)
-    map-taken e = e ∙ ap (λ (k : List ℕ). markAll true k table) base-is ∙ map-opened table cs (table-below table (t .inside)) (outside-below cs (t .chained)) positive
+    map-taken e =
+        e ∙ ap (λ (k : List ℕ). markAll true k table) base-is
+        ∙ map-opened table cs (table-below table (t .fits .inside)) (outside-below cs (t .chained)) positive

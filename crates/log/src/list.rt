@@ -1,13 +1,10 @@
 // What a listing shows: the answer of opening, and where each block of the file lies.
-ghost use mathlib.Core.Path.{_≡_};
-ghost use Rattle.words.specs.Edition.{one};
-ghost use Rattle.log.specs.Opening.{opened, scratchAfter};
-ghost use Rattle.log.specs.Listing.{rowsOf};
+ghost use Rattle.log.specs.Listing.{Lists};
 use crate::Opened;
 
 // Opening; and row v becomes the logical block of virtual block v, 0 for none and where opening is refused.
 pub fn listed(image: &[u64], scratch: &mut [u16], rows: &mut [u16; 256]) -> Opened
-    ensures { λ r. ⌜ (r ≡ opened one (now (image .entry)) (now (scratch .entry))) × (now (scratch .exit) ≡ scratchAfter one (now (image .entry)) (now (scratch .entry))) × (now (rows .exit) ≡ rowsOf one (now (image .entry)) (now (scratch .entry))) ⌝ }
+    ensures { λ r. ⌜ Lists (now (image .entry)) (now (scratch .entry)) (now (scratch .exit)) (now (rows .exit)) r ⌝ }
 {
     let opened = crate::open::open(image, scratch);
     *rows = [0u16; 256];

@@ -9,6 +9,13 @@ use Rattle.log.proofs.Listing.{rows-refused, rows-opened}
 use Rattle.log.proofs.list.listed.Statement.{statement}
 use Rattle.log.proofs.list.listed.Tie as tie
 
+-- the way back to opening, and to where the function began
+abbrev asked : tie.After-rows → tie.After-open
+asked c = c .before .before .before
+
+abbrev called : tie.After-open → tie.Start
+called c = c .before .before .before .before
+
 open-requires : tie.Need-open-requires
 open-requires c κs = search needs
 
@@ -16,11 +23,11 @@ same-length : tie.Need-same-length
 same-length c = search needs
 
 returns : tie.Need-returns
-returns c = let a = c .before .before .before .before .before .before .before .before .args in
-    let o = c .before .before .before .before .«open» in (
-      o .ensures .0,
-      o .ensures .1,
-      rows-refused one (a .image .now) (a .scratch .now) (ap (λ (k : Opened). k .shared .blocks) (sym (o .ensures .0)) ∙ c .if1 .taken),
+returns c = let o = asked (c .before) in
+    let a = called o .args in (
+      o .«open» .ensures .0,
+      o .«open» .ensures .1,
+      rows-refused one (a .image .now) (a .scratch .now) (ap (λ (k : Opened). k .shared .blocks) (sym (o .«open» .ensures .0)) ∙ c .if1 .taken),
     )
 
 start-requires : tie.Need-start-requires
@@ -33,11 +40,17 @@ same-length-2 : tie.Need-same-length-2
 same-length-2 c = search needs
 
 returns-2 : tie.Need-returns-2
-returns-2 c = let a = c .before .before .before .before .before .before .before .before .before .before .before .args in
-    let o = c .before .before .before .before .before .before .before .«open» in
-    let e = ap (λ (k : Opened). k .shared .blocks) (sym (o .ensures .0)) in
-    let some : opened one (a .image .now) (a .scratch .now) .shared .blocks ≢ 0 = λ z. c .before .before .before .if1 .left (sym e ∙ z) in
-    (o .ensures .0, o .ensures .1, rows-opened (a .image .now) (a .scratch .now) some (c .before .before .start .result) (c .before .before .start .ensures) _ (c .catch-up .result) (rw (sym e) at (c .catch-up .ensures)))
+returns-2 c =
+    let r = c .before .before .before in
+    let o = asked (r .before) in
+    let a = called o .args in
+    let s = c .before .before .start in
+    let e = ap (λ (k : Opened). k .shared .blocks) (sym (o .«open» .ensures .0)) in
+    let some : opened one (a .image .now) (a .scratch .now) .shared .blocks ≢ 0 = λ z. r .if1 .left (sym e ∙ z) in (
+      o .«open» .ensures .0,
+      o .«open» .ensures .1,
+      rows-opened (a .image .now) (a .scratch .now) some (s .result) (s .ensures) _ (c .catch-up .result) (rw (sym e) at (c .catch-up .ensures)),
+    )
 
 pub listed-spec : {M : Type 1} → statement M
 listed-spec =
