@@ -140,7 +140,7 @@ module _ (E : Edition) (words : List ℕ) (s : Shared) (p : Point) (offset : ℕ
 
   pub begin-done :
       Ready E words s p offset text → (place : Place) (run n size : ℕ) (table bytes : List ℕ) (head : Head) (t : Shared)
-      → place ≡ placeAfter (ahead E (memory E words) (s .blocks) (p .head .place)) → run ≡ search s (span E offset (length text))
+      → place ≡ placeAfter (p .head .place) (ahead E (memory E words) (s .blocks) (p .head .place)) → run ≡ search s (span E offset (length text))
       → record { table = table; size = size } ≡ replayOn E (fileAt (p .head) (p .table)) (ahead E (memory E words) (s .blocks) (p .head .place) .entries)
       → bytes ≡ textOf text → head ≡ record { number = p .head .number; length = size; place = place; write = newWrite offset (length text) run }
       → n ≡ span E offset (length text) → t ≡ taking s run n
@@ -161,7 +161,7 @@ module _ (E : Edition) (words : List ℕ) (s : Shared) (p : Point) (offset : ℕ
                       record {
                         number = p .head .number;
                         length = f .size;
-                        place = placeAfter (ahead E (memory E words) (s .blocks) (p .head .place));
+                        place = placeAfter (p .head .place) (ahead E (memory E words) (s .blocks) (p .head .place));
                         write = newWrite offset (length text) (search s (span E offset (length text)));
                       };
                   table = f .table;

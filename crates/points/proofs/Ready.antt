@@ -12,10 +12,10 @@ use Rattle.words.proofs.Logic.{and-both}
 use Rattle.words.proofs.Tests.{is-zero, not-zero}
 use Rattle.words.proofs.Choice.{chosen-zero, chosen-suc}
 use Rattle.log.specs.declared.Shared.{Shared}
-use Rattle.log.specs.declared.Seen.{Seen}
+use Rattle.log.specs.declared.Lookahead.{Lookahead}
 use Rattle.log.specs.Chain.{nextIndex}
 use Rattle.log.specs.CatchUp.{ahead}
-use Rattle.log.specs.Look.{seenBy}
+use Rattle.log.specs.Look.{lookaheadOf}
 use Rattle.points.specs.declared.Head.{Head}
 use Rattle.points.specs.declared.Point.{Point}
 use Rattle.points.specs.declared.StepAnswer.the-variants.{Moved}
@@ -141,13 +141,13 @@ module _ (E : Edition) (m : Memory) (s : Shared) (h : Head) where
 
 -- ---- moving on, by what the walk saw
 
-module _ (E : Edition) (m : Memory) (h : Head) (blocks : ℕ) (seen : Seen)
-    (e : seen ≡ seenBy E blocks (runFirst E (h .write)) (runFirst E (h .write) + runBlocks E (h .write) - 1) (ahead E m blocks (h .place))) where
+module _ (E : Edition) (m : Memory) (h : Head) (blocks : ℕ) (seen : Lookahead)
+    (e : seen ≡ lookaheadOf E blocks (runFirst E (h .write)) (runFirst E (h .write) + runBlocks E (h .write) - 1) (h .place) (ahead E m blocks (h .place))) where
   pub move-stops : seen .broken ≡ true → moveOn E m h blocks ≡ refused E h 18
-  unfolding seenBy
-  move-stops b = stop-on E m h blocks (sym (ap (λ (x : Seen). x .broken) e) ∙ b)
+  unfolding lookaheadOf
+  move-stops b = stop-on E m h blocks (sym (ap (λ (x : Lookahead). x .broken) e) ∙ b)
 
   pub move-goes : seen .broken ≡ false → moveOn E m h blocks
       ≡ resting Moved (seen .place) (refill (firstEdge E (h .write) && seen .first) (lastEdge E (h .write) && seen .last) E (h .write)) AllAhead NoBlock 0 false
-  unfolding seenBy refillAfter
-  move-goes b = go-on E m h blocks (sym (ap (λ (x : Seen). x .broken) e) ∙ b) ∙ rw e
+  unfolding lookaheadOf refillAfter
+  move-goes b = go-on E m h blocks (sym (ap (λ (x : Lookahead). x .broken) e) ∙ b) ∙ rw e

@@ -10,9 +10,10 @@ use Rattle.words.specs.Logic.{Reason, first, _when_}
 use Rattle.words.specs.Memory.{memory}
 use Rattle.words.proofs.Tests.{no-reason, passes}
 use Rattle.log.specs.declared.Shared.{Shared}
-use Rattle.log.specs.declared.Seen.{Seen}
+use Rattle.log.specs.declared.Lookahead.{Lookahead}
+use Rattle.log.specs.declared.Place.{Place}
 use Rattle.log.specs.CatchUp.{Walk, ahead, broken}
-use Rattle.log.specs.Look.{seenBy}
+use Rattle.log.specs.Look.{lookaheadOf}
 use Rattle.points.specs.declared.Head.{Head}
 use Rattle.points.specs.Record.{recordReasons, unfit}
 use Rattle.points.specs.Sight.{sightRefusal}
@@ -28,9 +29,10 @@ pub unseen-so : {P : Type 0} (r n R : ℕ) → r ≡ n → n ≢ 0 → n ≡ R �
 unseen-so r n R e ne f = (e ∙ f, λ z. absurd (ne (sym e ∙ z)))
 
 -- what the walk saw
-pub look-broken : (E : Edition) (seen : Seen) (blocks x y : ℕ) (w : Walk) → seen ≡ seenBy E blocks x y w → seen .broken ≡ broken E blocks w
-unfolding seenBy
-look-broken E seen blocks x y w e = ap (λ (s : Seen). s .broken) e
+pub look-broken : (E : Edition) (seen : Lookahead) (blocks x y : ℕ) (p : Place) (w : Walk) → seen ≡ lookaheadOf E blocks x y p w
+    → seen .broken ≡ broken E blocks w
+unfolding lookaheadOf
+look-broken E seen blocks x y p w e = ap (λ (s : Lookahead). s .broken) e
 
 module _ (E : Edition) (I : List ℕ) (s : Shared) (h : Head) (table : List ℕ) (past : Bool) where
   abbrev aheadBroken : Bool

@@ -15,5 +15,5 @@ use Rattle.points.specs.Calls.{beginRefusal}
 -- the first reason that holds and, where none does, the log place at the tail and the run's first block
 pub record Started (words : List ℕ) (s : Shared) (h : Head) (table : List ℕ) (offset size reason : ℕ) (place : Place) (run : ℕ) : Type 0 where
   pub refusal : reason ≡ beginRefusal one words s h table offset size
-  pub tail : reason ≡ 0 → place ≡ placeAfter (ahead one (memory one words) (s .blocks) (h .place))
+  pub tail : reason ≡ 0 → place ≡ placeAfter (h .place) (ahead one (memory one words) (s .blocks) (h .place))
   pub found : reason ≡ 0 → run ≡ search s (span one offset size)

@@ -6,9 +6,9 @@ use borrow.Author.Needs.{needs}
 use borrow.Author.Tests.{not-true, not-false}
 use Rattle.words.specs.Edition.{one}
 use Rattle.words.specs.Memory.{memory}
-use Rattle.log.specs.declared.Seen.{Seen}
+use Rattle.log.specs.declared.Lookahead.{Lookahead}
 use Rattle.log.specs.CatchUp.{ahead, broken}
-use Rattle.log.specs.Look.{seenBy}
+use Rattle.log.specs.Look.{lookaheadOf}
 use Rattle.points.specs.Record.{isIdle, badText, pastEnd, unfit}
 use Rattle.points.specs.Search.{search as found-by}
 use Rattle.points.proofs.Facts.{TextFits, text-facts}
@@ -31,8 +31,8 @@ not-17 c = sym (c .before .past-end .ensures) ∙ c .if4 .left
 not-18 :
     (c : tie.Else5) → let a = c .before .before .before .before .before .before .before .before .before .before .before .before .args in
     broken one (a .shared .blocks) (ahead one (memory one (a .image .now)) (a .shared .blocks) (a .head .place)) ≡ false
-unfolding seenBy
-not-18 c = ap (λ (k : Seen). k .broken) (sym (c .before .look .ensures)) ∙ c .if5 .left
+unfolding lookaheadOf
+not-18 c = ap (λ (k : Lookahead). k .broken) (sym (c .before .look .ensures)) ∙ c .if5 .left
 
 text-at :
     (c : tie.Else5) → let a = c .before .before .before .before .before .before .before .before .before .before .before .before .args in
@@ -104,14 +104,14 @@ refused-requires-5 : tie.Need-refused-requires-5
 refused-requires-5 c κs = search needs
 
 returns-5 : tie.Need-returns-5
-unfolding seenBy
+unfolding lookaheadOf
 returns-5 c =
     let a = c .before .before .before .before .before .before .before .before .before .before .before .before .before .args in
     let e = c .before .before .before in
     start-refused (a .image .now) (a .shared) (a .head) (a .table .now) (a .offset) (a .size) _ 18 _ _ (c .refused5 .ensures) (λ z. omega arith)
     (begin-18 one (a .image .now) (a .shared) (a .head) (a .table .now) (a .offset) (a .size)
     (not-14 (e .before .before .before .before .before .before .before)) (not-15 (e .before .before .before .before)) (not-16 (e .before .before)) (not-17 e)
-    (ap (λ (k : Seen). k .broken) (sym (c .before .before .look .ensures)) ∙ c .before .if5 .taken))
+    (ap (λ (k : Lookahead). k .broken) (sym (c .before .before .look .ensures)) ∙ c .before .if5 .taken))
 
 cast-span : tie.Need-cast-span
 cast-span c = let t = text-at c in record { fits = omega arith }
@@ -139,7 +139,7 @@ returns-6 c =
     (sym run ∙ c .before .if6 .taken))
 
 returns-7 : tie.Need-returns-7
-unfolding seenBy
+unfolding lookaheadOf
 returns-7 c =
     let a = c .before .before .before .before .before .before .before .before .before .before .before .before .before .before .before .before .args in
     let e = c .before .before .before .before in
@@ -149,7 +149,7 @@ returns-7 c =
           begin-0 one (a .image .now) (a .shared) (a .head) (a .table .now) (a .offset) (a .size)
           (not-14 (e .before .before .before .before .before .before .before .before .before)) (not-15 (e .before .before .before .before .before .before)) (not-16 (e .before .before .before .before)) (not-17 (e .before .before)) (not-18 e)
           (λ z. c .before .if6 .left (run ∙ z));
-      tail = λ z. ap (λ (k : Seen). k .place) (e .before .look .ensures);
+      tail = λ z. ap (λ (k : Lookahead). k .place) (e .before .look .ensures);
       found = λ z. run;
     }
 

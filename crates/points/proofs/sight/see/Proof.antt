@@ -46,7 +46,7 @@ returns-3 c =
     let a = c .before .before .before .before .before .before .before .before .before .args in
     let fit = sym (c .before .before .before .before .before .before .unfit .ensures) ∙ c .before .before .before .before .before .if1 .left in
     let walk = ahead one (memory one (a .image .now)) (a .shared .blocks) (a .head .place) in
-    let seen = look-broken one _ (a .shared .blocks) 0 0 walk (c .before .before .look .ensures) in
+    let seen = look-broken one _ (a .shared .blocks) 0 0 (a .head .place) walk (c .before .before .look .ensures) in
     unseen-so _ 18 _ (c .unseen3 .ensures) (omega arith)
     (sight-broken one (a .image .now) (a .shared) (a .head) (a .table .now) (a .past) fit (c .before .before .before .before .if2 .left)
     (sym seen ∙ c .before .if3 .taken))
@@ -60,7 +60,7 @@ returns-4 c =
     let a = c .before .before .before .before .before .before .before .before .before .before .args in
     let fit = sym (c .before .before .before .before .before .before .before .unfit .ensures) ∙ c .before .before .before .before .before .before .if1 .left in
     let walk = ahead one (memory one (a .image .now)) (a .shared .blocks) (a .head .place) in
-    let seen = look-broken one _ (a .shared .blocks) 0 0 walk (c .before .before .before .look .ensures) in
+    let seen = look-broken one _ (a .shared .blocks) 0 0 (a .head .place) walk (c .before .before .before .look .ensures) in
     let sound = sym seen ∙ c .before .before .if3 .left in
     let facts = shared-facts one (a .image .now) (a .shared) (fit-shared one (a .image .now) (a .shared) (a .head) (a .table .now) fit) in (
       sight-clear one (a .image .now) (a .shared) (a .head) (a .table .now) (a .past) fit (c .before .before .before .before .before .if2 .left) sound,

@@ -1,4 +1,5 @@
 -- `points::step::read_in`: by what is read in; what that asks for was settled with the plan.
+use Rattle.log.specs.Replay.{replayOn}
 use Rattle.points.specs.Plan.{readIn}
 use borrow.Author.Needs.{needs}
 use Rattle.points.proofs.step.read_in.Statement.{statement}
@@ -24,7 +25,7 @@ unfolding readIn
 returns c = rw (c .enum-told .given .1)
 
 returns-2 : tie.Need-returns-2
-unfolding readIn
+unfolding readIn replayOn
 returns-2 c =
     let told = c .before .before .enum-told2 .given .1 in
     let f = rw told at (c .before .before .before .before .before .pre) in
