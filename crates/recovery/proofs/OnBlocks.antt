@@ -22,7 +22,7 @@ use Rattle.points.specs.declared.Point.{Point}
 use Rattle.points.specs.Record.{badShared, headFits, tableFits, fits, isJoined, isIdle, isZeroing, runWords}
 use Rattle.points.specs.Fill.{nextWord}
 use Rattle.points.specs.Stepping.{Outcome, refused, fill, zero-out, writeOn, stepRefusal, stepping}
-use Rattle.recovery.specs.World.{World, Call, join, begin, go, leave, Answer, steps, numbered, handed, renewed, Turn, turn, world, answers}
+use Rattle.recovery.specs.World.{World, Call, join, begin, go, leave, Event, stepped, numbered, handed, renewed, Turn, turn, world, events}
 use Rattle.recovery.specs.Sessions.{Case, Agree, afterCalls}
 use Rattle.words.proofs.Logic.{and-left, and-right}
 use Rattle.words.proofs.Memory.{memory-put, length-memory}
@@ -68,7 +68,7 @@ uncut-cut : (E : Edition) (w : World) → Whole E (w .words) → uncut (cutWorld
 uncut-cut E w e = ap (λ (words : List ℕ). record { words = words; shared = w .shared; newest = w .newest }) (flat-memory E (w .words) e)
 
 pub record CutTurn : Type 0 where
-  pub answer : Answer
+  pub event : Event
   pub state : CutWorld
 
 -- the refusal of a step by how many words the image has, and by whether the table fits; and the step
@@ -115,16 +115,20 @@ after-is E words (some s) e = go (ltb (s .word) (E .blockWords)) refl
     go true h = sym (memory-put E words s (ltb-true (s .word) (E .blockWords) h))
     go false h = ap (λ (xs : List ℕ). memory E (put E xs s)) (flat-memory E words e)
 
-abbrev pub stepped : Edition → CutWorld → ℕ → Outcome → CutTurn
-stepped E v n o =
+-- the newest records with another for point n
+abbrev pub newestWith : CutWorld → ℕ → Point → ℕ → Point
+newestWith v n p k = elim (eqb k n) [ true ↦ p | false ↦ v .newest k ]
+
+abbrev pub cutStep : Edition → CutWorld → ℕ → Head → Outcome → CutTurn
+cutStep E v n h o =
     record {
-      answer = steps (o .step);
-      state = record { image = afterIn E (v .image) (o .store); shared = o .shared; newest = λ k. elim (eqb k n) [ true ↦ o .point | false ↦ v .newest k ] };
+      event = stepped n h (o .step);
+      state = record { image = afterIn E (v .image) (o .store); shared = o .shared; newest = newestWith v n (o .point) };
     }
 
 -- joining, beginning and leaving store nothing
 abbrev pub kept : CutWorld → Turn → CutTurn
-kept v t = record { answer = t .answer; state = record { image = v .image; shared = t .world .shared; newest = t .world .newest } }
+kept v t = record { event = t .event; state = record { image = v .image; shared = t .world .shared; newest = t .world .newest } }
 
 -- The table of point n is known to fit where `known` is n + 1: then its 256 entries are not looked at again
 abbrev pub fitFor : ℕ → List ℕ → Bool → Bool
@@ -140,7 +144,9 @@ fitIn v known n p = fitFor (v .shared .blocks) (handedIn v n p .table) (eqb know
 unfoldable pub cutTurn : Edition → CutWorld → ℕ → Call → CutTurn
 cutTurn E v known (join n) = kept v (turn E (uncut v) (join n))
 cutTurn E v known (begin n p offset text) = kept v (turn E (uncut v) (begin n p offset text))
-cutTurn E v known (go n p) = stepped E v n (stepIn E (v .image) (length (v .image) * E .blockWords) (fitIn v known n p) (v .shared) (handedIn v n p))
+cutTurn E v known (go n p) =
+    let q = handedIn v n p in
+    cutStep E v n (q .head) (stepIn E (v .image) (length (v .image) * E .blockWords) (fitIn v known n p) (v .shared) q)
 cutTurn E v known (leave n p) = kept v (turn E (uncut v) (leave n p))
 
 -- a step that fills or zeroes a word
@@ -238,7 +244,7 @@ known-after E w known (go n p) k = split (joined && (still && fit)) refl
     split false h = nothing-known _
 
 abbrev pub cutTurnOf : Edition → Turn → CutTurn
-cutTurnOf E t = record { answer = t .answer; state = cutWorld E (t .world) }
+cutTurnOf E t = record { event = t .event; state = cutWorld E (t .world) }
 
 cut-turn-is : (E : Edition) (w : World) (known : ℕ) (c : Call) → Whole E (w .words) → Known w known → cutTurn E (cutWorld E w) known c
     ≡ cutTurnOf E (turn E w c)
@@ -246,25 +252,26 @@ unfolding cutTurn turn handed
 cut-turn-is E w known (join n) e k = rw (flat-memory E (w .words) e)
 cut-turn-is E w known (begin n p offset text) e k = rw (flat-memory E (w .words) e)
 cut-turn-is E w known (go n p) e k =
-    let o = stepping E (w .words) (w .shared) (handed w n p) in
-    ap (stepped E (cutWorld E w) n) (step-is E (w .words) (fitIn (cutWorld E w) known n p) (w .shared) (handed w n p) e (fit-is E w known n p k))
+    let q = handed w n p in
+    let o = stepping E (w .words) (w .shared) q in
+    ap (cutStep E (cutWorld E w) n (q .head)) (step-is E (w .words) (fitIn (cutWorld E w) known n p) (w .shared) q e (fit-is E w known n p k))
     ∙ ap (λ (m : Memory). record {
-      answer = steps (o .step);
-      state = record { image = m; shared = o .shared; newest = λ k. elim (eqb k n) [ true ↦ o .point | false ↦ w .newest k ] };
+      event = stepped n (q .head) (o .step);
+      state = record { image = m; shared = o .shared; newest = newestWith (cutWorld E w) n (o .point) };
     }) (after-is E (w .words) (o .store) e)
 cut-turn-is E w known (leave n p) e k = rw (flat-memory E (w .words) e)
 
 -- ---- lists of calls
 
 pub data CutRun : Type 0 where
-  answered : List Answer → CutWorld → CutRun
+  ran : List Event → CutWorld → CutRun
 
-abbrev pub preceded : Answer → CutRun → CutRun
-preceded a (answered rest v) = answered (a ∷ rest) v
+abbrev pub preceded : Event → CutRun → CutRun
+preceded e (ran rest v) = ran (e ∷ rest) v
 
 unfoldable pub cutRun : Edition → CutWorld → ℕ → List Call → CutRun
-cutRun E v known [] = answered [] v
-cutRun E v known (c ∷ cs) = let t = cutTurn E v known c in preceded (t .answer) (cutRun E (t .state) (knownAfter E v known c) cs)
+cutRun E v known [] = ran [] v
+cutRun E v known (c ∷ cs) = let t = cutTurn E v known c in preceded (t .event) (cutRun E (t .state) (knownAfter E v known c) cs)
 
 -- no call changes the image's length
 after-length : (E : Edition) (words : List ℕ) (o : Option Store) → length (after E words o) ≡ length words
@@ -288,33 +295,34 @@ world-whole E w [] e = e
 world-whole E w (c ∷ cs) e = world-whole E (turn E w c .world) cs (turn-whole E w c e)
 
 cut-run-is : (E : Edition) (w : World) (known : ℕ) (cs : List Call) → Whole E (w .words) → Known w known
-    → cutRun E (cutWorld E w) known cs ≡ answered (answers E w cs) (cutWorld E (world E w cs))
-unfolding cutRun answers world
+    → cutRun E (cutWorld E w) known cs ≡ ran (events E w cs) (cutWorld E (world E w cs))
+unfolding cutRun events world
 cut-run-is E w known [] e k = refl
 cut-run-is E w known (c ∷ cs) e k =
     let next = knownAfter E (cutWorld E w) known c in
-    ap (λ (t : CutTurn). preceded (t .answer) (cutRun E (t .state) next cs)) (cut-turn-is E w known c e k)
-    ∙ ap (preceded (turn E w c .answer)) (cut-run-is E (turn E w c .world) next cs (turn-whole E w c e) (known-after E w known c k))
+    ap (λ (t : CutTurn). preceded (t .event) (cutRun E (t .state) next cs)) (cut-turn-is E w known c e k)
+    ∙ ap (preceded (turn E w c .event)) (cut-run-is E (turn E w c .world) next cs (turn-whole E w c e) (known-after E w known c k))
 
 -- cases tested on the blocks hold of the definitions
-abbrev pub tested : (List Answer → World → List Case) → CutRun → Bool
-tested said (answered told v) = test (said told (uncut v))
+abbrev pub tested : (List Event → World → List Case) → CutRun → Bool
+tested said (ran told v) = test (said told (uncut v))
 
 abbrev pub whole : Edition → List ℕ → Bool
 whole E words = eqb (length words) (blockCount E words * E .blockWords)
 
-abbrev pub testOn : Edition → World → List Call → (List Answer → World → List Case) → Bool
+abbrev pub testOn : Edition → World → List Call → (List Event → World → List Case) → Bool
 testOn E w cs said = whole E (w .words) && tested said (cutRun E (cutWorld E w) 0 cs)
 
-pub by-blocks : (E : Edition) (w : World) (cs : List Call) (said : List Answer → World → List Case) → testOn E w cs said ≡ true → Agree (afterCalls E w cs said)
+pub by-blocks : (E : Edition) (w : World) (cs : List Call) (said : List Event → World → List Case) → testOn E w cs said ≡ true
+    → Agree (afterCalls E w cs said)
 by-blocks E w cs said h =
     let l = and-left (whole E (w .words)) (tested said (cutRun E (cutWorld E w) 0 cs)) h in
     let r = and-right (whole E (w .words)) (tested said (cutRun E (cutWorld E w) 0 cs)) h in
     let e : Whole E (w .words) = eqb-true (length (w .words)) (blockCount E (w .words) * E .blockWords) l in
-    let f : test (said (answers E w cs) (uncut (cutWorld E (world E w cs)))) ≡ true =
+    let f : test (said (events E w cs) (uncut (cutWorld E (world E w cs)))) ≡ true =
     subst (λ (r : CutRun). tested said r ≡ true) (cut-run-is E w 0 cs e (nothing-known w)) r in
     agree (afterCalls E w cs said)
-    (subst (λ (v : World). test (said (answers E w cs) v) ≡ true) (uncut-cut E (world E w cs) (world-whole E w cs e)) f)
+    (subst (λ (v : World). test (said (events E w cs) v) ≡ true) (uncut-cut E (world E w cs) (world-whole E w cs e)) f)
 
 -- for a proof that computes: what it unfolds beside `computing`
 unfoldable pub onBlocks : Unit {0}

@@ -20,13 +20,15 @@ module _ (words : List ℕ) (s : Shared) where
   unfolding JoinServed turn
   join-served n r e w a b = rw (e, a, b)
 
-  pub begin-served : (p : Point) (offset : ℕ) (text : List ℕ) (r : Begun) → r ≡ beginning one words s p offset text → BeginServed one words s p offset text r
+  pub begin-served : (p : Point) (offset : ℕ) (text : List ℕ) (r : Begun) → r ≡ beginning one words s p offset text
+      → BeginServed one words s p offset text r
   unfolding BeginServed turn
   begin-served p offset text r e w n q h = rw (e, h .record-is, h .image, h .shared)
 
-  pub step-served : (p : Point) (r : Stepped) (left : List ℕ) → r ≡ answered (stepping one words s p) → left ≡ after one words (stepping one words s p .store) → StepServed one words s p r left
+  pub step-served : (p : Point) (r : Stepped) (stored : List ℕ) → r ≡ answered (stepping one words s p)
+      → stored ≡ after one words (stepping one words s p .store) → StepServed one words s p r stored
   unfolding StepServed turn
-  step-served p r left e f w n q h = rw (e, f, h .record-is, h .image, h .shared)
+  step-served p r stored e f w n q h = rw (e, f, h .record-is, h .image, h .shared)
 
   pub leave-served : (p : Point) (r : Left) → r ≡ leaving one words s p → LeaveServed one words s p r
   unfolding LeaveServed turn

@@ -16,7 +16,7 @@ use Rattle.log.specs.Opening.{numberOf, layoutRefusal, layout, openRefusal, fil
 use Rattle.points.specs.declared.Head.{Head}
 use Rattle.points.specs.Record.{noPoint, noWrite, noTable}
 use Rattle.points.specs.Calls.{leaveRefusal}
-use Rattle.recovery.specs.World.{World, Call, join, begin, Answer, world, answers}
+use Rattle.recovery.specs.World.{World, Call, join, begin, Event, world, events}
 use Rattle.recovery.specs.History.{enough, openWorld, alone, finishes}
 use Rattle.recovery.specs.Claim.{runMost, loneSteps}
 use Rattle.recovery.specs.Sessions.{Case, _is_, Agree, afterCalls, code, codesAt, done, stored, moved, extending, committed}
@@ -60,8 +60,8 @@ sessionSaid W =
 abbrev pub fields : Edition → ℕ → List ℕ
 fields E e = entryV e ∷ entryB e ∷ entryN e ∷ entryU E e ∷ entryPoint E e ∷ entryRest E e ∷ []
 
--- what is said of the answers and of the world that is left, W words to a block
-abbrev pub sessionCases : Edition → ℕ → List Answer → World → List Case
+-- what is said of the events and of the world that is left, W words to a block
+abbrev pub sessionCases : Edition → ℕ → List Event → World → List Case
 sessionCases E W told w =
     (map code told is sessionSaid W)
     -- Point 1's entry: v 0, b 2, n 2, u 10, point 1. From the left: 1 in bits 53 to 57 is 0x0020.., 10 in bits 40 to 52 0x0A,
@@ -79,7 +79,7 @@ sessionCases E W told w =
     ∷ []
 
 -- and what opening answers then: the length, two entries, as many free blocks as the map has
-abbrev pub reopenedCases : Edition → ℕ → List Answer → World → List Case
+abbrev pub reopenedCases : Edition → ℕ → List Event → World → List Case
 reopenedCases E W told w =
     (let o = opened E (w .words) enough in (numberOf (o .reply) ∷ o .length ∷ o .entries ∷ o .free ∷ [] is 0 ∷ (8 * W + 24) ∷ 2 ∷ 4 ∷ []))
     ∷ sessionCases E W told w
@@ -165,12 +165,12 @@ loneSaid E =
     replicate 4 done ++ replicate (runMost E) stored ++ (committed 0 ∷ []) ++ replicate (runMost E) stored ++ (moved ∷ [])
     ++ replicate (2 * W) stored ++ (extending ∷ []) ++ replicate (W + 1) stored ++ (committed 1 ∷ [])
 
-abbrev pub loneCases : Edition → List Answer → World → List Case
+abbrev pub loneCases : Edition → List Event → World → List Case
 loneCases E told w = (map code told is loneSaid E) ∷ []
 
 -- with one step less the write is not finished
 abbrev pub NoSooner : Edition → Type 0
-NoSooner E = some-of finishes (answers E (world E (nearlyFull E) (loneStart E)) (alone 1 (loneSteps E - 1))) ≡ false
+NoSooner E = some-of finishes (events E (world E (nearlyFull E) (loneStart E)) (alone 1 (loneSteps E - 1))) ≡ false
 
 abbrev pub Tight : Edition → Type 0
 Tight E = Agree (afterCalls E (nearlyFull E) (loneCalls E) (loneCases E)) × NoSooner E

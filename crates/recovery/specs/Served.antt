@@ -10,7 +10,7 @@ use Rattle.points.specs.declared.Joined.{Joined}
 use Rattle.points.specs.declared.Begun.{Begun}
 use Rattle.points.specs.declared.Stepped.{Stepped}
 use Rattle.points.specs.declared.Left.{Left}
-use Rattle.recovery.specs.World.{World, join, begin, go, leave, joins, begins, steps, leaves, handed, renewed, joinedAs, turn}
+use Rattle.recovery.specs.World.{World, join, begin, go, leave, joined, begun, stepped, left, handed, renewed, joinedAs, turn}
 
 -- a world in which this point hands in this record, and which has this image and this shared record
 pub record Here (w : World) (words : List ℕ) (s : Shared) (n : ℕ) (given handedIn : Point) : Type 0 where
@@ -21,20 +21,32 @@ pub record Here (w : World) (words : List ℕ) (s : Shared) (n : ℕ) (given han
 unfoldable pub JoinServed : Edition → List ℕ → Shared → ℕ → Joined → Type 0
 JoinServed E words s n r =
     (w : World) → w .words ≡ words → w .shared ≡ s
-    → turn E w (join n) ≡ record { answer = joins (r .reply); world = record { words = words; shared = r .shared; newest = joinedAs (r .reply) w n (r .point) } }
+    → turn E w (join n) ≡ record {
+      event = joined n (r .reply);
+      world = record { words = words; shared = r .shared; newest = joinedAs (r .reply) w n (r .point) };
+    }
 
 unfoldable pub BeginServed : Edition → List ℕ → Shared → Point → ℕ → List ℕ → Begun → Type 0
 BeginServed E words s p offset text r =
     (w : World) (n : ℕ) (q : Point) → Here w words s n q p
-    → turn E w (begin n q offset text) ≡ record { answer = begins (r .reply); world = record { words = words; shared = r .shared; newest = renewed w n (r .point) } }
+    → turn E w (begin n q offset text) ≡ record {
+      event = begun n offset text (r .reply);
+      world = record { words = words; shared = r .shared; newest = renewed w n (r .point) };
+    }
 
 -- with the image as the step leaves it
 unfoldable pub StepServed : Edition → List ℕ → Shared → Point → Stepped → List ℕ → Type 0
-StepServed E words s p r left =
+StepServed E words s p r stored =
     (w : World) (n : ℕ) (q : Point) → Here w words s n q p
-    → turn E w (go n q) ≡ record { answer = steps (r .step); world = record { words = left; shared = r .shared; newest = renewed w n (r .point) } }
+    → turn E w (go n q) ≡ record {
+      event = stepped n (p .head) (r .step);
+      world = record { words = stored; shared = r .shared; newest = renewed w n (r .point) };
+    }
 
 unfoldable pub LeaveServed : Edition → List ℕ → Shared → Point → Left → Type 0
 LeaveServed E words s p r =
     (w : World) (n : ℕ) (q : Point) → Here w words s n q p
-    → turn E w (leave n q) ≡ record { answer = leaves (r .reply); world = record { words = words; shared = r .shared; newest = w .newest } }
+    → turn E w (leave n q) ≡ record {
+      event = left n (r .reply);
+      world = record { words = words; shared = r .shared; newest = w .newest };
+    }
