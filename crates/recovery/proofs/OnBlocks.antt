@@ -1,7 +1,7 @@
--- Calls computed on the blocks. A step of the definitions counts the image's words, cuts it into blocks and looks at the 256 entries of a table: with some
--- thousand words that is too much for the checker to do some thousand times. A step of `cutTurn` is one of `turn` with the image kept cut, and with a table
--- that is known to fit not looked at again; the other calls, which are few, put the image together. `cut-run-is` says that a list of calls gives the same,
--- `by-blocks` that cases tested on the blocks hold of the definitions.
+-- Calls computed on the blocks. A step of the definitions counts the image's words, cuts it into blocks and looks at the 256 entries of a
+-- table: with some thousand words that is too much for the checker to do some thousand times. A step of `cutServe` is one of `serve` with the
+-- image kept cut, and with a table that is known to fit not looked at again; the other calls, which are few, put the image together.
+-- `cut-run-is` says that a list of calls gives the same, `by-blocks` that cases tested on the blocks hold of the definitions.
 use Prim.Native.Nat.{ℕ, zero, suc, _+_, _*_, _-_, _/_}
 use native.Mathlib.Omega.{arith}
 use native.Mathlib.Nat.{suc-mul, zero-mul}
@@ -22,7 +22,7 @@ use Rattle.points.specs.declared.Point.{Point}
 use Rattle.points.specs.Record.{badShared, headFits, tableFits, fits, isJoined, isIdle, isZeroing, runWords}
 use Rattle.points.specs.Fill.{nextWord}
 use Rattle.points.specs.Stepping.{Outcome, refused, fill, zero-out, writeOn, stepRefusal, stepping}
-use Rattle.recovery.specs.World.{World, Call, join, begin, go, leave, Event, stepped, numbered, handed, renewed, Turn, turn, world, events}
+use Rattle.recovery.specs.World.{World, Call, join, begin, go, leave, Event, stepped, numbered, handed, renewed, Served, serve, world, events}
 use Rattle.recovery.specs.Sessions.{Case, Agree, afterCalls}
 use Rattle.words.proofs.Logic.{and-left, and-right}
 use Rattle.words.proofs.Memory.{memory-put, length-memory}
@@ -51,7 +51,7 @@ flat-memory : (E : Edition) (words : List ℕ) → Whole E words → flat (memor
 unfolding memory
 flat-memory E words e = flat-cut (E .blockWords) (blockCount E words) words e
 
--- ---- a turn on the blocks
+-- ---- a call on the blocks
 
 pub record CutWorld : Type 0 where
   pub image : Memory
@@ -67,7 +67,7 @@ uncut v = record { words = flat (v .image); shared = v .shared; newest = v .newe
 uncut-cut : (E : Edition) (w : World) → Whole E (w .words) → uncut (cutWorld E w) ≡ w
 uncut-cut E w e = ap (λ (words : List ℕ). record { words = words; shared = w .shared; newest = w .newest }) (flat-memory E (w .words) e)
 
-pub record CutTurn : Type 0 where
+pub record CutServed : Type 0 where
   pub event : Event
   pub state : CutWorld
 
@@ -119,7 +119,7 @@ after-is E words (some s) e = go (ltb (s .word) (E .blockWords)) refl
 abbrev pub newestWith : CutWorld → ℕ → Point → ℕ → Point
 newestWith v n p k = elim (eqb k n) [ true ↦ p | false ↦ v .newest k ]
 
-abbrev pub cutStep : Edition → CutWorld → ℕ → Head → Outcome → CutTurn
+abbrev pub cutStep : Edition → CutWorld → ℕ → Head → Outcome → CutServed
 cutStep E v n h o =
     record {
       event = stepped n h (o .step);
@@ -127,7 +127,7 @@ cutStep E v n h o =
     }
 
 -- joining, beginning and leaving store nothing
-abbrev pub kept : CutWorld → Turn → CutTurn
+abbrev pub kept : CutWorld → Served → CutServed
 kept v t = record { event = t .event; state = record { image = v .image; shared = t .world .shared; newest = t .world .newest } }
 
 -- The table of point n is known to fit where `known` is n + 1: then its 256 entries are not looked at again
@@ -141,13 +141,13 @@ handedIn v n p = elim (isJoined (v .shared) n) [ true ↦ v .newest n | false �
 abbrev pub fitIn : CutWorld → ℕ → ℕ → Point → Bool
 fitIn v known n p = fitFor (v .shared .blocks) (handedIn v n p .table) (eqb known (suc n))
 
-unfoldable pub cutTurn : Edition → CutWorld → ℕ → Call → CutTurn
-cutTurn E v known (join n) = kept v (turn E (uncut v) (join n))
-cutTurn E v known (begin n p offset text) = kept v (turn E (uncut v) (begin n p offset text))
-cutTurn E v known (go n p) =
+unfoldable pub cutServe : Edition → CutWorld → ℕ → Call → CutServed
+cutServe E v known (join n) = kept v (serve E (uncut v) (join n))
+cutServe E v known (begin n p offset text) = kept v (serve E (uncut v) (begin n p offset text))
+cutServe E v known (go n p) =
     let q = handedIn v n p in
     cutStep E v n (q .head) (stepIn E (v .image) (length (v .image) * E .blockWords) (fitIn v known n p) (v .shared) q)
-cutTurn E v known (leave n p) = kept v (turn E (uncut v) (leave n p))
+cutServe E v known (leave n p) = kept v (serve E (uncut v) (leave n p))
 
 -- a step that fills or zeroes a word
 abbrev pub storesBy : Bool → Edition → Write → Bool
@@ -204,8 +204,8 @@ step-leaves E words s p c = go (stepRefusal E words s (p .head) (p .table))
     go (suc k) = (refl, refl)
 
 known-step : (E : Edition) (w : World) (n : ℕ) (p : Point) → isJoined (w .shared) n ≡ true → stores E (handed w n p .head .write) ≡ true
-    → tableFits (w .shared .blocks) (handed w n p .table) ≡ true → Known (turn E w (go n p) .world) (suc n)
-unfolding Known turn
+    → tableFits (w .shared .blocks) (handed w n p .table) ≡ true → Known (serve E w (go n p) .world) (suc n)
+unfolding Known serve
 known-step E w n p j c f i e =
     let y = handed w n p in
     let o = stepping E (w .words) (w .shared) y in
@@ -221,7 +221,7 @@ nothing-known : (w : World) → Known w 0
 unfolding Known
 nothing-known w n e = absurd (omega arith)
 
-known-after : (E : Edition) (w : World) (known : ℕ) (c : Call) → Known w known → Known (turn E w c .world) (knownAfter E (cutWorld E w) known c)
+known-after : (E : Edition) (w : World) (known : ℕ) (c : Call) → Known w known → Known (serve E w c .world) (knownAfter E (cutWorld E w) known c)
 unfolding knownAfter handed
 known-after E w known (join n) k = nothing-known _
 known-after E w known (begin n p offset text) k = nothing-known _
@@ -237,21 +237,21 @@ known-after E w known (go n p) k = split (joined && (still && fit)) refl
     fit : Bool
     fit = fitFor (w .shared .blocks) (handed w n p .table) (eqb known (suc n))
 
-    split : (t : Bool) → joined && (still && fit) ≡ t → Known (turn E w (go n p) .world) (knownIf n t)
+    split : (t : Bool) → joined && (still && fit) ≡ t → Known (serve E w (go n p) .world) (knownIf n t)
     split true h =
         let r = and-right joined (still && fit) h in
         known-step E w n p (and-left joined (still && fit) h) (and-left still fit r) (sym (fit-is E w known n p k) ∙ and-right still fit r)
     split false h = nothing-known _
 
-abbrev pub cutTurnOf : Edition → Turn → CutTurn
-cutTurnOf E t = record { event = t .event; state = cutWorld E (t .world) }
+abbrev pub cutServedOf : Edition → Served → CutServed
+cutServedOf E t = record { event = t .event; state = cutWorld E (t .world) }
 
-cut-turn-is : (E : Edition) (w : World) (known : ℕ) (c : Call) → Whole E (w .words) → Known w known → cutTurn E (cutWorld E w) known c
-    ≡ cutTurnOf E (turn E w c)
-unfolding cutTurn turn handed
-cut-turn-is E w known (join n) e k = rw (flat-memory E (w .words) e)
-cut-turn-is E w known (begin n p offset text) e k = rw (flat-memory E (w .words) e)
-cut-turn-is E w known (go n p) e k =
+cut-serve-is : (E : Edition) (w : World) (known : ℕ) (c : Call) → Whole E (w .words) → Known w known → cutServe E (cutWorld E w) known c
+    ≡ cutServedOf E (serve E w c)
+unfolding cutServe serve handed
+cut-serve-is E w known (join n) e k = rw (flat-memory E (w .words) e)
+cut-serve-is E w known (begin n p offset text) e k = rw (flat-memory E (w .words) e)
+cut-serve-is E w known (go n p) e k =
     let q = handed w n p in
     let o = stepping E (w .words) (w .shared) q in
     ap (cutStep E (cutWorld E w) n (q .head)) (step-is E (w .words) (fitIn (cutWorld E w) known n p) (w .shared) q e (fit-is E w known n p k))
@@ -259,7 +259,7 @@ cut-turn-is E w known (go n p) e k =
       event = stepped n (q .head) (o .step);
       state = record { image = m; shared = o .shared; newest = newestWith (cutWorld E w) n (o .point) };
     }) (after-is E (w .words) (o .store) e)
-cut-turn-is E w known (leave n p) e k = rw (flat-memory E (w .words) e)
+cut-serve-is E w known (leave n p) e k = rw (flat-memory E (w .words) e)
 
 -- ---- lists of calls
 
@@ -271,7 +271,7 @@ preceded e (ran rest v) = ran (e ∷ rest) v
 
 unfoldable pub cutRun : Edition → CutWorld → ℕ → List Call → CutRun
 cutRun E v known [] = ran [] v
-cutRun E v known (c ∷ cs) = let t = cutTurn E v known c in preceded (t .event) (cutRun E (t .state) (knownAfter E v known c) cs)
+cutRun E v known (c ∷ cs) = let t = cutServe E v known c in preceded (t .event) (cutRun E (t .state) (knownAfter E v known c) cs)
 
 -- no call changes the image's length
 after-length : (E : Edition) (words : List ℕ) (o : Option Store) → length (after E words o) ≡ length words
@@ -279,20 +279,20 @@ unfolding after
 after-length E words none = refl
 after-length E words (some s) = length-set words (s .block * E .blockWords + s .word) (s .value)
 
-turn-length : (E : Edition) (w : World) (c : Call) → length (turn E w c .world .words) ≡ length (w .words)
-unfolding turn
-turn-length E w (join n) = refl
-turn-length E w (begin n p offset text) = refl
-turn-length E w (go n p) = after-length E (w .words) (stepping E (w .words) (w .shared) (handed w n p) .store)
-turn-length E w (leave n p) = refl
+serve-length : (E : Edition) (w : World) (c : Call) → length (serve E w c .world .words) ≡ length (w .words)
+unfolding serve
+serve-length E w (join n) = refl
+serve-length E w (begin n p offset text) = refl
+serve-length E w (go n p) = after-length E (w .words) (stepping E (w .words) (w .shared) (handed w n p) .store)
+serve-length E w (leave n p) = refl
 
-turn-whole : (E : Edition) (w : World) (c : Call) → Whole E (w .words) → Whole E (turn E w c .world .words)
-turn-whole E w c e = subst (λ (n : ℕ). n ≡ n / E .blockWords * E .blockWords) (sym (turn-length E w c)) e
+serve-whole : (E : Edition) (w : World) (c : Call) → Whole E (w .words) → Whole E (serve E w c .world .words)
+serve-whole E w c e = subst (λ (n : ℕ). n ≡ n / E .blockWords * E .blockWords) (sym (serve-length E w c)) e
 
 world-whole : (E : Edition) (w : World) (cs : List Call) → Whole E (w .words) → Whole E (world E w cs .words)
 unfolding world
 world-whole E w [] e = e
-world-whole E w (c ∷ cs) e = world-whole E (turn E w c .world) cs (turn-whole E w c e)
+world-whole E w (c ∷ cs) e = world-whole E (serve E w c .world) cs (serve-whole E w c e)
 
 cut-run-is : (E : Edition) (w : World) (known : ℕ) (cs : List Call) → Whole E (w .words) → Known w known
     → cutRun E (cutWorld E w) known cs ≡ ran (events E w cs) (cutWorld E (world E w cs))
@@ -300,12 +300,12 @@ unfolding cutRun events world
 cut-run-is E w known [] e k = refl
 cut-run-is E w known (c ∷ cs) e k =
     let next = knownAfter E (cutWorld E w) known c in
-    ap (λ (t : CutTurn). preceded (t .event) (cutRun E (t .state) next cs)) (cut-turn-is E w known c e k)
-    ∙ ap (preceded (turn E w c .event)) (cut-run-is E (turn E w c .world) next cs (turn-whole E w c e) (known-after E w known c k))
+    ap (λ (t : CutServed). preceded (t .event) (cutRun E (t .state) next cs)) (cut-serve-is E w known c e k)
+    ∙ ap (preceded (serve E w c .event)) (cut-run-is E (serve E w c .world) next cs (serve-whole E w c e) (known-after E w known c k))
 
 -- cases tested on the blocks hold of the definitions
 abbrev pub tested : (List Event → World → List Case) → CutRun → Bool
-tested said (ran told v) = test (said told (uncut v))
+tested said (ran es v) = test (said es (uncut v))
 
 abbrev pub whole : Edition → List ℕ → Bool
 whole E words = eqb (length words) (blockCount E words * E .blockWords)
@@ -326,5 +326,5 @@ by-blocks E w cs said h =
 
 -- for a proof that computes: what it unfolds beside `computing`
 unfoldable pub onBlocks : Unit {0}
-unfolding refusalIn stepIn afterIn cutTurn knownAfter cutRun
+unfolding refusalIn stepIn afterIn cutServe knownAfter cutRun
 onBlocks = tt

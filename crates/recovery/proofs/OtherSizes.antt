@@ -13,7 +13,7 @@ use Rattle.words.specs.Logic.{all-of, some-of}
 use Rattle.points.specs.declared.StepAnswer.the-variants.{Stored, Moved, Extending, Committed, Refused}
 use Rattle.points.specs.Record.{noPoint}
 use Rattle.recovery.specs.Computing.{computing}
-use Rattle.recovery.specs.World.{World, Call, go, Event, joined, begun, stepped, left, turn, world, events}
+use Rattle.recovery.specs.World.{World, Call, go, Event, joined, begun, stepped, left, serve, world, events}
 use Rattle.recovery.specs.History.{alone, finishes}
 use Rattle.recovery.specs.Claim.{loneSteps}
 use Rattle.recovery.specs.Sessions.{_is_, code}
@@ -65,7 +65,7 @@ module _ (E : Edition) (p : ℕ) where
   unfolding events
   not-yet zero w h = refl
   not-yet (suc n) w h =
-      let t = turn E w (go p noPoint) in
+      let t = serve E w (go p noPoint) in
       let rest = take n (map code (events E (t .world) (alone p (suc n)))) in
       let l : ltb (code (t .event)) 400000 ≡ true = and-left (ltb (code (t .event)) 400000) (low rest) h in
       let a : finishes (t .event) ≡ false = unfinished (t .event) (ltb-true (code (t .event)) 400000 l) in
@@ -76,7 +76,7 @@ module _ (E : Edition) (p : ℕ) where
       → some-of finishes (events E (world E w cs) (alone p n)) ≡ false
   unfolding events world
   no-sooner [] n w h = not-yet n w h
-  no-sooner (c ∷ cs) n w h = no-sooner cs n (turn E w c .world) h
+  no-sooner (c ∷ cs) n w h = no-sooner cs n (serve E w c .world) h
 
 -- the answers that the bound says finish the write at their end, and not before
 module _ (E : Edition) (n : ℕ) (e : loneSteps E ≡ suc n) (l : low (take n (drop (length (loneStart E)) (loneSaid E))) ≡ true)

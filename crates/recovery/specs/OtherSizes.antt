@@ -62,8 +62,8 @@ fields E e = entryV e ∷ entryB e ∷ entryN e ∷ entryU E e ∷ entryPoint E 
 
 -- what is said of the events and of the world that is left, W words to a block
 abbrev pub sessionCases : Edition → ℕ → List Event → World → List Case
-sessionCases E W told w =
-    (map code told is sessionSaid W)
+sessionCases E W es w =
+    (map code es is sessionSaid W)
     -- Point 1's entry: v 0, b 2, n 2, u 10, point 1. From the left: 1 in bits 53 to 57 is 0x0020.., 10 in bits 40 to 52 0x0A,
     -- 2 in bits 32 to 39 0x02, then b 0x0002 and v 0x0000
     -- Point 2's: v 1, b 4, n 1, u 12 + 12 = 24, point 2: 0x0040.., 0x18, 0x01, 0x0004, 0x0001
@@ -80,9 +80,9 @@ sessionCases E W told w =
 
 -- and what opening answers then: the length, two entries, as many free blocks as the map has
 abbrev pub reopenedCases : Edition → ℕ → List Event → World → List Case
-reopenedCases E W told w =
+reopenedCases E W es w =
     (let o = opened E (w .words) enough in (numberOf (o .reply) ∷ o .length ∷ o .entries ∷ o .free ∷ [] is 0 ∷ (8 * W + 24) ∷ 2 ∷ 4 ∷ []))
-    ∷ sessionCases E W told w
+    ∷ sessionCases E W es w
 
 -- (4,096 bytes of a block are many to the checker: what opening answers after the session is asked at the smaller size alone)
 abbrev pub sessionTwo : List Case
@@ -173,7 +173,7 @@ loneSaid E =
     ++ replicate (2 * W) stored ++ (extending ∷ []) ++ replicate (W + 1) stored ++ (committed 1 ∷ [])
 
 abbrev pub loneCases : Edition → List Event → World → List Case
-loneCases E told w = (map code told is loneSaid E) ∷ []
+loneCases E es w = (map code es is loneSaid E) ∷ []
 
 -- with one step less the write is not finished
 abbrev pub NoSooner : Edition → Type 0

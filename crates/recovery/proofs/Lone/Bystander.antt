@@ -15,7 +15,7 @@ use Rattle.points.specs.declared.Left.{Left}
 use Rattle.points.specs.Record.{isJoined, isIdle}
 use Rattle.points.specs.Search.{taking}
 use Rattle.points.specs.Calls.{joining, joinRefusal, beginning, beginRefusal, leaving, leaveRefusal}
-use Rattle.recovery.specs.World.{World, join, begin, go, leave, handed, renewed, joinedAs, turn}
+use Rattle.recovery.specs.World.{World, join, begin, go, leave, handed, renewed, joinedAs, serve}
 use Rattle.recovery.specs.Book.{Book}
 use Rattle.words.proofs.WithBit.{withBit-other}
 use Rattle.words.proofs.Tests.{no-true}
@@ -32,8 +32,8 @@ pub record Kept (w v : World) (n : ℕ) : Type 0 where
 
 module _ {E : Edition} {L : List ℕ} (w : World) (bk : Book) (h : Tied E L w bk) (n : ℕ) (j : isJoined (w .shared) n ≡ true)
     (busy : isIdle (w .newest n .head .write .phase) ≡ false) where
-  pub join-kept : (k : ℕ) → Kept w (turn E w (join k) .world) n
-  unfolding turn
+  pub join-kept : (k : ℕ) → Kept w (serve E w (join k) .world) n
+  unfolding serve
   join-kept k = go (joinRefusal E (w .words) (w .shared) k) refl
     where
       after : Joined → World
@@ -46,8 +46,8 @@ module _ {E : Edition} {L : List ℕ} (w : World) (bk : Book) (h : Tied E L w bk
           subst (λ (r : Joined). Kept w (after r) n) (sym (join-eq-done w bk h k e))
           (record { words = refl; newest = renewed-other w k _ n apart; joined = withBit-other true (w .shared .joined) k n apart ∙ j })
 
-  pub begin-kept : (k : ℕ) (p : PP.Point) (o : ℕ) (text : List ℕ) → ((i : ℕ) → getD text i 0 < 256) → Kept w (turn E w (begin k p o text) .world) n
-  unfolding turn taking
+  pub begin-kept : (k : ℕ) (p : PP.Point) (o : ℕ) (text : List ℕ) → ((i : ℕ) → getD text i 0 < 256) → Kept w (serve E w (begin k p o text) .world) n
+  unfolding serve taking
   begin-kept k p o text bytes = go (beginRefusal E (w .words) (w .shared) (y .head) (y .table) o (length text)) refl
     where
       y : PP.Point
@@ -64,8 +64,8 @@ module _ {E : Edition} {L : List ℕ} (w : World) (bk : Book) (h : Tied E L w bk
           let apart : n ≢ k = λ s. no-true (ap (λ (q : PP.Point). isIdle (q .head .write .phase)) (sym (handed-newest w k p (rw s at j))) ∙ idle) (rw s at busy) in
           subst (λ (r : Begun). Kept w (after r) n) (sym (begin-eq-done w bk h k p o text bytes y e)) (record { words = refl; newest = renewed-other w k _ n apart; joined = j })
 
-  pub leave-kept : (k : ℕ) (p : PP.Point) → k ≢ n → Kept w (turn E w (leave k p) .world) n
-  unfolding turn
+  pub leave-kept : (k : ℕ) (p : PP.Point) → k ≢ n → Kept w (serve E w (leave k p) .world) n
+  unfolding serve
   leave-kept k p apart = go (leaveRefusal E (w .words) (w .shared) (y .head) (y .table)) refl
     where
       y : PP.Point
