@@ -33,7 +33,8 @@ module _ {E : Edition} (h : History E) (p : ℕ) where
   bookAtCut = book (firstBook (openedFile E (h .words))) (eventsBefore h)
 
   pub write-noted : isJoined (atCut h .shared) p ≡ true → isIdle (atCut h .newest p .head .write .phase) ≡ false
-      → bookAtCut .note p ≡ some (record { offset = atCut h .newest p .head .write .offset; text = take (atCut h .newest p .head .write .size) (atCut h .newest p .text) })
+      → bookAtCut .note p
+      ≡ some (record { offset = atCut h .newest p .head .write .offset; text = take (atCut h .newest p .head .write .size) (atCut h .newest p .text) })
   write-noted = let t = after-tied E (h .words) (opens-enough h) (callsBefore h) (bytesBefore h) in rw (same-start h) (under-way _ _ t p)
 
   pub idle-not-noted : isJoined (atCut h .shared) p ≡ true → isIdle (atCut h .newest p .head .write .phase) ≡ true → bookAtCut .note p ≡ none

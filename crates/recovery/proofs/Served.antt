@@ -1,6 +1,6 @@
 -- A call that answers what its definition says leaves what `serve` says. Assumes nothing.
 use Prim.Native.Nat.{ℕ}
-use mathlib.Core.Path.{_≡_, refl}
+use mathlib.Core.Path.{_≡_}
 use mathlib.Core.List.{List}
 use Rattle.words.specs.Edition.{one}
 use Rattle.words.specs.Memory.{after}

@@ -46,7 +46,8 @@ module _ {E : Edition} {L : List ℕ} (w : World) (bk : Book) (h : Tied E L w bk
           subst (λ (r : Joined). Kept w (after r) n) (sym (join-eq-done w bk h k e))
           (record { words = refl; newest = renewed-other w k _ n apart; joined = withBit-other true (w .shared .joined) k n apart ∙ j })
 
-  pub begin-kept : (k : ℕ) (p : PP.Point) (o : ℕ) (text : List ℕ) → ((i : ℕ) → getD text i 0 < 256) → Kept w (serve E w (begin k p o text) .world) n
+  pub begin-kept : (k : ℕ) (p : PP.Point) (o : ℕ) (text : List ℕ) → ((i : ℕ) → getD text i 0 < 256)
+      → Kept w (serve E w (begin k p o text) .world) n
   unfolding serve taking
   begin-kept k p o text bytes = go (beginRefusal E (w .words) (w .shared) (y .head) (y .table) o (length text)) refl
     where
@@ -58,11 +59,14 @@ module _ {E : Edition} {L : List ℕ} (w : World) (bk : Book) (h : Tied E L w bk
 
       go : (i : ℕ) → beginRefusal E (w .words) (w .shared) (y .head) (y .table) o (length text) ≡ i
           → Kept w (after (beginning E (w .words) (w .shared) y o text)) n
-      go (suc i) e = subst (λ (r : Begun). Kept w (after r) n) (sym (begin-eq-refused w bk h k p o text bytes y i e)) (record { words = refl; newest = renewed-handed w k p n j; joined = j })
+      go (suc i) e = subst (λ (r : Begun). Kept w (after r) n) (sym (begin-eq-refused w bk h k p o text bytes y i e))
+          (record { words = refl; newest = renewed-handed w k p n j; joined = j })
       go zero e =
           let idle : isIdle (y .head .write .phase) ≡ true = not-false _ (begin-idle E (w .words) (w .shared) y o text e) in
-          let apart : n ≢ k = λ s. no-true (ap (λ (q : PP.Point). isIdle (q .head .write .phase)) (sym (handed-newest w k p (rw s at j))) ∙ idle) (rw s at busy) in
-          subst (λ (r : Begun). Kept w (after r) n) (sym (begin-eq-done w bk h k p o text bytes y e)) (record { words = refl; newest = renewed-other w k _ n apart; joined = j })
+          let apart : n ≢ k = λ s.
+          no-true (ap (λ (q : PP.Point). isIdle (q .head .write .phase)) (sym (handed-newest w k p (rw s at j))) ∙ idle) (rw s at busy) in
+          subst (λ (r : Begun). Kept w (after r) n) (sym (begin-eq-done w bk h k p o text bytes y e))
+          (record { words = refl; newest = renewed-other w k _ n apart; joined = j })
 
   pub leave-kept : (k : ℕ) (p : PP.Point) → k ≢ n → Kept w (serve E w (leave k p) .world) n
   unfolding serve
