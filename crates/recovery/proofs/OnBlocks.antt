@@ -22,12 +22,12 @@ use Rattle.points.specs.declared.Point.{Point}
 use Rattle.points.specs.Record.{badShared, headFits, tableFits, fits, isJoined, isIdle, isZeroing, runWords}
 use Rattle.points.specs.Fill.{nextWord}
 use Rattle.points.specs.Stepping.{Outcome, refused, fill, zero-out, writeOn, stepRefusal, stepping}
-use Rattle.recovery.specs.World.{World, Call, join, begin, go, leave, Event, stepped, numbered, handed, renewed, Served, serve, world, events}
+use Rattle.recovery.specs.World.{World, Call, join, begin, go, leave, Event, stepped, numbered, handed, withNewest, Served, serve, world, events}
 use Rattle.recovery.specs.Sessions.{Case, Agree, afterCalls}
 use Rattle.words.proofs.Logic.{and-left, and-right}
 use Rattle.words.proofs.Memory.{memory-put, length-memory}
 use Rattle.points.proofs.Ways.{on-zeroing, on-filling, zero-on, fill-on}
-use Rattle.recovery.proofs.Calls.Mapping.{renewed-same, handed-newest}
+use Rattle.recovery.proofs.Calls.Mapping.{withNewest-same, handed-newest}
 use Rattle.recovery.proofs.Computed.{test, agree}
 
 -- ---- an image and its blocks
@@ -116,14 +116,14 @@ after-is E words (some s) e = go (ltb (s .word) (E .blockWords)) refl
     go false h = ap (λ (xs : List ℕ). memory E (put E xs s)) (flat-memory E words e)
 
 -- the newest records with another for point n
-abbrev pub newestWith : CutWorld → ℕ → Point → ℕ → Point
-newestWith v n p k = elim (eqb k n) [ true ↦ p | false ↦ v .newest k ]
+abbrev pub cutWithNewest : CutWorld → ℕ → Point → ℕ → Point
+cutWithNewest v n p k = elim (eqb k n) [ true ↦ p | false ↦ v .newest k ]
 
 abbrev pub cutStep : Edition → CutWorld → ℕ → Head → Outcome → CutServed
 cutStep E v n h o =
     record {
       event = stepped n h (o .step);
-      state = record { image = afterIn E (v .image) (o .store); shared = o .shared; newest = newestWith v n (o .point) };
+      state = record { image = afterIn E (v .image) (o .store); shared = o .shared; newest = cutWithNewest v n (o .point) };
     }
 
 -- joining, beginning and leaving store nothing
@@ -211,9 +211,9 @@ known-step E w n p j c f i e =
     let o = stepping E (w .words) (w .shared) y in
     let q = step-leaves E (w .words) (w .shared) y c in
     let same-n : n ≡ i = omega arith in
-    subst (λ (i : ℕ). (isJoined (o .shared) i ≡ true) × (tableFits (o .shared .blocks) (renewed w n (o .point) i .table) ≡ true)) same-n (
+    subst (λ (i : ℕ). (isJoined (o .shared) i ≡ true) × (tableFits (o .shared .blocks) (withNewest w n (o .point) i .table) ≡ true)) same-n (
       ap (λ (s : Shared). isJoined s n) (q .0) ∙ j,
-      ap (λ (r : Point). tableFits (o .shared .blocks) (r .table)) (renewed-same w n (o .point))
+      ap (λ (r : Point). tableFits (o .shared .blocks) (r .table)) (withNewest-same w n (o .point))
           ∙ ap₂ (λ (s : Shared) (t : List ℕ). tableFits (s .blocks) t) (q .0) (q .1) ∙ f,
     )
 
@@ -257,7 +257,7 @@ cut-serve-is E w known (go n p) e k =
     ap (cutStep E (cutWorld E w) n (q .head)) (step-is E (w .words) (fitIn (cutWorld E w) known n p) (w .shared) q e (fit-is E w known n p k))
     ∙ ap (λ (m : Memory). record {
       event = stepped n (q .head) (o .step);
-      state = record { image = m; shared = o .shared; newest = newestWith (cutWorld E w) n (o .point) };
+      state = record { image = m; shared = o .shared; newest = cutWithNewest (cutWorld E w) n (o .point) };
     }) (after-is E (w .words) (o .store) e)
 cut-serve-is E w known (leave n p) e k = rw (flat-memory E (w .words) e)
 

@@ -10,7 +10,7 @@ use Rattle.points.specs.declared.Joined.{Joined}
 use Rattle.points.specs.declared.Begun.{Begun}
 use Rattle.points.specs.declared.Stepped.{Stepped}
 use Rattle.points.specs.declared.Left.{Left}
-use Rattle.recovery.specs.World.{World, join, begin, go, leave, joined, begun, stepped, left, handed, renewed, joinedAs, serve}
+use Rattle.recovery.specs.World.{World, join, begin, go, leave, joined, begun, stepped, left, handed, withNewest, joinedAs, serve}
 
 -- a world in which this point hands in this record, and which has this image and this shared record
 pub record HandsIn (w : World) (words : List ℕ) (s : Shared) (n : ℕ) (given handedIn : Point) : Type 0 where
@@ -31,7 +31,7 @@ BeginServed E words s p offset text r =
     (w : World) (n : ℕ) (q : Point) → HandsIn w words s n q p
     → serve E w (begin n q offset text) ≡ record {
       event = begun n offset text (r .reply);
-      world = record { words = words; shared = r .shared; newest = renewed w n (r .point) };
+      world = record { words = words; shared = r .shared; newest = withNewest w n (r .point) };
     }
 
 -- with the image as the step leaves it
@@ -40,7 +40,7 @@ StepServed E words s p r stored =
     (w : World) (n : ℕ) (q : Point) → HandsIn w words s n q p
     → serve E w (go n q) ≡ record {
       event = stepped n (p .head) (r .step);
-      world = record { words = stored; shared = r .shared; newest = renewed w n (r .point) };
+      world = record { words = stored; shared = r .shared; newest = withNewest w n (r .point) };
     }
 
 unfoldable pub LeaveServed : Edition → List ℕ → Shared → Point → Left → Type 0
