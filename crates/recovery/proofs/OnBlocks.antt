@@ -22,7 +22,7 @@ use Rattle.points.specs.declared.Point.{Point}
 use Rattle.points.specs.Record.{badShared, headFits, tableFits, fits, isJoined, isIdle, isZeroing, runWords}
 use Rattle.points.specs.Fill.{nextWord}
 use Rattle.points.specs.Stepping.{Outcome, refused, fill, zero-out, writeOn, stepRefusal, stepping}
-use Rattle.recovery.specs.World.{World, Call, join, begin, go, leave, Event, stepped, numbered, handed, withNewest, Served, serve, world, events}
+use Rattle.recovery.specs.World.{World, Call, join, begin, step, leave, Event, stepped, numbered, handed, withNewest, Served, serve, world, events}
 use Rattle.recovery.specs.Sessions.{Case, Agree, afterCalls}
 use Rattle.words.proofs.Logic.{and-left, and-right}
 use Rattle.words.proofs.Memory.{memory-put, length-memory}
@@ -144,7 +144,7 @@ fitIn v known n p = fitFor (v .shared .blocks) (handedIn v n p .table) (eqb know
 unfoldable pub cutServe : Edition → CutWorld → ℕ → Call → CutServed
 cutServe E v known (join n) = kept v (serve E (uncut v) (join n))
 cutServe E v known (begin n p offset text) = kept v (serve E (uncut v) (begin n p offset text))
-cutServe E v known (go n p) =
+cutServe E v known (step n p) =
     let q = handedIn v n p in
     cutStep E v n (q .head) (stepIn E (v .image) (length (v .image) * E .blockWords) (fitIn v known n p) (v .shared) q)
 cutServe E v known (leave n p) = kept v (serve E (uncut v) (leave n p))
@@ -164,7 +164,7 @@ knownIf n false = 0
 unfoldable pub knownAfter : Edition → CutWorld → ℕ → Call → ℕ
 knownAfter E v known (join n) = 0
 knownAfter E v known (begin n p offset text) = 0
-knownAfter E v known (go n p) = knownIf n (isJoined (v .shared) n && (stores E (handedIn v n p .head .write) && fitIn v known n p))
+knownAfter E v known (step n p) = knownIf n (isJoined (v .shared) n && (stores E (handedIn v n p .head .write) && fitIn v known n p))
 knownAfter E v known (leave n p) = 0
 
 -- ---- what is known stays
@@ -204,7 +204,7 @@ step-leaves E words s p c = go (stepRefusal E words s (p .head) (p .table))
     go (suc k) = (refl, refl)
 
 known-step : (E : Edition) (w : World) (n : ℕ) (p : Point) → isJoined (w .shared) n ≡ true → stores E (handed w n p .head .write) ≡ true
-    → tableFits (w .shared .blocks) (handed w n p .table) ≡ true → Known (serve E w (go n p) .world) (suc n)
+    → tableFits (w .shared .blocks) (handed w n p .table) ≡ true → Known (serve E w (step n p) .world) (suc n)
 unfolding Known serve
 known-step E w n p j c f i e =
     let y = handed w n p in
@@ -226,7 +226,7 @@ unfolding knownAfter handed
 known-after E w known (join n) k = nothing-known _
 known-after E w known (begin n p offset text) k = nothing-known _
 known-after E w known (leave n p) k = nothing-known _
-known-after E w known (go n p) k = split (joined && (still && fit)) refl
+known-after E w known (step n p) k = split (joined && (still && fit)) refl
   where
     joined : Bool
     joined = isJoined (w .shared) n
@@ -237,7 +237,7 @@ known-after E w known (go n p) k = split (joined && (still && fit)) refl
     fit : Bool
     fit = fitFor (w .shared .blocks) (handed w n p .table) (eqb known (suc n))
 
-    split : (t : Bool) → joined && (still && fit) ≡ t → Known (serve E w (go n p) .world) (knownIf n t)
+    split : (t : Bool) → joined && (still && fit) ≡ t → Known (serve E w (step n p) .world) (knownIf n t)
     split true h =
         let r = and-right joined (still && fit) h in
         known-step E w n p (and-left joined (still && fit) h) (and-left still fit r) (sym (fit-is E w known n p k) ∙ and-right still fit r)
@@ -251,7 +251,7 @@ cut-serve-is : (E : Edition) (w : World) (known : ℕ) (c : Call) → Whole E (w
 unfolding cutServe serve handed
 cut-serve-is E w known (join n) e k = rw (flat-memory E (w .words) e)
 cut-serve-is E w known (begin n p offset text) e k = rw (flat-memory E (w .words) e)
-cut-serve-is E w known (go n p) e k =
+cut-serve-is E w known (step n p) e k =
     let q = handed w n p in
     let o = stepping E (w .words) (w .shared) q in
     ap (cutStep E (cutWorld E w) n (q .head)) (step-is E (w .words) (fitIn (cutWorld E w) known n p) (w .shared) q e (fit-is E w known n p k))
@@ -283,7 +283,7 @@ serve-length : (E : Edition) (w : World) (c : Call) → length (serve E w c .wor
 unfolding serve
 serve-length E w (join n) = refl
 serve-length E w (begin n p offset text) = refl
-serve-length E w (go n p) = after-length E (w .words) (stepping E (w .words) (w .shared) (handed w n p) .store)
+serve-length E w (step n p) = after-length E (w .words) (stepping E (w .words) (w .shared) (handed w n p) .store)
 serve-length E w (leave n p) = refl
 
 serve-whole : (E : Edition) (w : World) (c : Call) → Whole E (w .words) → Whole E (serve E w c .world .words)

@@ -13,7 +13,7 @@ use Rattle.words.specs.Logic.{all-of, some-of}
 use Rattle.points.specs.declared.StepAnswer.the-variants.{Stored, Moved, Extending, Committed, Refused}
 use Rattle.points.specs.Record.{noPoint}
 use Rattle.recovery.specs.Computing.{computing}
-use Rattle.recovery.specs.World.{World, Call, go, Event, joined, begun, stepped, left, serve, world, events}
+use Rattle.recovery.specs.World.{World, Call, step, Event, joined, begun, stepped, left, serve, world, events}
 use Rattle.recovery.specs.History.{alone, finishes}
 use Rattle.recovery.specs.Claim.{loneSteps}
 use Rattle.recovery.specs.Sessions.{_is_, code}
@@ -65,7 +65,7 @@ module _ (E : Edition) (p : ℕ) where
   unfolding events
   not-yet zero w h = refl
   not-yet (suc n) w h =
-      let t = serve E w (go p noPoint) in
+      let t = serve E w (step p noPoint) in
       let rest = take n (map code (events E (t .world) (alone p (suc n)))) in
       let l : ltb (code (t .event)) 400000 ≡ true = and-left (ltb (code (t .event)) 400000) (low rest) h in
       let a : finishes (t .event) ≡ false = unfinished (t .event) (ltb-true (code (t .event)) 400000 l) in

@@ -10,7 +10,7 @@ use Rattle.points.specs.declared.Joined.{Joined}
 use Rattle.points.specs.declared.Begun.{Begun}
 use Rattle.points.specs.declared.Stepped.{Stepped}
 use Rattle.points.specs.declared.Left.{Left}
-use Rattle.recovery.specs.World.{World, join, begin, go, leave, joined, begun, stepped, left, handed, withNewest, joinedAs, serve}
+use Rattle.recovery.specs.World.{World, join, begin, step, leave, joined, begun, stepped, left, handed, withNewest, joinedAs, serve}
 
 -- a world in which this point hands in this record, and which has this image and this shared record
 pub record HandsIn (w : World) (words : List ℕ) (s : Shared) (n : ℕ) (given handedIn : Point) : Type 0 where
@@ -38,7 +38,7 @@ BeginServed E words s p offset text r =
 unfoldable pub StepServed : Edition → List ℕ → Shared → Point → Stepped → List ℕ → Type 0
 StepServed E words s p r stored =
     (w : World) (n : ℕ) (q : Point) → HandsIn w words s n q p
-    → serve E w (go n q) ≡ record {
+    → serve E w (step n q) ≡ record {
       event = stepped n (p .head) (r .step);
       world = record { words = stored; shared = r .shared; newest = withNewest w n (r .point) };
     }

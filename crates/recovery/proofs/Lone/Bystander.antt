@@ -15,7 +15,7 @@ use Rattle.points.specs.declared.Left.{Left}
 use Rattle.points.specs.Record.{isJoined, isIdle}
 use Rattle.points.specs.Search.{taking}
 use Rattle.points.specs.Calls.{joining, joinRefusal, beginning, beginRefusal, leaving, leaveRefusal}
-use Rattle.recovery.specs.World.{World, join, begin, go, leave, handed, withNewest, joinedAs, serve}
+use Rattle.recovery.specs.World.{World, join, begin, leave, handed, withNewest, joinedAs, serve}
 use Rattle.recovery.specs.Book.{Book}
 use Rattle.words.proofs.WithBit.{withBit-other}
 use Rattle.words.proofs.Tests.{no-true}
