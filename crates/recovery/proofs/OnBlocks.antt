@@ -71,13 +71,18 @@ pub record CutServed : Type 0 where
   pub event : Event
   pub state : CutWorld
 
--- the refusal of a step by how many words the image has, and by whether the table fits; and the step
-unfoldable pub refusalIn : Edition → ℕ → Bool → Shared → Head → ℕ
-refusalIn E n fit s h =
-    first (10 when any (not (between blocksMin (s .blocks) blocksMax)
+-- `badShared` by how many words the image has
+unfoldable pub badSharedIn : Edition → ℕ → Shared → Bool
+badSharedIn E n s =
+    any (not (between blocksMin (s .blocks) blocksMax)
     ∷ not (eqb (E .blockWords * s .blocks) n)
     ∷ not (leb 1 (s .next) && ltb (s .next) (s .blocks))
     ∷ [])
+
+-- `stepRefusal` by how many words the image has, and by whether the table fits; and the step
+unfoldable pub refusalIn : Edition → ℕ → Bool → Shared → Head → ℕ
+refusalIn E n fit s h =
+    first (10 when badSharedIn E n s
     ∷ 11 when not (every (headFits E (s .blocks) h ∷ fit ∷ []))
     ∷ 14 when not (isJoined s (h .number))
     ∷ 15 when isIdle (h .write .phase)
@@ -88,7 +93,7 @@ stepIn E m n fit s p = elim (refusalIn E n fit s (p .head)) [ zero ↦ writeOn E
 
 step-in : (E : Edition) (words : List ℕ) (s : Shared) (p : Point)
     → stepIn E (memory E words) (length words) (tableFits (s .blocks) (p .table)) s p ≡ stepping E words s p
-unfolding stepIn refusalIn stepping stepRefusal badShared fits
+unfolding stepIn refusalIn badSharedIn stepping stepRefusal badShared fits
 step-in E words s p = refl
 
 step-is : (E : Edition) (words : List ℕ) (fit : Bool) (s : Shared) (p : Point) → Whole E words → fit ≡ tableFits (s .blocks) (p .table)
@@ -326,5 +331,5 @@ by-blocks E w cs said h =
 
 -- for a proof that computes: what it unfolds beside `computing`
 unfoldable pub onBlocks : Unit {0}
-unfolding refusalIn stepIn afterIn cutServe knownAfter cutRun
+unfolding badSharedIn refusalIn stepIn afterIn cutServe knownAfter cutRun
 onBlocks = tt
