@@ -11,7 +11,6 @@ use Rattle.log.specs.declared.Opened.{Opened}
 use Rattle.log.specs.declared.Reply.the-variants.{Refused}
 use Rattle.log.specs.Replay.{fileByte, fileBytes, replayOn}
 use Rattle.log.specs.CatchUp as K
-use Rattle.log.specs.CatchUp.{ahead}
 use Rattle.log.specs.Opening.{openRefusal, opened, openedWith, noShared, fileOf, openedFile}
 use Rattle.points.specs.Record.{isJoined, fileAt}
 use Rattle.points.specs.Reading.{seen}
@@ -30,11 +29,13 @@ use Rattle.recovery.proofs.Claim.{enough-long, opens-enough, same-start
 use Rattle.recovery.proofs.Demand3.{after-tied, recovery}
 
 -- an image that opens is answered with the length of the file that it shows
-opened-length : (E : Edition) (words scratch : List ℕ) → openRefusal E words scratch ≡ 0 → opened E words scratch .length ≡ length (openedFile E words)
+opened-length : (E : Edition) (words scratch : List ℕ) → openRefusal E words scratch ≡ 0
+    → opened E words scratch .length ≡ length (openedFile E words)
 unfolding opened openedWith openedFile fileBytes
 opened-length E words scratch e =
     ap (λ (o : Opened). o .length)
-    (chosen-zero (openRefusal E words scratch) (openedWith E (blockCount E words) (memory E words)) (λ n. record { reply = Refused (suc n); length = 0; entries = 0; free = 0; shared = noShared }) e)
+    (chosen-zero (openRefusal E words scratch) (openedWith E (blockCount E words) (memory E words))
+    (λ n. record { reply = Refused (suc n); length = 0; entries = 0; free = 0; shared = noShared }) e)
     ∙ sym (length-listFrom 0 (fileOf E (memory E words) .size) (fileByte E (memory E words) (fileOf E (memory E words))))
 
 -- what a joined point sees is what the log gives

@@ -50,16 +50,24 @@ order-seen claim = valued (claim seen) (entryOf one 0 2 1 512 0 ∷ entryOf one 
 abbrev zeroingCalls : List Call
 zeroingCalls = join 1 ∷ begin 1 noPoint 0 (replicate 512 7) ∷ alone 1 70
 
+-- and then leaves
+abbrev leftCalls : List Call
+leftCalls = zeroingCalls ++ (leave 1 noPoint ∷ [])
+
+-- a full log block, six blocks after it, and these calls
+abbrev zeroed : List Call → World
+zeroed cs = world one (openWorld one (full 6) enough) cs
+
 abbrev mapped : World → List ℕ
 mapped w = listFrom 0 8 (λ b. one-if (taken (w .shared .taken) b))
 
 abbrev held : World → List ℕ
 held w = listFrom 0 8 (λ b. one-if (member b (holdings one w)))
 
-zeroing-held : same (mapped (world one (openWorld one (full 6) enough) zeroingCalls)) (held (world one (openWorld one (full 6) enough) zeroingCalls)) ≡ true
+zeroing-held : same (mapped (zeroed zeroingCalls)) (held (zeroed zeroingCalls)) ≡ true
 unfolding computing
 zeroing-held = refl
 
-left-free : same (mapped (world one (openWorld one (full 6) enough) (zeroingCalls ++ (leave 1 noPoint ∷ [])))) (held (world one (openWorld one (full 6) enough) (zeroingCalls ++ (leave 1 noPoint ∷ [])))) ≡ true
+left-free : same (mapped (zeroed leftCalls)) (held (zeroed leftCalls)) ≡ true
 unfolding computing
 left-free = refl

@@ -11,7 +11,7 @@ use Rattle.log.specs.Opening.{openedFile}
 use Rattle.points.specs.Record.{isJoined, isIdle}
 use Rattle.recovery.specs.World as W
 use Rattle.recovery.specs.Book.{Book, firstBook, book}
-use Rattle.recovery.specs.History.{History, callsBefore, atOpening, atCut}
+use Rattle.recovery.specs.History.{History, callsBefore, eventsBefore, atCut}
 use Rattle.recovery.proofs.Model.Invariant.{the-write}
 use Rattle.recovery.proofs.Calls.Mapping.{Tied, worldOf, writeOf, phaseIn, busy-work, idle-work}
 use Rattle.recovery.proofs.Claim.{opens-enough, same-start, bytesBefore}
@@ -30,10 +30,11 @@ module _ {E : Edition} {L : List ℕ} (w : W.World) (bk : Book) (h : Tied E L w 
 -- the book at the cut
 module _ {E : Edition} (h : History E) (p : ℕ) where
   abbrev bookAtCut : Book
-  bookAtCut = book E (atOpening h) (callsBefore h) (firstBook (openedFile E (h .words)))
+  bookAtCut = book (firstBook (openedFile E (h .words))) (eventsBefore h)
 
   pub write-noted : isJoined (atCut h .shared) p ≡ true → isIdle (atCut h .newest p .head .write .phase) ≡ false
-      → bookAtCut .note p ≡ some (record { offset = atCut h .newest p .head .write .offset; text = take (atCut h .newest p .head .write .size) (atCut h .newest p .text) })
+      → bookAtCut .note p
+      ≡ some (record { offset = atCut h .newest p .head .write .offset; text = take (atCut h .newest p .head .write .size) (atCut h .newest p .text) })
   write-noted = let t = after-tied E (h .words) (opens-enough h) (callsBefore h) (bytesBefore h) in rw (same-start h) (under-way _ _ t p)
 
   pub idle-not-noted : isJoined (atCut h .shared) p ≡ true → isIdle (atCut h .newest p .head .write .phase) ≡ true → bookAtCut .note p ≡ none

@@ -1,7 +1,7 @@
--- Calls computed on the blocks. A step of the definitions counts the image's words, cuts it into blocks and looks at the 256 entries of a table: with some
--- thousand words that is too much for the checker to do some thousand times. A step of `cutTurn` is one of `turn` with the image kept cut, and with a table
--- that is known to fit not looked at again; the other calls, which are few, put the image together. `cut-run-is` says that a list of calls gives the same,
--- `by-blocks` that cases tested on the blocks hold of the definitions.
+-- Calls computed on the blocks. A step of the definitions counts the image's words, cuts it into blocks and looks at the 256 entries of a
+-- table: with some thousand words that is too much for the checker to do some thousand times. A step of `cutServe` is one of `serve` with the
+-- image kept cut, and with a table that is known to fit not looked at again; the other calls, which are few, put the image together.
+-- `cut-run-is` says that a list of calls gives the same, `by-blocks` that cases tested on the blocks hold of the definitions.
 use Prim.Native.Nat.{ℕ, zero, suc, _+_, _*_, _-_, _/_}
 use native.Mathlib.Omega.{arith}
 use native.Mathlib.Nat.{suc-mul, zero-mul}
@@ -22,12 +22,12 @@ use Rattle.points.specs.declared.Point.{Point}
 use Rattle.points.specs.Record.{badShared, headFits, tableFits, fits, isJoined, isIdle, isZeroing, runWords}
 use Rattle.points.specs.Fill.{nextWord}
 use Rattle.points.specs.Stepping.{Outcome, refused, fill, zero-out, writeOn, stepRefusal, stepping}
-use Rattle.recovery.specs.World.{World, Call, join, begin, go, leave, Answer, steps, numbered, handed, renewed, Turn, turn, world, answers}
+use Rattle.recovery.specs.World.{World, Call, join, begin, step, leave, Event, stepped, numbered, handed, withNewest, Served, serve, world, events}
 use Rattle.recovery.specs.Sessions.{Case, Agree, afterCalls}
 use Rattle.words.proofs.Logic.{and-left, and-right}
 use Rattle.words.proofs.Memory.{memory-put, length-memory}
 use Rattle.points.proofs.Ways.{on-zeroing, on-filling, zero-on, fill-on}
-use Rattle.recovery.proofs.Calls.Mapping.{renewed-same, handed-newest}
+use Rattle.recovery.proofs.Calls.Mapping.{withNewest-same, handed-newest}
 use Rattle.recovery.proofs.Computed.{test, agree}
 
 -- ---- an image and its blocks
@@ -51,7 +51,7 @@ flat-memory : (E : Edition) (words : List ℕ) → Whole E words → flat (memor
 unfolding memory
 flat-memory E words e = flat-cut (E .blockWords) (blockCount E words) words e
 
--- ---- a turn on the blocks
+-- ---- a call on the blocks
 
 pub record CutWorld : Type 0 where
   pub image : Memory
@@ -67,17 +67,22 @@ uncut v = record { words = flat (v .image); shared = v .shared; newest = v .newe
 uncut-cut : (E : Edition) (w : World) → Whole E (w .words) → uncut (cutWorld E w) ≡ w
 uncut-cut E w e = ap (λ (words : List ℕ). record { words = words; shared = w .shared; newest = w .newest }) (flat-memory E (w .words) e)
 
-pub record CutTurn : Type 0 where
-  pub answer : Answer
+pub record CutServed : Type 0 where
+  pub event : Event
   pub state : CutWorld
 
--- the refusal of a step by how many words the image has, and by whether the table fits; and the step
-unfoldable pub refusalIn : Edition → ℕ → Bool → Shared → Head → ℕ
-refusalIn E n fit s h =
-    first (10 when any (not (between blocksMin (s .blocks) blocksMax)
+-- `badShared` by how many words the image has
+unfoldable pub badSharedIn : Edition → ℕ → Shared → Bool
+badSharedIn E n s =
+    any (not (between blocksMin (s .blocks) blocksMax)
     ∷ not (eqb (E .blockWords * s .blocks) n)
     ∷ not (leb 1 (s .next) && ltb (s .next) (s .blocks))
     ∷ [])
+
+-- `stepRefusal` by how many words the image has, and by whether the table fits; and the step
+unfoldable pub refusalIn : Edition → ℕ → Bool → Shared → Head → ℕ
+refusalIn E n fit s h =
+    first (10 when badSharedIn E n s
     ∷ 11 when not (every (headFits E (s .blocks) h ∷ fit ∷ []))
     ∷ 14 when not (isJoined s (h .number))
     ∷ 15 when isIdle (h .write .phase)
@@ -88,7 +93,7 @@ stepIn E m n fit s p = elim (refusalIn E n fit s (p .head)) [ zero ↦ writeOn E
 
 step-in : (E : Edition) (words : List ℕ) (s : Shared) (p : Point)
     → stepIn E (memory E words) (length words) (tableFits (s .blocks) (p .table)) s p ≡ stepping E words s p
-unfolding stepIn refusalIn stepping stepRefusal badShared fits
+unfolding stepIn refusalIn badSharedIn stepping stepRefusal badShared fits
 step-in E words s p = refl
 
 step-is : (E : Edition) (words : List ℕ) (fit : Bool) (s : Shared) (p : Point) → Whole E words → fit ≡ tableFits (s .blocks) (p .table)
@@ -115,16 +120,20 @@ after-is E words (some s) e = go (ltb (s .word) (E .blockWords)) refl
     go true h = sym (memory-put E words s (ltb-true (s .word) (E .blockWords) h))
     go false h = ap (λ (xs : List ℕ). memory E (put E xs s)) (flat-memory E words e)
 
-abbrev pub stepped : Edition → CutWorld → ℕ → Outcome → CutTurn
-stepped E v n o =
+-- the newest records with another for point n
+abbrev pub cutWithNewest : CutWorld → ℕ → Point → ℕ → Point
+cutWithNewest v n p k = elim (eqb k n) [ true ↦ p | false ↦ v .newest k ]
+
+abbrev pub cutStep : Edition → CutWorld → ℕ → Head → Outcome → CutServed
+cutStep E v n h o =
     record {
-      answer = steps (o .step);
-      state = record { image = afterIn E (v .image) (o .store); shared = o .shared; newest = λ k. elim (eqb k n) [ true ↦ o .point | false ↦ v .newest k ] };
+      event = stepped n h (o .step);
+      state = record { image = afterIn E (v .image) (o .store); shared = o .shared; newest = cutWithNewest v n (o .point) };
     }
 
 -- joining, beginning and leaving store nothing
-abbrev pub kept : CutWorld → Turn → CutTurn
-kept v t = record { answer = t .answer; state = record { image = v .image; shared = t .world .shared; newest = t .world .newest } }
+abbrev pub kept : CutWorld → Served → CutServed
+kept v t = record { event = t .event; state = record { image = v .image; shared = t .world .shared; newest = t .world .newest } }
 
 -- The table of point n is known to fit where `known` is n + 1: then its 256 entries are not looked at again
 abbrev pub fitFor : ℕ → List ℕ → Bool → Bool
@@ -137,11 +146,13 @@ handedIn v n p = elim (isJoined (v .shared) n) [ true ↦ v .newest n | false �
 abbrev pub fitIn : CutWorld → ℕ → ℕ → Point → Bool
 fitIn v known n p = fitFor (v .shared .blocks) (handedIn v n p .table) (eqb known (suc n))
 
-unfoldable pub cutTurn : Edition → CutWorld → ℕ → Call → CutTurn
-cutTurn E v known (join n) = kept v (turn E (uncut v) (join n))
-cutTurn E v known (begin n p offset text) = kept v (turn E (uncut v) (begin n p offset text))
-cutTurn E v known (go n p) = stepped E v n (stepIn E (v .image) (length (v .image) * E .blockWords) (fitIn v known n p) (v .shared) (handedIn v n p))
-cutTurn E v known (leave n p) = kept v (turn E (uncut v) (leave n p))
+unfoldable pub cutServe : Edition → CutWorld → ℕ → Call → CutServed
+cutServe E v known (join n) = kept v (serve E (uncut v) (join n))
+cutServe E v known (begin n p offset text) = kept v (serve E (uncut v) (begin n p offset text))
+cutServe E v known (step n p) =
+    let q = handedIn v n p in
+    cutStep E v n (q .head) (stepIn E (v .image) (length (v .image) * E .blockWords) (fitIn v known n p) (v .shared) q)
+cutServe E v known (leave n p) = kept v (serve E (uncut v) (leave n p))
 
 -- a step that fills or zeroes a word
 abbrev pub storesBy : Bool → Edition → Write → Bool
@@ -158,7 +169,7 @@ knownIf n false = 0
 unfoldable pub knownAfter : Edition → CutWorld → ℕ → Call → ℕ
 knownAfter E v known (join n) = 0
 knownAfter E v known (begin n p offset text) = 0
-knownAfter E v known (go n p) = knownIf n (isJoined (v .shared) n && (stores E (handedIn v n p .head .write) && fitIn v known n p))
+knownAfter E v known (step n p) = knownIf n (isJoined (v .shared) n && (stores E (handedIn v n p .head .write) && fitIn v known n p))
 knownAfter E v known (leave n p) = 0
 
 -- ---- what is known stays
@@ -198,16 +209,16 @@ step-leaves E words s p c = go (stepRefusal E words s (p .head) (p .table))
     go (suc k) = (refl, refl)
 
 known-step : (E : Edition) (w : World) (n : ℕ) (p : Point) → isJoined (w .shared) n ≡ true → stores E (handed w n p .head .write) ≡ true
-    → tableFits (w .shared .blocks) (handed w n p .table) ≡ true → Known (turn E w (go n p) .world) (suc n)
-unfolding Known turn
+    → tableFits (w .shared .blocks) (handed w n p .table) ≡ true → Known (serve E w (step n p) .world) (suc n)
+unfolding Known serve
 known-step E w n p j c f i e =
     let y = handed w n p in
     let o = stepping E (w .words) (w .shared) y in
     let q = step-leaves E (w .words) (w .shared) y c in
     let same-n : n ≡ i = omega arith in
-    subst (λ (i : ℕ). (isJoined (o .shared) i ≡ true) × (tableFits (o .shared .blocks) (renewed w n (o .point) i .table) ≡ true)) same-n (
+    subst (λ (i : ℕ). (isJoined (o .shared) i ≡ true) × (tableFits (o .shared .blocks) (withNewest w n (o .point) i .table) ≡ true)) same-n (
       ap (λ (s : Shared). isJoined s n) (q .0) ∙ j,
-      ap (λ (r : Point). tableFits (o .shared .blocks) (r .table)) (renewed-same w n (o .point))
+      ap (λ (r : Point). tableFits (o .shared .blocks) (r .table)) (withNewest-same w n (o .point))
           ∙ ap₂ (λ (s : Shared) (t : List ℕ). tableFits (s .blocks) t) (q .0) (q .1) ∙ f,
     )
 
@@ -215,12 +226,12 @@ nothing-known : (w : World) → Known w 0
 unfolding Known
 nothing-known w n e = absurd (omega arith)
 
-known-after : (E : Edition) (w : World) (known : ℕ) (c : Call) → Known w known → Known (turn E w c .world) (knownAfter E (cutWorld E w) known c)
+known-after : (E : Edition) (w : World) (known : ℕ) (c : Call) → Known w known → Known (serve E w c .world) (knownAfter E (cutWorld E w) known c)
 unfolding knownAfter handed
 known-after E w known (join n) k = nothing-known _
 known-after E w known (begin n p offset text) k = nothing-known _
 known-after E w known (leave n p) k = nothing-known _
-known-after E w known (go n p) k = split (joined && (still && fit)) refl
+known-after E w known (step n p) k = split (joined && (still && fit)) refl
   where
     joined : Bool
     joined = isJoined (w .shared) n
@@ -231,40 +242,41 @@ known-after E w known (go n p) k = split (joined && (still && fit)) refl
     fit : Bool
     fit = fitFor (w .shared .blocks) (handed w n p .table) (eqb known (suc n))
 
-    split : (t : Bool) → joined && (still && fit) ≡ t → Known (turn E w (go n p) .world) (knownIf n t)
+    split : (t : Bool) → joined && (still && fit) ≡ t → Known (serve E w (step n p) .world) (knownIf n t)
     split true h =
         let r = and-right joined (still && fit) h in
         known-step E w n p (and-left joined (still && fit) h) (and-left still fit r) (sym (fit-is E w known n p k) ∙ and-right still fit r)
     split false h = nothing-known _
 
-abbrev pub cutTurnOf : Edition → Turn → CutTurn
-cutTurnOf E t = record { answer = t .answer; state = cutWorld E (t .world) }
+abbrev pub cutServedOf : Edition → Served → CutServed
+cutServedOf E t = record { event = t .event; state = cutWorld E (t .world) }
 
-cut-turn-is : (E : Edition) (w : World) (known : ℕ) (c : Call) → Whole E (w .words) → Known w known → cutTurn E (cutWorld E w) known c
-    ≡ cutTurnOf E (turn E w c)
-unfolding cutTurn turn handed
-cut-turn-is E w known (join n) e k = rw (flat-memory E (w .words) e)
-cut-turn-is E w known (begin n p offset text) e k = rw (flat-memory E (w .words) e)
-cut-turn-is E w known (go n p) e k =
-    let o = stepping E (w .words) (w .shared) (handed w n p) in
-    ap (stepped E (cutWorld E w) n) (step-is E (w .words) (fitIn (cutWorld E w) known n p) (w .shared) (handed w n p) e (fit-is E w known n p k))
+cut-serve-is : (E : Edition) (w : World) (known : ℕ) (c : Call) → Whole E (w .words) → Known w known → cutServe E (cutWorld E w) known c
+    ≡ cutServedOf E (serve E w c)
+unfolding cutServe serve handed
+cut-serve-is E w known (join n) e k = rw (flat-memory E (w .words) e)
+cut-serve-is E w known (begin n p offset text) e k = rw (flat-memory E (w .words) e)
+cut-serve-is E w known (step n p) e k =
+    let q = handed w n p in
+    let o = stepping E (w .words) (w .shared) q in
+    ap (cutStep E (cutWorld E w) n (q .head)) (step-is E (w .words) (fitIn (cutWorld E w) known n p) (w .shared) q e (fit-is E w known n p k))
     ∙ ap (λ (m : Memory). record {
-      answer = steps (o .step);
-      state = record { image = m; shared = o .shared; newest = λ k. elim (eqb k n) [ true ↦ o .point | false ↦ w .newest k ] };
+      event = stepped n (q .head) (o .step);
+      state = record { image = m; shared = o .shared; newest = cutWithNewest (cutWorld E w) n (o .point) };
     }) (after-is E (w .words) (o .store) e)
-cut-turn-is E w known (leave n p) e k = rw (flat-memory E (w .words) e)
+cut-serve-is E w known (leave n p) e k = rw (flat-memory E (w .words) e)
 
 -- ---- lists of calls
 
 pub data CutRun : Type 0 where
-  answered : List Answer → CutWorld → CutRun
+  ran : List Event → CutWorld → CutRun
 
-abbrev pub preceded : Answer → CutRun → CutRun
-preceded a (answered rest v) = answered (a ∷ rest) v
+abbrev pub preceded : Event → CutRun → CutRun
+preceded e (ran rest v) = ran (e ∷ rest) v
 
 unfoldable pub cutRun : Edition → CutWorld → ℕ → List Call → CutRun
-cutRun E v known [] = answered [] v
-cutRun E v known (c ∷ cs) = let t = cutTurn E v known c in preceded (t .answer) (cutRun E (t .state) (knownAfter E v known c) cs)
+cutRun E v known [] = ran [] v
+cutRun E v known (c ∷ cs) = let t = cutServe E v known c in preceded (t .event) (cutRun E (t .state) (knownAfter E v known c) cs)
 
 -- no call changes the image's length
 after-length : (E : Edition) (words : List ℕ) (o : Option Store) → length (after E words o) ≡ length words
@@ -272,51 +284,52 @@ unfolding after
 after-length E words none = refl
 after-length E words (some s) = length-set words (s .block * E .blockWords + s .word) (s .value)
 
-turn-length : (E : Edition) (w : World) (c : Call) → length (turn E w c .world .words) ≡ length (w .words)
-unfolding turn
-turn-length E w (join n) = refl
-turn-length E w (begin n p offset text) = refl
-turn-length E w (go n p) = after-length E (w .words) (stepping E (w .words) (w .shared) (handed w n p) .store)
-turn-length E w (leave n p) = refl
+serve-length : (E : Edition) (w : World) (c : Call) → length (serve E w c .world .words) ≡ length (w .words)
+unfolding serve
+serve-length E w (join n) = refl
+serve-length E w (begin n p offset text) = refl
+serve-length E w (step n p) = after-length E (w .words) (stepping E (w .words) (w .shared) (handed w n p) .store)
+serve-length E w (leave n p) = refl
 
-turn-whole : (E : Edition) (w : World) (c : Call) → Whole E (w .words) → Whole E (turn E w c .world .words)
-turn-whole E w c e = subst (λ (n : ℕ). n ≡ n / E .blockWords * E .blockWords) (sym (turn-length E w c)) e
+serve-whole : (E : Edition) (w : World) (c : Call) → Whole E (w .words) → Whole E (serve E w c .world .words)
+serve-whole E w c e = subst (λ (n : ℕ). n ≡ n / E .blockWords * E .blockWords) (sym (serve-length E w c)) e
 
 world-whole : (E : Edition) (w : World) (cs : List Call) → Whole E (w .words) → Whole E (world E w cs .words)
 unfolding world
 world-whole E w [] e = e
-world-whole E w (c ∷ cs) e = world-whole E (turn E w c .world) cs (turn-whole E w c e)
+world-whole E w (c ∷ cs) e = world-whole E (serve E w c .world) cs (serve-whole E w c e)
 
 cut-run-is : (E : Edition) (w : World) (known : ℕ) (cs : List Call) → Whole E (w .words) → Known w known
-    → cutRun E (cutWorld E w) known cs ≡ answered (answers E w cs) (cutWorld E (world E w cs))
-unfolding cutRun answers world
+    → cutRun E (cutWorld E w) known cs ≡ ran (events E w cs) (cutWorld E (world E w cs))
+unfolding cutRun events world
 cut-run-is E w known [] e k = refl
 cut-run-is E w known (c ∷ cs) e k =
     let next = knownAfter E (cutWorld E w) known c in
-    ap (λ (t : CutTurn). preceded (t .answer) (cutRun E (t .state) next cs)) (cut-turn-is E w known c e k)
-    ∙ ap (preceded (turn E w c .answer)) (cut-run-is E (turn E w c .world) next cs (turn-whole E w c e) (known-after E w known c k))
+    ap (λ (t : CutServed). preceded (t .event) (cutRun E (t .state) next cs)) (cut-serve-is E w known c e k)
+    ∙ ap (preceded (serve E w c .event)) (cut-run-is E (serve E w c .world) next cs (serve-whole E w c e) (known-after E w known c k))
 
 -- cases tested on the blocks hold of the definitions
-abbrev pub tested : (List Answer → World → List Case) → CutRun → Bool
-tested said (answered told v) = test (said told (uncut v))
+abbrev pub tested : (List Event → World → List Case) → CutRun → Bool
+tested said (ran es v) = test (said es (uncut v))
 
 abbrev pub whole : Edition → List ℕ → Bool
 whole E words = eqb (length words) (blockCount E words * E .blockWords)
 
-abbrev pub testOn : Edition → World → List Call → (List Answer → World → List Case) → Bool
+abbrev pub testOn : Edition → World → List Call → (List Event → World → List Case) → Bool
 testOn E w cs said = whole E (w .words) && tested said (cutRun E (cutWorld E w) 0 cs)
 
-pub by-blocks : (E : Edition) (w : World) (cs : List Call) (said : List Answer → World → List Case) → testOn E w cs said ≡ true → Agree (afterCalls E w cs said)
+pub by-blocks : (E : Edition) (w : World) (cs : List Call) (said : List Event → World → List Case) → testOn E w cs said ≡ true
+    → Agree (afterCalls E w cs said)
 by-blocks E w cs said h =
     let l = and-left (whole E (w .words)) (tested said (cutRun E (cutWorld E w) 0 cs)) h in
     let r = and-right (whole E (w .words)) (tested said (cutRun E (cutWorld E w) 0 cs)) h in
     let e : Whole E (w .words) = eqb-true (length (w .words)) (blockCount E (w .words) * E .blockWords) l in
-    let f : test (said (answers E w cs) (uncut (cutWorld E (world E w cs)))) ≡ true =
+    let f : test (said (events E w cs) (uncut (cutWorld E (world E w cs)))) ≡ true =
     subst (λ (r : CutRun). tested said r ≡ true) (cut-run-is E w 0 cs e (nothing-known w)) r in
     agree (afterCalls E w cs said)
-    (subst (λ (v : World). test (said (answers E w cs) v) ≡ true) (uncut-cut E (world E w cs) (world-whole E w cs e)) f)
+    (subst (λ (v : World). test (said (events E w cs) v) ≡ true) (uncut-cut E (world E w cs) (world-whole E w cs e)) f)
 
 -- for a proof that computes: what it unfolds beside `computing`
 unfoldable pub onBlocks : Unit {0}
-unfolding refusalIn stepIn afterIn cutTurn knownAfter cutRun
+unfolding badSharedIn refusalIn stepIn afterIn cutServe knownAfter cutRun
 onBlocks = tt

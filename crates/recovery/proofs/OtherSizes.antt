@@ -13,7 +13,7 @@ use Rattle.words.specs.Logic.{all-of, some-of}
 use Rattle.points.specs.declared.StepAnswer.the-variants.{Stored, Moved, Extending, Committed, Refused}
 use Rattle.points.specs.Record.{noPoint}
 use Rattle.recovery.specs.Computing.{computing}
-use Rattle.recovery.specs.World.{World, Call, go, Answer, joins, begins, steps, leaves, turn, world, answers}
+use Rattle.recovery.specs.World.{World, Call, step, Event, joined, begun, stepped, left, serve, world, events}
 use Rattle.recovery.specs.History.{alone, finishes}
 use Rattle.recovery.specs.Claim.{loneSteps}
 use Rattle.recovery.specs.Sessions.{_is_, code}
@@ -45,38 +45,38 @@ bounds = refl
 
 -- ---- the bound of the lone write
 
--- an answer whose number is below that of Committed finishes no write
-unfinished : (a : Answer) → code a < 400000 → finishes a ≡ false
-unfinished (joins r) h = refl
-unfinished (begins r) h = refl
-unfinished (leaves r) h = refl
-unfinished (steps Stored) h = refl
-unfinished (steps Moved) h = refl
-unfinished (steps Extending) h = refl
-unfinished (steps (Committed n)) h = absurd (omega arith)
-unfinished (steps (Refused n)) h = absurd (omega arith)
+-- an event whose number is below that of Committed finishes no write
+unfinished : (e : Event) → code e < 400000 → finishes e ≡ false
+unfinished (joined n r) h = refl
+unfinished (begun n offset text r) h = refl
+unfinished (left n r) h = refl
+unfinished (stepped n d Stored) h = refl
+unfinished (stepped n d Moved) h = refl
+unfinished (stepped n d Extending) h = refl
+unfinished (stepped n d (Committed k)) h = absurd (omega arith)
+unfinished (stepped n d (Refused k)) h = absurd (omega arith)
 
 abbrev low : List ℕ → Bool
 low = all-of (λ x. ltb x 400000)
 
 -- n steps finish no write, if n + 1 steps give n such numbers first
 module _ (E : Edition) (p : ℕ) where
-  not-yet : (n : ℕ) (w : World) → low (take n (map code (answers E w (alone p (suc n))))) ≡ true → some-of finishes (answers E w (alone p n)) ≡ false
-  unfolding answers
+  not-yet : (n : ℕ) (w : World) → low (take n (map code (events E w (alone p (suc n))))) ≡ true → some-of finishes (events E w (alone p n)) ≡ false
+  unfolding events
   not-yet zero w h = refl
   not-yet (suc n) w h =
-      let t = turn E w (go p noPoint) in
-      let rest = take n (map code (answers E (t .world) (alone p (suc n)))) in
-      let l : ltb (code (t .answer)) 400000 ≡ true = and-left (ltb (code (t .answer)) 400000) (low rest) h in
-      let a : finishes (t .answer) ≡ false = unfinished (t .answer) (ltb-true (code (t .answer)) 400000 l) in
-      let b : some-of finishes (answers E (t .world) (alone p n)) ≡ false = not-yet n (t .world) (and-right (ltb (code (t .answer)) 400000) (low rest) h) in
+      let t = serve E w (step p noPoint) in
+      let rest = take n (map code (events E (t .world) (alone p (suc n)))) in
+      let l : ltb (code (t .event)) 400000 ≡ true = and-left (ltb (code (t .event)) 400000) (low rest) h in
+      let a : finishes (t .event) ≡ false = unfinished (t .event) (ltb-true (code (t .event)) 400000 l) in
+      let b : some-of finishes (events E (t .world) (alone p n)) ≡ false = not-yet n (t .world) (and-right (ltb (code (t .event)) 400000) (low rest) h) in
       ap₂ _||_ a b
 
-  no-sooner : (cs : List Call) (n : ℕ) (w : World) → low (take n (drop (length cs) (map code (answers E w (cs ++ alone p (suc n)))))) ≡ true
-      → some-of finishes (answers E (world E w cs) (alone p n)) ≡ false
-  unfolding answers world
+  no-sooner : (cs : List Call) (n : ℕ) (w : World) → low (take n (drop (length cs) (map code (events E w (cs ++ alone p (suc n)))))) ≡ true
+      → some-of finishes (events E (world E w cs) (alone p n)) ≡ false
+  unfolding events world
   no-sooner [] n w h = not-yet n w h
-  no-sooner (c ∷ cs) n w h = no-sooner cs n (turn E w c .world) h
+  no-sooner (c ∷ cs) n w h = no-sooner cs n (serve E w c .world) h
 
 -- the answers that the bound says finish the write at their end, and not before
 module _ (E : Edition) (n : ℕ) (e : loneSteps E ≡ suc n) (l : low (take n (drop (length (loneStart E)) (loneSaid E))) ≡ true)
@@ -84,11 +84,11 @@ module _ (E : Edition) (n : ℕ) (e : loneSteps E ≡ suc n) (l : low (take n (d
   tight : Tight E
   tight =
       let q = by-blocks E (nearlyFull E) (loneCalls E) (loneCases E) t in
-      let r : map code (answers E (nearlyFull E) (loneStart E ++ alone 1 (suc n))) ≡ loneSaid E =
-      subst (λ (k : ℕ). map code (answers E (nearlyFull E) (loneStart E ++ alone 1 k)) ≡ loneSaid E) e (q .0) in
+      let r : map code (events E (nearlyFull E) (loneStart E ++ alone 1 (suc n))) ≡ loneSaid E =
+      subst (λ (k : ℕ). map code (events E (nearlyFull E) (loneStart E ++ alone 1 k)) ≡ loneSaid E) e (q .0) in
       let m : n ≡ loneSteps E - 1 = omega (arith, e) in (
         q,
-        subst (λ (k : ℕ). some-of finishes (answers E (world E (nearlyFull E) (loneStart E)) (alone 1 k)) ≡ false) m
+        subst (λ (k : ℕ). some-of finishes (events E (world E (nearlyFull E) (loneStart E)) (alone 1 k)) ≡ false) m
             (no-sooner E 1 (loneStart E) n (nearlyFull E) (subst (λ (xs : List ℕ). low (take n (drop (length (loneStart E)) xs)) ≡ true) (sym r) l)),
       )
 

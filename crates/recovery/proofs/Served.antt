@@ -1,6 +1,6 @@
--- A call that answers what its definition says leaves what `turn` says. Assumes nothing.
+-- A call that answers what its definition says leaves what `serve` says. Assumes nothing.
 use Prim.Native.Nat.{ℕ}
-use mathlib.Core.Path.{_≡_, refl}
+use mathlib.Core.Path.{_≡_}
 use mathlib.Core.List.{List}
 use Rattle.words.specs.Edition.{one}
 use Rattle.words.specs.Memory.{after}
@@ -12,22 +12,24 @@ use Rattle.points.specs.declared.Stepped.{Stepped}
 use Rattle.points.specs.declared.Left.{Left}
 use Rattle.points.specs.Calls.{joining, beginning, leaving}
 use Rattle.points.specs.Stepping.{answered, stepping}
-use Rattle.recovery.specs.World.{turn}
+use Rattle.recovery.specs.World.{serve}
 use Rattle.recovery.specs.Served.{JoinServed, BeginServed, StepServed, LeaveServed}
 
 module _ (words : List ℕ) (s : Shared) where
   pub join-served : (n : ℕ) (r : Joined) → r ≡ joining one words s n → JoinServed one words s n r
-  unfolding JoinServed turn
+  unfolding JoinServed serve
   join-served n r e w a b = rw (e, a, b)
 
-  pub begin-served : (p : Point) (offset : ℕ) (text : List ℕ) (r : Begun) → r ≡ beginning one words s p offset text → BeginServed one words s p offset text r
-  unfolding BeginServed turn
+  pub begin-served : (p : Point) (offset : ℕ) (text : List ℕ) (r : Begun) → r ≡ beginning one words s p offset text
+      → BeginServed one words s p offset text r
+  unfolding BeginServed serve
   begin-served p offset text r e w n q h = rw (e, h .record-is, h .image, h .shared)
 
-  pub step-served : (p : Point) (r : Stepped) (left : List ℕ) → r ≡ answered (stepping one words s p) → left ≡ after one words (stepping one words s p .store) → StepServed one words s p r left
-  unfolding StepServed turn
-  step-served p r left e f w n q h = rw (e, f, h .record-is, h .image, h .shared)
+  pub step-served : (p : Point) (r : Stepped) (stored : List ℕ) → r ≡ answered (stepping one words s p)
+      → stored ≡ after one words (stepping one words s p .store) → StepServed one words s p r stored
+  unfolding StepServed serve
+  step-served p r stored e f w n q h = rw (e, f, h .record-is, h .image, h .shared)
 
   pub leave-served : (p : Point) (r : Left) → r ≡ leaving one words s p → LeaveServed one words s p r
-  unfolding LeaveServed turn
+  unfolding LeaveServed serve
   leave-served p r e w n q h = rw (e, h .record-is, h .image, h .shared)

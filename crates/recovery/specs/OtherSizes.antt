@@ -1,6 +1,6 @@
 -- Cases at other block sizes (document 02, K11): edition two, and sizes between with edition two's entries. Nobody needs them to believe the
--- claims, which hold for every edition; they say in numbers what the definitions give where a block is not 64 words. And the bound of the lone write, at
--- all four sizes.
+-- claims, which hold for every edition; they say in numbers what the definitions give where a block is not 64 words. And the bound of the
+-- lone write, at all four sizes.
 use Prim.Native.Nat.{ℕ, _+_, _*_, _-_, _/_}
 use mathlib.Core.Path.{_≡_}
 use mathlib.Core.Bool.{false}
@@ -16,7 +16,7 @@ use Rattle.log.specs.Opening.{numberOf, layoutRefusal, layout, openRefusal, fil
 use Rattle.points.specs.declared.Head.{Head}
 use Rattle.points.specs.Record.{noPoint, noWrite, noTable}
 use Rattle.points.specs.Calls.{leaveRefusal}
-use Rattle.recovery.specs.World.{World, Call, join, begin, Answer, world, answers}
+use Rattle.recovery.specs.World.{World, Call, join, begin, Event, world, events}
 use Rattle.recovery.specs.History.{enough, openWorld, alone, finishes}
 use Rattle.recovery.specs.Claim.{runMost, loneSteps}
 use Rattle.recovery.specs.Sessions.{Case, _is_, Agree, afterCalls, code, codesAt, done, stored, moved, extending, committed}
@@ -60,10 +60,10 @@ sessionSaid W =
 abbrev pub fields : Edition → ℕ → List ℕ
 fields E e = entryV e ∷ entryB e ∷ entryN e ∷ entryU E e ∷ entryPoint E e ∷ entryRest E e ∷ []
 
--- what is said of the answers and of the world that is left, W words to a block
-abbrev pub sessionCases : Edition → ℕ → List Answer → World → List Case
-sessionCases E W told w =
-    (map code told is sessionSaid W)
+-- what is said of the events and of the world that is left, W words to a block
+abbrev pub sessionCases : Edition → ℕ → List Event → World → List Case
+sessionCases E W es w =
+    (map code es is sessionSaid W)
     -- Point 1's entry: v 0, b 2, n 2, u 10, point 1. From the left: 1 in bits 53 to 57 is 0x0020.., 10 in bits 40 to 52 0x0A,
     -- 2 in bits 32 to 39 0x02, then b 0x0002 and v 0x0000
     -- Point 2's: v 1, b 4, n 1, u 12 + 12 = 24, point 2: 0x0040.., 0x18, 0x01, 0x0004, 0x0001
@@ -79,10 +79,10 @@ sessionCases E W told w =
     ∷ []
 
 -- and what opening answers then: the length, two entries, as many free blocks as the map has
-abbrev pub reopenedCases : Edition → ℕ → List Answer → World → List Case
-reopenedCases E W told w =
+abbrev pub reopenedCases : Edition → ℕ → List Event → World → List Case
+reopenedCases E W es w =
     (let o = opened E (w .words) enough in (numberOf (o .reply) ∷ o .length ∷ o .entries ∷ o .free ∷ [] is 0 ∷ (8 * W + 24) ∷ 2 ∷ 4 ∷ []))
-    ∷ sessionCases E W told w
+    ∷ sessionCases E W es w
 
 -- (4,096 bytes of a block are many to the checker: what opening answers after the session is asked at the smaller size alone)
 abbrev pub sessionTwo : List Case
@@ -97,17 +97,24 @@ sessionBetween = afterCalls wide128 (laidWorld wide128 8) (sessionCalls wide128)
 abbrev pub holding : Edition → ℕ → List ℕ
 holding E e = put E (laid E 4) (record { block = 1; word = 2; value = e })
 
--- opening an image of one block mapped, with u used bytes
+-- opening it; with one block mapped, of which u bytes are used
+abbrev pub openHolding : Edition → ℕ → ℕ
+openHolding E e = openRefusal E (holding E e) enough
+
 abbrev pub used : Edition → ℕ → ℕ
-used E u = openRefusal E (holding E (entryOf E 0 2 1 u 0)) enough
+used E u = openHolding E (entryOf E 0 2 1 u 0)
 
 -- a head of point 0 with this length and slot; and the reason that leaving gives it, on 4 blocks of edition two, at another edition and block count too
 abbrev pub headWith : ℕ → ℕ → Head
 headWith length slot = record { number = 0; length = length; place = record { block = 1; slot = slot; passed = 1 }; write = noWrite }
 
-abbrev pub left : Edition → ℕ → ℕ → ℕ → ℕ
-left E blocks length slot =
+abbrev pub leaveReason : Edition → ℕ → ℕ → ℕ → ℕ
+leaveReason E blocks length slot =
     leaveRefusal E (laid two 4) (record { blocks = blocks; taken = 3 ∷ replicate 15 0; joined = 1; next = 2 }) (headWith length slot) noTable
+
+-- a point joins on 4 blocks and begins a write of two bytes at this offset, then one of a single byte
+abbrev pub twoOrOne : Edition → ℕ → List ℕ
+twoOrOne E offset = codesAt E (laidWorld E 4) (join 0 ∷ begin 0 noPoint offset (9 ∷ 9 ∷ []) ∷ begin 0 noPoint offset (9 ∷ []) ∷ [])
 
 abbrev pub sizeCases : List Case
 sizeCases =
@@ -115,24 +122,24 @@ sizeCases =
     (used two 4096 ∷ used two 4097 ∷ used two 0 ∷ [] is 0 ∷ 7 ∷ 7 ∷ [])
     ∷ (used wide128 1024 ∷ used wide128 1025 ∷ used wide256 2048 ∷ used wide256 2049 ∷ [] is 0 ∷ 7 ∷ 0 ∷ 7 ∷ [])
     -- 7: bit 58 is not the point's; bit 57 is
-    ∷ (openRefusal two (holding two (entryOf two 0 2 1 1 31)) enough ∷ openRefusal two (holding two (entryOf two 0 2 1 1 32)) enough ∷ [] is 0 ∷ 7 ∷ [])
+    ∷ (openHolding two (entryOf two 0 2 1 1 31) ∷ openHolding two (entryOf two 0 2 1 1 32) ∷ [] is 0 ∷ 7 ∷ [])
     -- 3: 2,048 words are 32 blocks of edition one and 4 of edition two; each opens at its own edition, and has a wrong mark at the other
-    ∷ (openRefusal one (laid one 32) enough ∷ openRefusal two (laid one 32) enough ∷ openRefusal two (laid two 4) enough ∷ openRefusal one (laid two 4) enough
-    ∷ []
-    is 0 ∷ 3 ∷ 0 ∷ 3 ∷ [])
+    ∷ (openRefusal one (laid one 32) enough ∷ openRefusal two (laid one 32) enough ∷ [] is 0 ∷ 3 ∷ [])
+    ∷ (openRefusal two (laid two 4) enough ∷ openRefusal one (laid two 4) enough ∷ [] is 0 ∷ 3 ∷ [])
     -- 1: 2,112 words are 33 blocks of edition one and no multiple of 512; 1,536 are 3 blocks
     ∷ (openRefusal two (laid one 33) enough ∷ layoutRefusal two (replicate 2112 0) ∷ openRefusal two (replicate 1536 0) enough
     ∷ layoutRefusal two (replicate 1536 0) ∷ layoutRefusal one (replicate 2112 0) ∷ [] is 1 ∷ 1 ∷ 1 ∷ 1 ∷ 0 ∷ [])
     -- 17: a write that ends at byte 1,048,576 is taken up, one past it not; between, 262,144 and 524,288
-    ∷ (codesAt two (laidWorld two 4) (join 0 ∷ begin 0 noPoint 1048575 (9 ∷ 9 ∷ []) ∷ begin 0 noPoint 1048575 (9 ∷ []) ∷ []) is done ∷ 17 ∷ done ∷ [])
-    ∷ (codesAt wide128 (laidWorld wide128 4) (join 0 ∷ begin 0 noPoint 262143 (9 ∷ 9 ∷ []) ∷ begin 0 noPoint 262143 (9 ∷ []) ∷ []) is done ∷ 17 ∷ done ∷ [])
-    ∷ (codesAt wide256 (laidWorld wide256 4) (join 0 ∷ begin 0 noPoint 524287 (9 ∷ 9 ∷ []) ∷ begin 0 noPoint 524287 (9 ∷ []) ∷ []) is done ∷ 17 ∷ done ∷ [])
+    ∷ (twoOrOne two 1048575 is done ∷ 17 ∷ done ∷ [])
+    ∷ (twoOrOne wide128 262143 is done ∷ 17 ∷ done ∷ [])
+    ∷ (twoOrOne wide256 524287 is done ∷ 17 ∷ done ∷ [])
     -- 10: 2,048 words are 4 blocks and not 32, at edition one 32 and not 4
-    ∷ (left two 4 0 2 ∷ left two 32 0 2 ∷ left one 32 0 2 ∷ left one 4 0 2 ∷ [] is 0 ∷ 10 ∷ 0 ∷ 10 ∷ [])
+    ∷ (leaveReason two 4 0 2 ∷ leaveReason two 32 0 2 ∷ leaveReason one 32 0 2 ∷ leaveReason one 4 0 2 ∷ [] is 0 ∷ 10 ∷ 0 ∷ 10 ∷ [])
     -- 11: slot 512 and length 1,048,576 fit at edition two; at edition one slot 64 and length 131,072
-    ∷ (left two 4 0 512 ∷ left two 4 0 513 ∷ left two 4 1048576 2 ∷ left two 4 1048577 2 ∷ []
+    ∷ (leaveReason two 4 0 512 ∷ leaveReason two 4 0 513 ∷ leaveReason two 4 1048576 2 ∷ leaveReason two 4 1048577 2 ∷ []
     is 0 ∷ 11 ∷ 0 ∷ 11 ∷ [])
-    ∷ (left one 32 0 64 ∷ left one 32 0 65 ∷ left one 32 131072 2 ∷ left one 32 131073 2 ∷ [] is 0 ∷ 11 ∷ 0 ∷ 11 ∷ [])
+    ∷ (leaveReason one 32 0 64 ∷ leaveReason one 32 0 65 ∷ leaveReason one 32 131072 2 ∷ leaveReason one 32 131073 2 ∷ []
+    is 0 ∷ 11 ∷ 0 ∷ 11 ∷ [])
     ∷ []
 
 -- ---- the bound of the lone write is tight
@@ -165,12 +172,12 @@ loneSaid E =
     replicate 4 done ++ replicate (runMost E) stored ++ (committed 0 ∷ []) ++ replicate (runMost E) stored ++ (moved ∷ [])
     ++ replicate (2 * W) stored ++ (extending ∷ []) ++ replicate (W + 1) stored ++ (committed 1 ∷ [])
 
-abbrev pub loneCases : Edition → List Answer → World → List Case
-loneCases E told w = (map code told is loneSaid E) ∷ []
+abbrev pub loneCases : Edition → List Event → World → List Case
+loneCases E es w = (map code es is loneSaid E) ∷ []
 
 -- with one step less the write is not finished
 abbrev pub NoSooner : Edition → Type 0
-NoSooner E = some-of finishes (answers E (world E (nearlyFull E) (loneStart E)) (alone 1 (loneSteps E - 1))) ≡ false
+NoSooner E = some-of finishes (events E (world E (nearlyFull E) (loneStart E)) (alone 1 (loneSteps E - 1))) ≡ false
 
 abbrev pub Tight : Edition → Type 0
 Tight E = Agree (afterCalls E (nearlyFull E) (loneCalls E) (loneCases E)) × NoSooner E

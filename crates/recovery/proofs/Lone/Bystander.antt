@@ -15,12 +15,12 @@ use Rattle.points.specs.declared.Left.{Left}
 use Rattle.points.specs.Record.{isJoined, isIdle}
 use Rattle.points.specs.Search.{taking}
 use Rattle.points.specs.Calls.{joining, joinRefusal, beginning, beginRefusal, leaving, leaveRefusal}
-use Rattle.recovery.specs.World.{World, join, begin, go, leave, handed, renewed, joinedAs, turn}
+use Rattle.recovery.specs.World.{World, join, begin, leave, handed, withNewest, joinedAs, serve}
 use Rattle.recovery.specs.Book.{Book}
 use Rattle.words.proofs.WithBit.{withBit-other}
 use Rattle.words.proofs.Tests.{no-true}
 use Rattle.points.proofs.Passed.{join-apart, begin-idle, leave-joined}
-use Rattle.recovery.proofs.Calls.Mapping.{Tied, handed-newest, is-joined, renewed-other, renewed-handed}
+use Rattle.recovery.proofs.Calls.Mapping.{Tied, handed-newest, is-joined, withNewest-other, withNewest-handed}
 use Rattle.recovery.proofs.Calls.Join.{join-eq-done, join-eq-refused}
 use Rattle.recovery.proofs.Calls.Begin.{begin-eq-done, begin-eq-refused}
 use Rattle.recovery.proofs.Calls.Leave.{leave-eq-done, leave-eq-refused}
@@ -32,8 +32,8 @@ pub record Kept (w v : World) (n : ℕ) : Type 0 where
 
 module _ {E : Edition} {L : List ℕ} (w : World) (bk : Book) (h : Tied E L w bk) (n : ℕ) (j : isJoined (w .shared) n ≡ true)
     (busy : isIdle (w .newest n .head .write .phase) ≡ false) where
-  pub join-kept : (k : ℕ) → Kept w (turn E w (join k) .world) n
-  unfolding turn
+  pub join-kept : (k : ℕ) → Kept w (serve E w (join k) .world) n
+  unfolding serve
   join-kept k = go (joinRefusal E (w .words) (w .shared) k) refl
     where
       after : Joined → World
@@ -44,28 +44,32 @@ module _ {E : Edition} {L : List ℕ} (w : World) (bk : Book) (h : Tied E L w bk
       go zero e =
           let apart : n ≢ k = λ s. no-true (rw s at j) (join-apart E (w .words) (w .shared) k e) in
           subst (λ (r : Joined). Kept w (after r) n) (sym (join-eq-done w bk h k e))
-          (record { words = refl; newest = renewed-other w k _ n apart; joined = withBit-other true (w .shared .joined) k n apart ∙ j })
+          (record { words = refl; newest = withNewest-other w k _ n apart; joined = withBit-other true (w .shared .joined) k n apart ∙ j })
 
-  pub begin-kept : (k : ℕ) (p : PP.Point) (o : ℕ) (text : List ℕ) → ((i : ℕ) → getD text i 0 < 256) → Kept w (turn E w (begin k p o text) .world) n
-  unfolding turn taking
+  pub begin-kept : (k : ℕ) (p : PP.Point) (o : ℕ) (text : List ℕ) → ((i : ℕ) → getD text i 0 < 256)
+      → Kept w (serve E w (begin k p o text) .world) n
+  unfolding serve taking
   begin-kept k p o text bytes = go (beginRefusal E (w .words) (w .shared) (y .head) (y .table) o (length text)) refl
     where
       y : PP.Point
       y = handed w k p
 
       after : Begun → World
-      after r = record { words = w .words; shared = r .shared; newest = renewed w k (r .point) }
+      after r = record { words = w .words; shared = r .shared; newest = withNewest w k (r .point) }
 
       go : (i : ℕ) → beginRefusal E (w .words) (w .shared) (y .head) (y .table) o (length text) ≡ i
           → Kept w (after (beginning E (w .words) (w .shared) y o text)) n
-      go (suc i) e = subst (λ (r : Begun). Kept w (after r) n) (sym (begin-eq-refused w bk h k p o text bytes y i e)) (record { words = refl; newest = renewed-handed w k p n j; joined = j })
+      go (suc i) e = subst (λ (r : Begun). Kept w (after r) n) (sym (begin-eq-refused w bk h k p o text bytes y i e))
+          (record { words = refl; newest = withNewest-handed w k p n j; joined = j })
       go zero e =
           let idle : isIdle (y .head .write .phase) ≡ true = not-false _ (begin-idle E (w .words) (w .shared) y o text e) in
-          let apart : n ≢ k = λ s. no-true (ap (λ (q : PP.Point). isIdle (q .head .write .phase)) (sym (handed-newest w k p (rw s at j))) ∙ idle) (rw s at busy) in
-          subst (λ (r : Begun). Kept w (after r) n) (sym (begin-eq-done w bk h k p o text bytes y e)) (record { words = refl; newest = renewed-other w k _ n apart; joined = j })
+          let apart : n ≢ k = λ s.
+          no-true (ap (λ (q : PP.Point). isIdle (q .head .write .phase)) (sym (handed-newest w k p (rw s at j))) ∙ idle) (rw s at busy) in
+          subst (λ (r : Begun). Kept w (after r) n) (sym (begin-eq-done w bk h k p o text bytes y e))
+          (record { words = refl; newest = withNewest-other w k _ n apart; joined = j })
 
-  pub leave-kept : (k : ℕ) (p : PP.Point) → k ≢ n → Kept w (turn E w (leave k p) .world) n
-  unfolding turn
+  pub leave-kept : (k : ℕ) (p : PP.Point) → k ≢ n → Kept w (serve E w (leave k p) .world) n
+  unfolding serve
   leave-kept k p apart = go (leaveRefusal E (w .words) (w .shared) (y .head) (y .table)) refl
     where
       y : PP.Point

@@ -8,7 +8,9 @@ begin-requires : tie.Need-begin-requires
 begin-requires c κs = search needs
 
 returns : tie.Need-returns
-returns c = let a = c .before .before .before .args in begin-served (a .image .now) (a .shared) (a .point) (a .offset) (a .text .now) (c .begin .result) (c .begin .ensures)
+returns c =
+    let a = c .before .before .before .args in
+    begin-served (a .image .now) (a .shared) (a .point) (a .offset) (a .text .now) (c .begin .result) (c .begin .ensures)
 
 pub begin-spec : {M : Type 1} → statement M
 begin-spec = tie.close (tie.spec begin-requires returns)

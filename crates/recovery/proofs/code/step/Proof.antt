@@ -11,7 +11,10 @@ same-length : tie.Need-same-length
 same-length c = search needs
 
 returns : tie.Need-returns
-returns c = let a = c .before .before .before .before .before .args in step-served (a .image .now) (a .shared) (a .point) (c .before .before .step .result) _ (c .before .before .step .ensures .0) (c .before .before .step .ensures .1)
+returns c =
+    let a = c .before .before .before .before .before .args in
+    let s = c .before .before .step in
+    step-served (a .image .now) (a .shared) (a .point) (s .result) _ (s .ensures .0) (s .ensures .1)
 
 pub step-spec : {M : Type 1} → statement M
 step-spec = tie.close (tie.spec step-requires same-length returns)
