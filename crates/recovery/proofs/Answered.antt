@@ -43,7 +43,8 @@ module _ {E : Edition} {L : List ℕ} (w : W.World) (bk : Book) (h : Tied E L w 
   sees =
       let pi = h .inv .points n j in
       let f = fileAt (w .newest n .head) (w .newest n .table) in
-      ap (λ (r : K.Walk). replayOn E f (r .entries)) (ahead-is w bk h n j) ∙ replay-on E (pi .ahead) f ∙ pi .place .catches ∙ sym (file-is (h .inv .core))
+      ap (λ (r : K.Walk). replayOn E f (r .entries)) (ahead-is w bk h n j) ∙ replay-on E (pi .ahead) f ∙ pi .place .catches
+      ∙ sym (file-is (h .inv .core))
 
 pub answered : (E : Edition) → Answered E
 unfolding Answered Recovery openedFile
