@@ -3,7 +3,7 @@
 use mathlib.Core.Path.{_≡_, sym, ap, _∙_}
 use mathlib.Core.List.{List}
 use mathlib.Core.Bool.{true}
-use Prim.Native.Nat.{ℕ, suc, _-_}
+use Prim.Native.Nat.{ℕ, suc}
 use lib.ListN.{length}
 use Rattle.words.specs.Edition.{Edition}
 use Rattle.words.specs.Memory.{memory, blockCount}
@@ -45,7 +45,8 @@ module _ {E : Edition} {L : List ℕ} (w : W.World) (bk : Book) (h : Tied E L w 
   sees =
       let pi = h .inv .points n j in
       let f = fileAt (w .newest n .head) (w .newest n .table) in
-      ap (λ (r : K.Walk). replayOn E f (r .entries)) (ahead-is w bk h n j) ∙ replay-on E (pi .ahead) f ∙ pi .catches ∙ sym (file-is (h .inv .core))
+      ap (λ (r : K.Walk). replayOn E f (r .entries)) (ahead-is w bk h n j) ∙ replay-on E (pi .ahead) f ∙ pi .place .catches
+      ∙ sym (file-is (h .inv .core))
 
 pub answered : (E : Edition) → Answered E
 unfolding Answered Recovery openedFile

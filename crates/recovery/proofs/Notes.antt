@@ -22,7 +22,7 @@ module _ {E : Edition} {L : List ℕ} (w : W.World) (bk : Book) (h : Tied E L w 
       → bk .note p ≡ some (record { offset = w .newest p .head .write .offset; text = take (w .newest p .head .write .size) (w .newest p .text) })
   under-way j b =
       let x = w .newest p .head .write in
-      the-write (worldOf w) bk (h .inv) p (writeOf (phaseIn (x .phase)) x (w .newest p .text)) j (busy-work (x .phase) x (w .newest p .text) b) .noted
+      the-write (worldOf w) bk (h .inv) p (writeOf (phaseIn (x .phase)) x (w .newest p .text)) j (busy-work (x .phase) x (w .newest p .text) b) .text .noted
 
   nothing : isJoined (w .shared) p ≡ true → isIdle (w .newest p .head .write .phase) ≡ true → bk .note p ≡ none
   nothing j i = rw (idle-work (w .newest p .head .write .phase) (w .newest p .head .write) (w .newest p .text) i) at (h .inv .points p j .work)
