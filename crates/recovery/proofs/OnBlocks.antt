@@ -19,14 +19,18 @@ use Rattle.log.specs.declared.Shared.{Shared}
 use Rattle.points.specs.declared.Write.{Write}
 use Rattle.points.specs.declared.Head.{Head}
 use Rattle.points.specs.declared.Point.{Point}
+use Rattle.points.specs.declared.plan.Plan.{Plan}
 use Rattle.points.specs.Record.{badShared, headFits, tableFits, fits, isJoined, isIdle, isZeroing, runWords}
 use Rattle.points.specs.Fill.{nextWord}
-use Rattle.points.specs.Stepping.{Outcome, refused, fill, zero-out, writeOn, stepRefusal, stepping}
+use Rattle.points.specs.Plan.{Outcome, carriedOut}
+use Rattle.points.specs.Stepping.{refused, writeOn, stepRefusal, planned, stepping}
 use Rattle.recovery.specs.World.{World, Call, join, begin, step, leave, Event, stepped, numbered, handed, withNewest, Served, serve, world, events}
 use Rattle.recovery.specs.Sessions.{Case, Agree, afterCalls}
 use Rattle.words.proofs.Logic.{and-left, and-right}
 use Rattle.words.proofs.Memory.{memory-put, length-memory}
 use Rattle.points.proofs.Ways.{on-zeroing, on-filling, zero-on, fill-on}
+use Rattle.points.proofs.CarriedOut.{afterRefusal, afterFill, afterZero, refusal-leaves, fill-leaves, zero-leaves}
+use Rattle.points.proofs.Ready.{goes-on, refused-on}
 use Rattle.recovery.proofs.Calls.Mapping.{withNewest-same, handed-newest}
 use Rattle.recovery.proofs.Computed.{test, agree}
 
@@ -89,11 +93,11 @@ refusalIn E n fit s h =
     ∷ [])
 
 unfoldable pub stepIn : Edition → Memory → ℕ → Bool → Shared → Point → Outcome
-stepIn E m n fit s p = elim (refusalIn E n fit s (p .head)) [ zero ↦ writeOn E m s p | suc k ↦ refused (suc k) s p ]
+stepIn E m n fit s p = carriedOut E m s p (elim (refusalIn E n fit s (p .head)) [ zero ↦ writeOn E m s p | suc k ↦ refused E (p .head) (suc k) ])
 
 step-in : (E : Edition) (words : List ℕ) (s : Shared) (p : Point)
     → stepIn E (memory E words) (length words) (tableFits (s .blocks) (p .table)) s p ≡ stepping E words s p
-unfolding stepIn refusalIn badSharedIn stepping stepRefusal badShared fits
+unfolding stepIn refusalIn badSharedIn stepping planned stepRefusal badShared fits
 step-in E words s p = refl
 
 step-is : (E : Edition) (words : List ℕ) (fit : Bool) (s : Shared) (p : Point) → Whole E words → fit ≡ tableFits (s .blocks) (p .table)
@@ -192,21 +196,25 @@ fit-is E w known n p k = go (eqb known (suc n)) refl
 abbrev pub Leaves : Shared → Point → Outcome → Type 0
 Leaves s p o = (o .shared ≡ s) × (o .point .table ≡ p .table)
 
-fill-leaves : (E : Edition) (m : Memory) (s : Shared) (p : Point) → stores E (p .head .write) ≡ true → Leaves s p (writeOn E m s p)
-unfolding fill zero-out
-fill-leaves E m s p c = go (isZeroing (p .head .write .phase)) refl c
+store-keeps : (E : Edition) (m : Memory) (s : Shared) (p : Point) → stores E (p .head .write) ≡ true → Leaves s p (carriedOut E m s p (writeOn E m s p))
+unfolding afterFill afterZero
+store-keeps E m s p c = go (isZeroing (p .head .write .phase)) refl c
   where
-    go : (z : Bool) → isZeroing (p .head .write .phase) ≡ z → storesBy z E (p .head .write) ≡ true → Leaves s p (writeOn E m s p)
-    go true e c = subst (Leaves s p) (sym (on-zeroing E m s p e ∙ zero-on E m s p c)) (refl, refl)
-    go false e c = subst (Leaves s p) (sym (on-filling E m s p e ∙ fill-on E m s p c)) (refl, refl)
+    go : (z : Bool) → isZeroing (p .head .write .phase) ≡ z → storesBy z E (p .head .write) ≡ true → Leaves s p (carriedOut E m s p (writeOn E m s p))
+    go true e c =
+        let l = ltb-true (p .head .write .position) (E .blockWords) c in
+        subst (Leaves s p) (sym (ap (carriedOut E m s p) (on-zeroing E m s p e ∙ zero-on E m (p .head) c) ∙ zero-leaves E m s p l)) (refl, refl)
+    go false e c =
+        subst (Leaves s p) (sym (ap (carriedOut E m s p) (on-filling E m s p e ∙ fill-on E m s p c) ∙ fill-leaves E m s p (nextWord E (p .head .write)))) (refl, refl)
 
-step-leaves : (E : Edition) (words : List ℕ) (s : Shared) (p : Point) → stores E (p .head .write) ≡ true → Leaves s p (stepping E words s p)
-unfolding stepping
-step-leaves E words s p c = go (stepRefusal E words s (p .head) (p .table))
+step-keeps : (E : Edition) (words : List ℕ) (s : Shared) (p : Point) → stores E (p .head .write) ≡ true → Leaves s p (stepping E words s p)
+unfolding stepping afterRefusal
+step-keeps E words s p c = go (stepRefusal E words s (p .head) (p .table)) refl
   where
-    go : (n : ℕ) → Leaves s p (elim n [ zero ↦ writeOn E (memory E words) s p | suc k ↦ refused (suc k) s p ])
-    go zero = fill-leaves E (memory E words) s p c
-    go (suc k) = (refl, refl)
+    go : (n : ℕ) → stepRefusal E words s (p .head) (p .table) ≡ n → Leaves s p (stepping E words s p)
+    go zero e = subst (λ (plan : Plan). Leaves s p (carriedOut E (memory E words) s p plan)) (sym (goes-on E words s p e)) (store-keeps E (memory E words) s p c)
+    go (suc k) e =
+        subst (Leaves s p) (sym (ap (carriedOut E (memory E words) s p) (refused-on E words s p k e) ∙ refusal-leaves E (memory E words) s p (suc k))) (refl, refl)
 
 known-step : (E : Edition) (w : World) (n : ℕ) (p : Point) → isJoined (w .shared) n ≡ true → stores E (handed w n p .head .write) ≡ true
     → tableFits (w .shared .blocks) (handed w n p .table) ≡ true → Known (serve E w (step n p) .world) (suc n)
@@ -214,7 +222,7 @@ unfolding Known serve
 known-step E w n p j c f i e =
     let y = handed w n p in
     let o = stepping E (w .words) (w .shared) y in
-    let q = step-leaves E (w .words) (w .shared) y c in
+    let q = step-keeps E (w .words) (w .shared) y c in
     let same-n : n ≡ i = omega arith in
     subst (λ (i : ℕ). (isJoined (o .shared) i ≡ true) × (tableFits (o .shared .blocks) (withNewest w n (o .point) i .table) ≡ true)) same-n (
       ap (λ (s : Shared). isJoined s n) (q .0) ∙ j,

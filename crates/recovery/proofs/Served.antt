@@ -11,7 +11,8 @@ use Rattle.points.specs.declared.Begun.{Begun}
 use Rattle.points.specs.declared.Stepped.{Stepped}
 use Rattle.points.specs.declared.Left.{Left}
 use Rattle.points.specs.Calls.{joining, beginning, leaving}
-use Rattle.points.specs.Stepping.{answered, stepping}
+use Rattle.points.specs.Plan.{answered}
+use Rattle.points.specs.Stepping.{stepping}
 use Rattle.recovery.specs.World.{serve}
 use Rattle.recovery.specs.Served.{JoinServed, BeginServed, StepServed, LeaveServed}
 

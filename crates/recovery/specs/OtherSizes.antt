@@ -14,8 +14,7 @@ use Rattle.log.specs.Entry.{entryOf, entryV, entryB, entryN, entryU, entryPoint
 use Rattle.log.specs.Chain.{log}
 use Rattle.log.specs.Opening.{numberOf, layoutRefusal, layout, openRefusal, fileOf, opened, openedFile}
 use Rattle.points.specs.declared.Head.{Head}
-use Rattle.points.specs.Record.{noPoint, noWrite, noTable}
-use Rattle.points.specs.Calls.{leaveRefusal}
+use Rattle.points.specs.Record.{noPoint, noWrite, noTable, unfit}
 use Rattle.recovery.specs.World.{World, Call, join, begin, Event, world, events}
 use Rattle.recovery.specs.History.{enough, openWorld, alone, finishes}
 use Rattle.recovery.specs.Claim.{runMost, loneSteps}
@@ -110,7 +109,7 @@ headWith length slot = record { number = 0; length = length; place = record { bl
 
 abbrev pub leaveReason : Edition → ℕ → ℕ → ℕ → ℕ
 leaveReason E blocks length slot =
-    leaveRefusal E (laid two 4) (record { blocks = blocks; taken = 3 ∷ replicate 15 0; joined = 1; next = 2 }) (headWith length slot) noTable
+    unfit E (laid two 4) (record { blocks = blocks; taken = 3 ∷ replicate 15 0; joined = 1; next = 2 }) (headWith length slot) noTable
 
 -- a point joins on 4 blocks and begins a write of two bytes at this offset, then one of a single byte
 abbrev pub twoOrOne : Edition → ℕ → List ℕ

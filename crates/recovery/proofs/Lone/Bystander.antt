@@ -12,9 +12,9 @@ use Rattle.points.specs.declared.Point as PP
 use Rattle.points.specs.declared.Joined.{Joined}
 use Rattle.points.specs.declared.Begun.{Begun}
 use Rattle.points.specs.declared.Left.{Left}
-use Rattle.points.specs.Record.{isJoined, isIdle}
+use Rattle.points.specs.Record.{isJoined, isIdle, unfit}
 use Rattle.points.specs.Search.{taking}
-use Rattle.points.specs.Calls.{joining, joinRefusal, beginning, beginRefusal, leaving, leaveRefusal}
+use Rattle.points.specs.Calls.{joining, joinRefusal, beginning, beginRefusal, leaving}
 use Rattle.recovery.specs.World.{World, join, begin, leave, handed, withNewest, joinedAs, serve}
 use Rattle.recovery.specs.Book.{Book}
 use Rattle.words.proofs.WithBit.{withBit-other}
@@ -70,7 +70,7 @@ module _ {E : Edition} {L : List ℕ} (w : World) (bk : Book) (h : Tied E L w bk
 
   pub leave-kept : (k : ℕ) (p : PP.Point) → k ≢ n → Kept w (serve E w (leave k p) .world) n
   unfolding serve
-  leave-kept k p apart = go (leaveRefusal E (w .words) (w .shared) (y .head) (y .table)) refl
+  leave-kept k p apart = go (unfit E (w .words) (w .shared) (y .head) (y .table)) refl
     where
       y : PP.Point
       y = handed w k p
@@ -78,7 +78,7 @@ module _ {E : Edition} {L : List ℕ} (w : World) (bk : Book) (h : Tied E L w bk
       after : Left → World
       after r = record { words = w .words; shared = r .shared; newest = w .newest }
 
-      go : (i : ℕ) → leaveRefusal E (w .words) (w .shared) (y .head) (y .table) ≡ i → Kept w (after (leaving E (w .words) (w .shared) y)) n
+      go : (i : ℕ) → unfit E (w .words) (w .shared) (y .head) (y .table) ≡ i → Kept w (after (leaving E (w .words) (w .shared) y)) n
       go (suc i) e = subst (λ (r : Left). Kept w (after r) n) (sym (leave-eq-refused w bk h k p i e)) (record { words = refl; newest = refl; joined = j })
       go zero e =
           let own = is-joined w bk h k p (leave-joined E (w .words) (w .shared) y e) in

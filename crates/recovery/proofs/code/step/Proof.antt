@@ -14,7 +14,7 @@ returns : tie.Need-returns
 returns c =
     let a = c .before .before .before .before .before .args in
     let s = c .before .before .step in
-    step-served (a .image .now) (a .shared) (a .point) (s .result) _ (s .ensures .0) (s .ensures .1)
+    step-served (a .image .now) (a .shared) (a .point) (s .result) _ (s .ensures .answers) (s .ensures .stored)
 
 pub step-spec : {M : Type 1} → statement M
 step-spec = tie.close (tie.spec step-requires same-length returns)
