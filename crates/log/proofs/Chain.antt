@@ -8,12 +8,12 @@ use lib.Dec.{eqb, ltb, leb, leb·suc-suc}
 use lib.ListN.{length, getD, drop, length-drop}
 use lib.Seq.{drop-drop}
 use borrow.Author.Tests.{eq-eqb, le-ltb, ltb-true, ne-eqb, lt-ltb, lt-leb, leb-false}
-use Rattle.words.specs.BlockMap.{mark, markAll}
+use Rattle.words.specs.BlockMap.{setBlock, setAll}
 use Rattle.words.specs.Edition.{Edition, chainMax}
 use Rattle.words.specs.Logic.{isZero, some-of, all-of, any, upToZero}
 use Rattle.words.specs.Memory.{Memory, blockAt, wordAt}
 use Rattle.log.specs.Chain.{firstIndex, nextIndex, chainFrom, chain, badSuperblock, badIndex, endless, badLogBlock, outside}
-use Rattle.words.proofs.BlockMap.{markAll-next}
+use Rattle.words.proofs.BlockMap.{setAll-next}
 use Rattle.words.proofs.Logic.{or-left, or-right, agree}
 use Rattle.words.proofs.MapOf.{Below}
 use Rattle.words.proofs.Tests.{is-zero, not-zero}
@@ -53,15 +53,15 @@ module _ (m : Memory) where
 
 -- a pass over the chain
 module _ (m : Memory) (map : List ℕ) (n b : ℕ) where
-  pub links-marks : 0 < n → (b ≡ 0 → ⊥) → markAll true map (chainFrom m n b) ≡ markAll true (mark true map b) (chainFrom m (n - 1) (nextIndex m b))
-  links-marks h ne = rw (chain-next m n b h ne) (markAll-next map b (chainFrom m (n - 1) (nextIndex m b)) ne)
+  pub links-marks : 0 < n → (b ≡ 0 → ⊥) → setAll true map (chainFrom m n b) ≡ setAll true (setBlock true map b) (chainFrom m (n - 1) (nextIndex m b))
+  links-marks h ne = rw (chain-next m n b h ne) (setAll-next map b (chainFrom m (n - 1) (nextIndex m b)) ne)
 
-  pub links-marked : b ≡ 0 → markAll true map (chainFrom m n b) ≡ map
-  unfolding markAll
+  pub links-marked : b ≡ 0 → setAll true map (chainFrom m n b) ≡ map
+  unfolding setAll
   links-marked e = rw (chain-end m n b e)
 
-  pub links-marked-all : n ≤ 0 → markAll true map (chainFrom m n b) ≡ map
-  unfolding markAll
+  pub links-marked-all : n ≤ 0 → setAll true map (chainFrom m n b) ≡ map
+  unfolding setAll
   links-marked-all h = rw (chain-none m n b h)
 
 -- its indexes and a bound that none of them reaches

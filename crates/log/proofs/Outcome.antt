@@ -17,7 +17,7 @@ use Rattle.log.specs.Chain.{firstIndex, chain, log}
 use Rattle.log.specs.Opening.{badEntry, fileOf, openRefusal, refusedWith, takenAtOpening}
 use Rattle.log.specs.Opening.{sharedAtOpening, openedWith, opened, scratchMark, scratchAfter}
 use Rattle.log.specs.Parts.{startOf, Takable, Markable}
-use Rattle.log.specs.Replay.{Mapped, replayOn, nothing, replay, sharesBlock, dirtyEnd}
+use Rattle.log.specs.Replay.{Mapped, replayOn, emptyFile, replay, sharesBlock, dirtyEnd}
 use Rattle.log.specs.declared.Place.{Place}
 use Rattle.log.specs.declared.Reply.the-variants.{Done}
 use Rattle.words.proofs.Memory.{size-facts}
@@ -85,7 +85,7 @@ module _ {words scratch : List ℕ} (p : Passed one words scratch) where
     passed = p;
     legal = h7;
     file =
-        ef ∙ ap (replayOn one nothing)
+        ef ∙ ap (replayOn one emptyFile)
         (ap (λ (s : Place). ahead one (memory one words) (blockCount one words) s .entries) es ∙ start-entries words (p .index) (p .ends));
   }
 
@@ -101,7 +101,7 @@ module _ (E : Edition) {words scratch table : List ℕ} {size : ℕ} (h : Held E
   sound : Sound E (blockCount E words) (record { table = table; size = size })
   unfolding fileOf replay fresh
   sound =
-      rw (h .file) (sound-replay E (blockCount E words) (log (memory E words)) nothing (h .legal)
+      rw (h .file) (sound-replay E (blockCount E words) (log (memory E words)) emptyFile (h .legal)
       (sound-fresh E (blockCount E words) (omega (arith, size-facts E words (h .passed .size) .1))))
 
   pub file-small : size ≤ fileEnd E

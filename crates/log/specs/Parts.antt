@@ -8,7 +8,7 @@ use lib.Dec.{ltb, eqb}
 use Rattle.words.specs.Edition.{one, blocksMax}
 use Rattle.words.specs.Logic.{some-of, member, Reason, _when_}
 use Rattle.words.specs.Memory.{Memory, memory, blockCount, wrongSize}
-use Rattle.words.specs.BlockMap.{taken, mark, markAll, mapOf}
+use Rattle.words.specs.BlockMap.{taken, setBlock, setAll, mapOf}
 use Rattle.log.specs.declared.Place.{Place}
 use Rattle.log.specs.Chain.{firstIndex, chain, outside, badSuperblock, badIndex, endless, badLog}
 use Rattle.log.specs.Opening.{takenAtOpening, cleared}
@@ -41,11 +41,11 @@ startOf words = record { block = firstIndex (memory one words); slot = 2; passed
 unfoldable pub clash : List ℕ → List ℕ → Bool
 clash map [] = false
 clash map (zero ∷ bs) = clash map bs
-clash map (suc b ∷ bs) = taken map (suc b) || clash (mark true map (suc b)) bs
+clash map (suc b ∷ bs) = taken map (suc b) || clash (setBlock true map (suc b)) bs
 
 -- these blocks become taken; `met` is whether one was taken already
 abbrev pub TakesBlocks : List ℕ → List ℕ → List ℕ → Bool → Type 0
-TakesBlocks blocks before after met = (after ≡ markAll true before blocks) × (met ≡ clash before blocks)
+TakesBlocks blocks before after met = (after ≡ setAll true before blocks) × (met ≡ clash before blocks)
 
 -- the map of opening, and whether reason 8 holds
 abbrev pub TakesAll : List ℕ → List ℕ → List ℕ → Bool → Type 0

@@ -25,9 +25,9 @@ use Rattle.points.specs.Record.{noText, isIdle, badText, pastEnd, span, 
 use Rattle.points.specs.Search.{search, taking}
 use Rattle.points.specs.Start.{Started}
 use Rattle.points.specs.Calls.{beginRefusal, beginning, textOf, newWrite}
-use Rattle.points.proofs.Facts.{TextFits, text-facts, shared-facts}
-use Rattle.points.proofs.Passed.{begin-shared, begin-text, begin-end, begin-sound}
-use Rattle.points.proofs.Unfit.{refused-so, unfit-before, fit-goes-on}
+use Rattle.points.proofs.RecordFacts.{TextFits, text-facts, shared-facts}
+use Rattle.points.proofs.NotRefused.{begin-shared, begin-text, begin-end, begin-sound}
+use Rattle.points.proofs.RecordReasons.{refused-so, unfit-before, fit-goes-on}
 
 -- ---- the text
 

@@ -7,7 +7,7 @@ use Prim.Native.Nat.{ℕ, zero, suc, _<_}
 use native.Mathlib.Omega.{arith}
 use Rattle.words.specs.Edition.{Edition}
 use Rattle.words.specs.Memory.{Memory}
-use Rattle.words.specs.BlockMap.{mark, markAll}
+use Rattle.words.specs.BlockMap.{setBlock, setAll}
 use Rattle.words.proofs.Sizes.{in-block}
 use Rattle.log.specs.declared.Shared.{Shared}
 use Rattle.log.specs.Replay.{Mapped, apply}
@@ -24,7 +24,7 @@ use Rattle.points.specs.Fill.{newWord}
 use Rattle.points.specs.Plan.{Outcome, carriedOut, readIn, freed, withoutRun, replaced, wordFrom}
 use Rattle.points.specs.Stepping.{turned, toCommit, retried, filled, refillAfter, nextSlot, entering, entryFor}
 use Rattle.points.specs.Stepping.{refused, commit, giveUp, extend, zeroOut, link, giveBack, moveOn, fill}
-use Rattle.points.proofs.Ways.{go-on}
+use Rattle.points.proofs.StepCases.{go-on}
 
 module _ (E : Edition) (m : Memory) (s : Shared) (p : Point) where
   abbrev h : Head
@@ -69,7 +69,7 @@ module _ (E : Edition) (m : Memory) (s : Shared) (p : Point) where
   afterCommit =
       record {
         step = Committed (w .retries);
-        shared = withTaken s (markAll false (s .taken) (replaced E w (p .table)));
+        shared = withTaken s (setAll false (s .taken) (replaced E w (p .table)));
         point = pointOf (standing h (committed .size) (nextSlot (h .place)) noWrite) (committed .table) noText;
         store = some (record { block = h .place .block; word = h .place .slot; value = entryFor E h });
       }
@@ -141,7 +141,7 @@ module _ (E : Edition) (m : Memory) (s : Shared) (p : Point) where
   afterGiveBack =
       record {
         step = Moved;
-        shared = withTaken s (mark false (s .taken) (w .zeroing));
+        shared = withTaken s (setBlock false (s .taken) (w .zeroing));
         point = withHead p (writing h (toCommit E w (retried w)));
         store = none;
       }

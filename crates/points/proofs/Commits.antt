@@ -11,7 +11,7 @@ use lib.Dec.{ltb}
 use borrow.Author.Tests.{lt-ltb, ltb-true}
 use Rattle.words.specs.Edition.{Edition, blockBytes, fileEnd}
 use Rattle.words.proofs.Sizes.{sized, split-byte}
-use Rattle.words.specs.BlockMap.{mark, markAll}
+use Rattle.words.specs.BlockMap.{setBlock, setAll}
 use Rattle.words.proofs.Logic.{agree}
 use Rattle.log.specs.Entry.{entryOf, legal}
 use Rattle.points.specs.declared.Write.{Write}
@@ -86,18 +86,18 @@ module _ (E : Edition) (w : Write) where
 
 -- ---- the blocks replaced
 
-pub free-none : (map : List ℕ) (b : ℕ) → b ≡ 0 → map ≡ markAll false map (b ∷ [])
-unfolding markAll
-free-none map b e = rw (e, markAll)
+pub free-none : (map : List ℕ) (b : ℕ) → b ≡ 0 → map ≡ setAll false map (b ∷ [])
+unfolding setAll
+free-none map b e = rw (e, setAll)
 
-pub free-one : (map : List ℕ) (b : ℕ) → (b ≡ 0 → ⊥) → mark false map b ≡ markAll false map (b ∷ [])
-unfolding markAll
+pub free-one : (map : List ℕ) (b : ℕ) → (b ≡ 0 → ⊥) → setBlock false map b ≡ setAll false map (b ∷ [])
+unfolding setAll
 free-one map zero h = absurd (h refl)
 free-one map (suc b) h = refl
 
 -- one block of a list, then the others
-pub free-cons : (map : List ℕ) (b : ℕ) (bs : List ℕ) → markAll false map (b ∷ bs) ≡ markAll false (markAll false map (b ∷ [])) bs
-unfolding markAll
+pub free-cons : (map : List ℕ) (b : ℕ) (bs : List ℕ) → setAll false map (b ∷ bs) ≡ setAll false (setAll false map (b ∷ [])) bs
+unfolding setAll
 free-cons map zero bs = refl
 free-cons map (suc b) bs = refl
 
@@ -108,15 +108,15 @@ take-none (suc n) = refl
 -- at a place of a table; past its end there is 0, and nothing
 pub free-at :
     (map table : List ℕ) (at n : ℕ)
-    → markAll false map (take (suc n) (drop at table)) ≡ markAll false (markAll false map (getD table at 0 ∷ [])) (take n (drop (suc at) table))
-unfolding markAll
+    → setAll false map (take (suc n) (drop at table)) ≡ setAll false (setAll false map (getD table at 0 ∷ [])) (take n (drop (suc at) table))
+unfolding setAll
 free-at map table at n = go (decLt at (length table))
   where
     go :
         Dec (at < length table)
-        → markAll false map (take (suc n) (drop at table)) ≡ markAll false (markAll false map (getD table at 0 ∷ [])) (take n (drop (suc at) table))
+        → setAll false map (take (suc n) (drop at table)) ≡ setAll false (setAll false map (getD table at 0 ∷ [])) (take n (drop (suc at) table))
     go (yes h) =
-        ap (λ (l : List ℕ). markAll false map (take (suc n) l)) (drop-cons table at 0 h) ∙ free-cons map (getD table at 0) (take n (drop (suc at) table))
+        ap (λ (l : List ℕ). setAll false map (take (suc n) l)) (drop-cons table at 0 h) ∙ free-cons map (getD table at 0) (take n (drop (suc at) table))
     go (no h) =
         let z : getD table at 0 ≡ 0 = List·getD-eq-default table 0 (omega arith) in
         let d : drop at table ≡ [] = drop-of-length-le table {i = at} (omega arith) in
@@ -125,17 +125,17 @@ free-at map table at n = go (decLt at (length table))
 
 -- what is left to free, after one more
 pub freed-one :
-    (start map more table : List ℕ) (n v left at : ℕ) → 0 < left → markAll false start (take n (drop v table)) ≡ markAll false map (take left (drop at table))
-    → more ≡ markAll false map (getD table at 0 ∷ []) → markAll false start (take n (drop v table)) ≡ markAll false more (take (left - 1) (drop (at + 1) table))
+    (start map more table : List ℕ) (n v left at : ℕ) → 0 < left → setAll false start (take n (drop v table)) ≡ setAll false map (take left (drop at table))
+    → more ≡ setAll false map (getD table at 0 ∷ []) → setAll false start (take n (drop v table)) ≡ setAll false more (take (left - 1) (drop (at + 1) table))
 freed-one start map more table n v left at h inv e =
     let l : suc (left - 1) ≡ left = omega arith in
     let a : suc at ≡ at + 1 = omega arith in
     inv ∙ rw (e, ← a) (rw l at (free-at map table at (left - 1)))
 
 pub freed-all :
-    (start map table : List ℕ) (n v left at : ℕ) → left ≤ 0 → markAll false start (take n (drop v table)) ≡ markAll false map (take left (drop at table))
-    → map ≡ markAll false start (take n (drop v table))
-unfolding markAll
+    (start map table : List ℕ) (n v left at : ℕ) → left ≤ 0 → setAll false start (take n (drop v table)) ≡ setAll false map (take left (drop at table))
+    → map ≡ setAll false start (take n (drop v table))
+unfolding setAll
 freed-all start map table n v left at h inv =
     let z : left ≡ 0 = omega arith in
     sym (inv ∙ rw z)

@@ -19,8 +19,8 @@ use Rattle.points.specs.declared.Point.{Point}
 use Rattle.points.specs.Record.{newPoint, noPoint}
 use Rattle.points.specs.Search.{withJoined}
 use Rattle.points.specs.Calls.{badFirst, joinRefusal, joining}
-use Rattle.points.proofs.Passed.{join-number, join-first}
-use Rattle.points.proofs.Unfit.{refused-so}
+use Rattle.points.proofs.NotRefused.{join-number, join-first}
+use Rattle.points.proofs.RecordReasons.{refused-so}
 
 -- ---- 18
 

@@ -7,7 +7,7 @@ use mathlib.Core.Bool.{true, false}
 use mathlib.Core.List.{List}
 use Rattle.words.specs.Edition.{Edition}
 use Rattle.words.specs.Word.{bit}
-use Rattle.words.specs.BlockMap.{withBit, mark}
+use Rattle.words.specs.BlockMap.{withBit, setBlock}
 use Rattle.words.proofs.Choice.{choose-true, choose-false, chosen-zero}
 use Rattle.words.proofs.Tests.{no-true}
 use Rattle.log.specs.declared.Shared.{Shared}
@@ -19,7 +19,7 @@ use Rattle.points.specs.Search.{withJoined, withTaken}
 use Rattle.points.specs.Calls.{withoutHeld, leaving}
 use Rattle.points.specs.Plan.{withoutRun}
 use Rattle.points.proofs.Fits.{no-bit}
-use Rattle.points.proofs.Unfit.{refused-so}
+use Rattle.points.proofs.RecordReasons.{refused-so}
 
 -- ---- what a point holds
 
@@ -33,7 +33,7 @@ module _ (E : Edition) (map : List ℕ) (w : Write) where
     unfolding withoutHeld
     held-run e = run ∙ sym (choose-false (isIdle (w .phase)) map _ busy ∙ choose-false (isZeroing (w .phase)) _ _ e)
 
-    pub held-both : (left : List ℕ) → isZeroing (w .phase) ≡ true → left ≡ mark false freed (w .zeroing) → left ≡ withoutHeld E map w
+    pub held-both : (left : List ℕ) → isZeroing (w .phase) ≡ true → left ≡ setBlock false freed (w .zeroing) → left ≡ withoutHeld E map w
     unfolding withoutHeld
     held-both left e l = l ∙ rw run (sym (choose-false (isIdle (w .phase)) map _ busy ∙ choose-true (isZeroing (w .phase)) _ _ e))
 

@@ -28,9 +28,9 @@ use Rattle.points.specs.Lent.{steppedOf, StepLeaves}
 use Rattle.points.proofs.Spans.{lies}
 use Rattle.points.proofs.Commits.{entry-for-legal}
 use Rattle.points.proofs.Leaves.{joined-small}
-use Rattle.points.proofs.Ready.{Ready, ready, refused-on, goes-on}
-use Rattle.points.proofs.Ways.{on-zeroing, on-filling, fill-on, commit-on, zero-on, link-on, lost-on, empty, ended, store-on, end-on, move-on, endReasons}
-use Rattle.points.proofs.Ways.{extend-on, give-on, stop-on, go-on}
+use Rattle.points.proofs.StepFacts.{Ready, ready, refused-on, goes-on}
+use Rattle.points.proofs.StepCases.{on-zeroing, on-filling, fill-on, commit-on, zero-on, link-on, lost-on, empty, ended, store-on, end-on, move-on, endReasons}
+use Rattle.points.proofs.StepCases.{extend-on, give-on, stop-on, go-on}
 
 -- ---- what a plan asks for
 

@@ -24,7 +24,7 @@ use Rattle.points.specs.Sight.{sightRefusal, partOf}
 use Rattle.points.proofs.Copied.{listFrom-same, sets-front}
 use Rattle.points.proofs.FilePieces.{part-block}
 use Rattle.points.proofs.Seeing.{sight-reasons, sight-passed, sight-inside, failed-before}
-use Rattle.points.proofs.Unfit.{first-settled, first-goes-on, settled-before}
+use Rattle.points.proofs.RecordReasons.{first-settled, first-goes-on, settled-before}
 
 -- ---- an answer by its refusal's number
 

@@ -17,7 +17,7 @@ use Rattle.log.specs.Look.{lookaheadOf}
 use Rattle.points.specs.declared.Head.{Head}
 use Rattle.points.specs.Record.{recordReasons, unfit}
 use Rattle.points.specs.Sight.{sightRefusal}
-use Rattle.points.proofs.Unfit.{unfit-before, fit-goes-on, first-settled, first-goes-on}
+use Rattle.points.proofs.RecordReasons.{unfit-before, fit-goes-on, first-settled, first-goes-on}
 
 -- reasons that all fail leave it to those that come after
 pub failed-before : (rs more : List Reason) → ((i : ℕ) → getD rs i no-reason .holds ≡ false) → first (rs ++ more) ≡ first more

@@ -7,7 +7,7 @@ use mathlib.Core.Option.{Option, none, some}
 use lib.ListN.{take, drop}
 use Rattle.words.specs.Edition.{Edition, blocksMax, fileBlocks}
 use Rattle.words.specs.Memory.{Memory, Store}
-use Rattle.words.specs.BlockMap.{mark, markRun, markAll}
+use Rattle.words.specs.BlockMap.{setBlock, setRun, setAll}
 use Rattle.log.specs.declared.Place.{Place}
 use Rattle.log.specs.declared.Shared.{Shared}
 use Rattle.log.specs.Entry.{legal}
@@ -74,7 +74,7 @@ readIn AllAhead E m blocks at entry f = replayOn E f (ahead E m blocks at .entri
 
 -- the map without the run of a write
 unfoldable pub withoutRun : Edition → List ℕ → Write → List ℕ
-withoutRun E map w = markRun false map (w .run) (runBlocks E w)
+withoutRun E map w = setRun false map (w .run) (runBlocks E w)
 
 -- "blocks replaced": those mapped where the run goes
 abbrev pub replaced : Edition → Write → List ℕ → List ℕ
@@ -84,8 +84,8 @@ replaced E w table = take (runBlocks E w) (drop (runFirst E w) table)
 unfoldable pub freed : Frees → Edition → List ℕ → Write → List ℕ → List ℕ
 freed NoBlock E map w table = map
 freed Run E map w table = withoutRun E map w
-freed Replaced E map w table = markAll false map (replaced E w table)
-freed Zeroed E map w table = mark false map (w .zeroing)
+freed Replaced E map w table = setAll false map (replaced E w table)
+freed Zeroed E map w table = setBlock false map (w .zeroing)
 
 -- the text, or none
 abbrev pub textAfter : Bool → List ℕ → List ℕ

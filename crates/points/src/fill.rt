@@ -10,7 +10,7 @@ ghost use Rattle.words.specs.Memory.{memory};
 ghost use Rattle.log.specs.Replay.{mappedByte};
 ghost use Rattle.points.specs.declared.Phase.the-variants.{RefillFirst, RefillLast, RefillBoth};
 ghost use Rattle.points.specs.Record.{runWords};
-ghost use Rattle.points.specs.Fill.{newWord, copies, wanted, seek, nextWord};
+ghost use Rattle.points.specs.Fill.{newWord, copies, pending, seek, nextWord};
 ghost use Rattle.points.specs.Lent.{TextFits, InRun, mixedByte};
 use crate::Head;
 use crate::Phase;
@@ -139,7 +139,7 @@ fn copied_from(write: Write, from: u32) -> u32
 // The next word to fill again in the run's first block, or the run's words.
 fn next_in_first(write: Write, words: u32) -> u32
     requires { ⌜ InRun write words ⌝ }
-    ensures { λ r. ⌜ r ≡ seek (write .position) (runWords one write - write .position) (wanted RefillFirst one write) ⌝ }
+    ensures { λ r. ⌜ r ≡ seek (write .position) (runWords one write - write .position) (pending RefillFirst one write) ⌝ }
 {
     let k = copied_from(write, write.position);
     if k < 64 {
@@ -151,7 +151,7 @@ fn next_in_first(write: Write, words: u32) -> u32
 // The next word to fill again in the run's last block, where that is not the first, or the run's words.
 fn next_in_last(write: Write, words: u32) -> u32
     requires { ⌜ InRun write words ⌝ }
-    ensures { λ r. ⌜ r ≡ seek (write .position) (runWords one write - write .position) (wanted RefillLast one write) ⌝ }
+    ensures { λ r. ⌜ r ≡ seek (write .position) (runWords one write - write .position) (pending RefillLast one write) ⌝ }
 {
     let k = copied_from(write, greater(write.position, 64));
     if k < words {
@@ -163,7 +163,7 @@ fn next_in_last(write: Write, words: u32) -> u32
 // The next word to fill again in either, or the run's words.
 fn next_in_both(write: Write, words: u32) -> u32
     requires { ⌜ InRun write words ⌝ }
-    ensures { λ r. ⌜ r ≡ seek (write .position) (runWords one write - write .position) (wanted RefillBoth one write) ⌝ }
+    ensures { λ r. ⌜ r ≡ seek (write .position) (runWords one write - write .position) (pending RefillBoth one write) ⌝ }
 {
     let k = copied_from(write, write.position);
     if k < 64 {

@@ -5,7 +5,7 @@ ghost use mathlib.Core.List.{[], _∷_};
 ghost use Prim.Native.Nat.{_+_, _≤_};
 ghost use lib.ListN.{take, drop};
 ghost use Rattle.words.specs.Edition.{one};
-ghost use Rattle.words.specs.BlockMap.{markAll};
+ghost use Rattle.words.specs.BlockMap.{setAll};
 ghost use Rattle.points.specs.declared.plan.Frees.the-variants.{Replaced};
 ghost use Rattle.points.specs.Plan.{withoutRun, replaced, freed, InTable};
 use crate::Write;
@@ -13,7 +13,7 @@ use crate::plan::Frees;
 
 // A block that was mapped becomes free; 0 stands for none.
 fn free_mapped(map: &mut [u64], b: u16)
-    ensures { λ _. ⌜ now (map .exit) ≡ markAll false (now (map .entry)) (b ∷ []) ⌝ }
+    ensures { λ _. ⌜ now (map .exit) ≡ setAll false (now (map .entry)) (b ∷ []) ⌝ }
 {
     if b != 0 {
         words::map::free_block(map, b as usize);
@@ -23,7 +23,7 @@ fn free_mapped(map: &mut [u64], b: u16)
 // The blocks mapped at n virtual blocks from v on become free.
 fn free_mapped_from(map: &mut [u64], table: &[u16; 256], v: usize, n: usize)
     requires { ⌜ v + n ≤ 256 ⌝ }
-    ensures { λ _. ⌜ now (map .exit) ≡ markAll false (now (map .entry)) (take n (drop v (now (table .entry)))) ⌝ }
+    ensures { λ _. ⌜ now (map .exit) ≡ setAll false (now (map .entry)) (take n (drop v (now (table .entry)))) ⌝ }
 {
     let mut at = v;
     let mut left = n;
@@ -37,7 +37,7 @@ fn free_mapped_from(map: &mut [u64], table: &[u16; 256], v: usize, n: usize)
 // The blocks that the write replaces become free.
 fn free_replaced(map: &mut [u64], table: &[u16; 256], write: Write)
     requires { ⌜ InTable Replaced one write ⌝ }
-    ensures { λ _. ⌜ now (map .exit) ≡ markAll false (now (map .entry)) (replaced one write (now (table .entry))) ⌝ }
+    ensures { λ _. ⌜ now (map .exit) ≡ setAll false (now (map .entry)) (replaced one write (now (table .entry))) ⌝ }
 {
     let n = crate::record::span(write.offset, write.size);
     free_mapped_from(map, table, (write.offset / 512) as usize, n as usize);

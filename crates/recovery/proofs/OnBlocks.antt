@@ -28,9 +28,9 @@ use Rattle.recovery.specs.World.{World, Call, join, begin, step, leave, 
 use Rattle.recovery.specs.Sessions.{Case, Agree, afterCalls}
 use Rattle.words.proofs.Logic.{and-left, and-right}
 use Rattle.words.proofs.Memory.{memory-put, length-memory}
-use Rattle.points.proofs.Ways.{on-zeroing, on-filling, zero-on, fill-on}
+use Rattle.points.proofs.StepCases.{on-zeroing, on-filling, zero-on, fill-on}
 use Rattle.points.proofs.CarriedOut.{afterRefusal, afterFill, afterZero, refusal-leaves, fill-leaves, zero-leaves}
-use Rattle.points.proofs.Ready.{goes-on, refused-on}
+use Rattle.points.proofs.StepFacts.{goes-on, refused-on}
 use Rattle.recovery.proofs.Calls.Mapping.{withNewest-same, handed-newest}
 use Rattle.recovery.proofs.Computed.{test, agree}
 

@@ -19,7 +19,7 @@ use Rattle.recovery.specs.World.{World, join, begin, leave, handed, with
 use Rattle.recovery.specs.Book.{Book}
 use Rattle.words.proofs.WithBit.{withBit-other}
 use Rattle.words.proofs.Tests.{no-true}
-use Rattle.points.proofs.Passed.{join-apart, begin-idle, leave-joined}
+use Rattle.points.proofs.NotRefused.{join-apart, begin-idle, leave-joined}
 use Rattle.recovery.proofs.Calls.Mapping.{Tied, handed-newest, is-joined, withNewest-other, withNewest-handed}
 use Rattle.recovery.proofs.Calls.Join.{join-eq-done, join-eq-refused}
 use Rattle.recovery.proofs.Calls.Begin.{begin-eq-done, begin-eq-refused}

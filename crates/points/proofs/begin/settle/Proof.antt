@@ -11,7 +11,7 @@ use Rattle.log.specs.CatchUp.{ahead, broken}
 use Rattle.log.specs.Look.{lookaheadOf}
 use Rattle.points.specs.Record.{isIdle, badText, pastEnd, unfit}
 use Rattle.points.specs.Search.{search as found-by}
-use Rattle.points.proofs.Facts.{TextFits, text-facts}
+use Rattle.points.proofs.RecordFacts.{TextFits, text-facts}
 use Rattle.points.proofs.Begins.{start-refused, begin-unfit, begin-15, begin-16, begin-17, begin-18, begin-19, begin-0}
 use Rattle.points.proofs.begin.settle.Statement.{statement}
 use Rattle.points.proofs.begin.settle.Tie as tie

@@ -2,7 +2,7 @@
 use mathlib.Core.Path.{sym, _∙_}
 use Rattle.words.specs.Edition.{one}
 use Rattle.points.specs.Search.{sharedOf}
-use Rattle.points.proofs.Ready.{end-full, end-none, end-free}
+use Rattle.points.proofs.StepFacts.{end-full, end-none, end-free}
 use borrow.Author.Needs.{needs}
 use Rattle.points.proofs.commit.at_end.Statement.{statement}
 use Rattle.points.proofs.commit.at_end.Tie as tie

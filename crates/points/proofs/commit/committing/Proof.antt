@@ -7,7 +7,7 @@ use Prim.Native.Nat.{ℕ}
 use mathlib.Core.List.{List}
 use lib.ListN.{getD}
 use Rattle.points.specs.Search.{sharedOf}
-use Rattle.points.proofs.Ready.{ready, run-below, slot-empty, slot-taken, chain-ends, chain-goes-on}
+use Rattle.points.proofs.StepFacts.{ready, run-below, slot-empty, slot-taken, chain-ends, chain-goes-on}
 use Rattle.points.proofs.Leaves.{joined-small}
 use borrow.Author.Needs.{needs}
 use Rattle.points.proofs.commit.committing.Statement.{statement}

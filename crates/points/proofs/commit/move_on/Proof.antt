@@ -2,7 +2,7 @@
 use mathlib.Core.Path.{sym, _∙_}
 use Rattle.words.specs.Edition.{one}
 use Rattle.words.specs.Memory.{memory}
-use Rattle.points.proofs.Ready.{move-stops, move-goes}
+use Rattle.points.proofs.StepFacts.{move-stops, move-goes}
 use borrow.Author.Needs.{needs}
 use Rattle.points.proofs.commit.move_on.Statement.{statement}
 use Rattle.points.proofs.commit.move_on.Tie as tie

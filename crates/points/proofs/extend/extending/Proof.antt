@@ -4,7 +4,7 @@ use Rattle.words.specs.Edition.{one}
 use Rattle.words.specs.Memory.{memory}
 use borrow.Author.Tests.{lt-ltb, le-ltb}
 use Rattle.words.proofs.Tests.{is-zero, not-zero}
-use Rattle.points.proofs.Ways.{zero-on, link-on, lost-on}
+use Rattle.points.proofs.StepCases.{zero-on, link-on, lost-on}
 use borrow.Author.Needs.{needs}
 use Rattle.points.proofs.extend.extending.Statement.{statement}
 use Rattle.points.proofs.extend.extending.Tie as tie

@@ -1,4 +1,4 @@
--- `points::fill::next_in_first`: the first word with a copied byte lies in the first block, or none of the block is wanted any more.
+-- `points::fill::next_in_first`: the first word with a copied byte lies in the first block, or none of the block is pending any more.
 use native.Mathlib.Omega.{arith}
 use mathlib.Core.Path.{sym, _∙_}
 use Rattle.words.specs.Edition.{one}

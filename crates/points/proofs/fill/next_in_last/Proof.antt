@@ -1,4 +1,4 @@
--- `points::fill::next_in_last`: the first word with a copied byte from the second block on lies in the run, or none is wanted any more.
+-- `points::fill::next_in_last`: the first word with a copied byte from the second block on lies in the run, or none is pending any more.
 use native.Mathlib.Omega.{arith}
 use mathlib.Core.Path.{sym, _∙_}
 use Rattle.words.specs.Edition.{one}

@@ -5,7 +5,7 @@ use borrow.Author.Needs.{needs}
 use Rattle.words.specs.Edition.{one}
 use Rattle.points.specs.Record.{unfit, pointOf}
 use Rattle.points.proofs.Leaves.{leave-refused, leave-done, joined-small}
-use Rattle.points.proofs.Unfit.{fit-joined}
+use Rattle.points.proofs.RecordReasons.{fit-joined}
 use Rattle.points.proofs.leave.leave_lent.Statement.{statement}
 use Rattle.points.proofs.leave.leave_lent.Tie as tie
 

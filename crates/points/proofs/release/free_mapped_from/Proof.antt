@@ -4,7 +4,7 @@ use native.Mathlib.Omega.{arith}
 use Prim.Native.Nat.{_+_}
 use mathlib.Core.Bool.{false}
 use lib.ListN.{length, take, drop}
-use Rattle.words.specs.BlockMap.{markAll}
+use Rattle.words.specs.BlockMap.{setAll}
 use Rattle.points.proofs.Commits.{freed-one, freed-all}
 use borrow.Author.Needs.{needs}
 use Rattle.points.proofs.release.free_mapped_from.Statement.{statement}
@@ -12,7 +12,7 @@ use Rattle.points.proofs.release.free_mapped_from.Tie as tie
 
 abbrev Inv-loop : tie.InvT-loop
 Inv-loop map₀ table v n at₀ left₀ map at left =
-    (at + left ≡ v + n) × (markAll false map₀ (take n (drop v table)) ≡ markAll false map (take left (drop at table))) × (length map ≡ length map₀)
+    (at + left ≡ v + n) × (setAll false map₀ (take n (drop v table)) ≡ setAll false map (take left (drop at table))) × (length map ≡ length map₀)
 
 abbrev μ-loop : tie.MeasureT-loop
 μ-loop map₀ table v n at₀ left₀ map at left = left

@@ -1,6 +1,6 @@
 -- `points::shared::next_after` meets its contract: the choice is the definition's. Assumes nothing.
 use borrow.Author.Needs.{needs}
-use Rattle.points.proofs.Takes.{next-inside, next-past}
+use Rattle.points.proofs.TakeRun.{next-inside, next-past}
 use Rattle.points.proofs.shared.next_after.Statement.{statement}
 use Rattle.points.proofs.shared.next_after.Tie as tie
 

@@ -3,7 +3,7 @@ use native.Mathlib.Omega.{arith}
 use mathlib.Core.Path.{_∙_}
 use borrow.Author.Needs.{needs}
 use Rattle.points.specs.Search.{sharedOf}
-use Rattle.points.proofs.Takes.{search-is, search-le}
+use Rattle.points.proofs.TakeRun.{search-is, search-le}
 use Rattle.points.proofs.shared.search_lent.Statement.{statement}
 use Rattle.points.proofs.shared.search_lent.Tie as tie
 

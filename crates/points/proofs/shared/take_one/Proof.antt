@@ -1,6 +1,6 @@
 -- `points::shared::take_one`: 0 stands for no block.
 use Rattle.points.specs.Search.{takingOne}
-use Rattle.points.proofs.Takes.{taking-one}
+use Rattle.points.proofs.TakeRun.{taking-one}
 use borrow.Author.Needs.{needs}
 use Rattle.points.proofs.shared.take_one.Statement.{statement}
 use Rattle.points.proofs.shared.take_one.Tie as tie

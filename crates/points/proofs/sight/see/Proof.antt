@@ -5,8 +5,8 @@ use Rattle.words.specs.Edition.{one}
 use Rattle.words.specs.Memory.{memory}
 use Rattle.log.specs.CatchUp.{ahead}
 use Rattle.points.specs.Reading.{seen}
-use Rattle.points.proofs.Facts.{shared-facts}
-use Rattle.points.proofs.Unfit.{fit-shared}
+use Rattle.points.proofs.RecordFacts.{shared-facts}
+use Rattle.points.proofs.RecordReasons.{fit-shared}
 use Rattle.points.proofs.Seeing.{unseen-so, look-broken, sight-unfit, sight-past, sight-broken, sight-clear}
 use borrow.Author.Needs.{needs}
 use Rattle.points.proofs.sight.see.Statement.{statement}

@@ -5,8 +5,8 @@ use Rattle.words.specs.Memory.{memory}
 use Rattle.points.specs.Record.{pointOf}
 use Rattle.points.specs.Search.{sharedOf}
 use mathlib.Core.Path.{sym, _∙_}
-use Rattle.points.proofs.Ready.{ready, ready-position, fills, commits}
-use Rattle.points.proofs.Facts.{span-few}
+use Rattle.points.proofs.StepFacts.{ready, ready-position, fills, commits}
+use Rattle.points.proofs.RecordFacts.{span-few}
 use borrow.Author.Needs.{needs}
 use Rattle.points.proofs.step.filling.Statement.{statement}
 use Rattle.points.proofs.step.filling.Tie as tie

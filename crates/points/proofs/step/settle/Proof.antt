@@ -3,7 +3,7 @@ use mathlib.Core.Path.{sym, _∙_}
 use Rattle.words.specs.Edition.{one}
 use Rattle.points.specs.Record.{pointOf}
 use Rattle.points.specs.Search.{sharedOf}
-use Rattle.points.proofs.Ready.{turned-down, none-under-way, under-way, goes-on}
+use Rattle.points.proofs.StepFacts.{turned-down, none-under-way, under-way, goes-on}
 use borrow.Author.Needs.{needs}
 use Rattle.points.proofs.step.settle.Statement.{statement}
 use Rattle.points.proofs.step.settle.Tie as tie

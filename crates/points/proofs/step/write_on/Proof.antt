@@ -4,8 +4,8 @@ use Rattle.words.specs.Edition.{one}
 use Rattle.words.specs.Memory.{memory}
 use Rattle.points.specs.Record.{pointOf}
 use Rattle.points.specs.Search.{sharedOf}
-use Rattle.points.proofs.Ready.{ready-zeroing}
-use Rattle.points.proofs.Ways.{on-zeroing, on-filling}
+use Rattle.points.proofs.StepFacts.{ready-zeroing}
+use Rattle.points.proofs.StepCases.{on-zeroing, on-filling}
 use borrow.Author.Needs.{needs}
 use Rattle.points.proofs.step.write_on.Statement.{statement}
 use Rattle.points.proofs.step.write_on.Tie as tie

@@ -6,7 +6,7 @@ use mathlib.Core.Bool.{Bool, true, false}
 use mathlib.Core.List.{List, [], _++_, append-nil}
 use borrow.Author.Tests.{lt-ltb, le-ltb}
 use Rattle.words.specs.Logic.{upFrom}
-use Rattle.words.specs.BlockMap.{takenIn, markRun}
+use Rattle.words.specs.BlockMap.{takenIn, setRun}
 use Rattle.words.specs.Search.{freeAmong, found}
 use Rattle.words.proofs.Choice.{choose-true, choose-false}
 use Rattle.log.specs.declared.Shared.{Shared}
@@ -42,7 +42,7 @@ pub next-past : (blocks b : ℕ) → blocks ≤ b → 1 ≡ nextAfter blocks b
 next-past blocks b h = sym (choose-false _ b 1 (le-ltb b blocks h))
 
 pub taking-one :
-    (n : Numbers) (taken : List ℕ) (b next : ℕ) (map : List ℕ) → (b ≡ 0 → ⊥) → next ≡ nextAfter (n .blocks) (b + 1) → map ≡ markRun true taken b 1
+    (n : Numbers) (taken : List ℕ) (b next : ℕ) (map : List ℕ) → (b ≡ 0 → ⊥) → next ≡ nextAfter (n .blocks) (b + 1) → map ≡ setRun true taken b 1
     → sharedOf (withNext n next) map ≡ takingOne (sharedOf n taken) b
 unfolding takingOne taking
 taking-one n taken zero next map h en em = absurd (h refl)

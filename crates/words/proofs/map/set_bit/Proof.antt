@@ -3,9 +3,9 @@ use mathlib.Core.Path.{sym}
 use Prim.Native.Nat.{_+_, _*_}
 use native.Mathlib.Omega.{arith}
 use borrow.Author.Needs.{needs}
-use Rattle.words.proofs.BlockMap.{mark-at, mark-past}
-use Rattle.words.proofs.map.mark_bit.Statement.{statement}
-use Rattle.words.proofs.map.mark_bit.Tie as tie
+use Rattle.words.proofs.BlockMap.{set-at, set-past}
+use Rattle.words.proofs.map.set_bit.Statement.{statement}
+use Rattle.words.proofs.map.set_bit.Tie as tie
 
 mul-with-bit : tie.Need-mul-with-bit
 mul-with-bit c = search needs
@@ -27,13 +27,13 @@ same-length c = search needs
 
 returns : tie.Need-returns
 returns c = let a = c .before .before .before .before .args in
-    mark-at (a .on) (a .map .now) (a .k) (a .j) (c .with-bit .result) (c .before .before .before .before .pre) (c .with-bit .ensures)
+    set-at (a .on) (a .map .now) (a .k) (a .j) (c .with-bit .result) (c .before .before .before .before .pre) (c .with-bit .ensures)
 
 returns-2 : tie.Need-returns-2
-returns-2 c = let a = c .before .before .args in sym (mark-past (a .on) (a .map .now) (64 * a .k + a .j) (omega arith))
+returns-2 c = let a = c .before .before .args in sym (set-past (a .on) (a .map .now) (64 * a .k + a .j) (omega arith))
 
-pub mark-bit-spec : {M : Type 1} → statement M
-mark-bit-spec =
+pub set-bit-spec : {M : Type 1} → statement M
+set-bit-spec =
     tie.close
     (tie.spec
     mul-with-bit

@@ -26,10 +26,10 @@ use Rattle.points.specs.Fill.{nextWord}
 use Rattle.points.specs.Search.{search}
 use Rattle.points.specs.Plan.{resting}
 use Rattle.points.specs.Stepping.{refill, refillAfter, refused, commit, giveUp, extend, moveOn, atEnd, committing, fill, filling, writeOn, stepRefusal, planned}
-use Rattle.points.proofs.Facts.{SharedFits, PlaceFits, RunFits, ZeroingFits, shared-facts, fits-place, fits-write, run-facts, write-zeroing-facts, write-position, span-few}
-use Rattle.points.proofs.Unfit.{unfit-before, fit-goes-on, first-settled, first-goes-on}
-use Rattle.points.proofs.Passed.{step-shared, step-fits, step-joined, step-busy}
-use Rattle.points.proofs.Ways.{empty, ended, fill-on, commit-on, store-on, end-on, move-on, endReasons, extend-on, give-on, stop-on, go-on}
+use Rattle.points.proofs.RecordFacts.{SharedFits, PlaceFits, RunFits, ZeroingFits, shared-facts, fits-place, fits-write, run-facts, write-zeroing-facts, write-position, span-few}
+use Rattle.points.proofs.RecordReasons.{unfit-before, fit-goes-on, first-settled, first-goes-on}
+use Rattle.points.proofs.NotRefused.{step-shared, step-fits, step-joined, step-busy}
+use Rattle.points.proofs.StepCases.{empty, ended, fill-on, commit-on, store-on, end-on, move-on, endReasons, extend-on, give-on, stop-on, go-on}
 
 -- ---- what is known
 

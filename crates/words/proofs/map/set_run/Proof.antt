@@ -5,13 +5,13 @@ use mathlib.Core.Logic.{⊎-elim}
 use native.Mathlib.Omega.{arith}
 use lib.ListN.{length}
 use borrow.Author.Tests.{ltb-true, ltb-false}
-use Rattle.words.specs.BlockMap.{markRun}
-use Rattle.words.proofs.BlockMap.{markRun-next, markRun-none, markRun-past, length-mark}
-use Rattle.words.proofs.map.mark_run.Statement.{statement}
-use Rattle.words.proofs.map.mark_run.Tie as tie
+use Rattle.words.specs.BlockMap.{setRun}
+use Rattle.words.proofs.BlockMap.{setRun-next, setRun-none, setRun-past, length-setBlock}
+use Rattle.words.proofs.map.set_run.Statement.{statement}
+use Rattle.words.proofs.map.set_run.Tie as tie
 
 abbrev Inv-loop : tie.InvT-loop
-Inv-loop map₀ b n on k₀ j₀ left₀ map k j left = (j < 64) × (length map ≡ length map₀) × (markRun on map₀ b n ≡ markRun on map (64 * k + j) left)
+Inv-loop map₀ b n on k₀ j₀ left₀ map k j left = (j < 64) × (length map ≡ length map₀) × (setRun on map₀ b n ≡ setRun on map (64 * k + j) left)
 
 abbrev μ-loop : tie.MeasureT-loop
 μ-loop map₀ b n on k₀ j₀ left₀ map k j left = left
@@ -19,10 +19,10 @@ abbrev μ-loop : tie.MeasureT-loop
 loop-holds : tie.Need-loop-holds Inv-loop μ-loop
 loop-holds c = let a = c .before .args in
     let e : a .b ≡ 64 * (a .b / 64) + a .b % 64 = omega arith in
-    (omega arith, refl, ap (λ (x : ℕ). markRun (a .on) (a .map .now) x (a .n)) e)
+    (omega arith, refl, ap (λ (x : ℕ). setRun (a .on) (a .map .now) x (a .n)) e)
 
-mark-bit-requires : tie.Need-mark-bit-requires Inv-loop μ-loop
-mark-bit-requires c κs = omega arith
+set-bit-requires : tie.Need-set-bit-requires Inv-loop μ-loop
+set-bit-requires c κs = omega arith
 
 add-j : tie.Need-add-j Inv-loop μ-loop
 add-j c = omega arith
@@ -39,11 +39,11 @@ loop-less c = omega arith
 loop-again : tie.Need-loop-again Inv-loop μ-loop
 loop-again c = let a = c .before .before .before .before .before .before .before .before .before .args in
     let l = c .before .before .before .before .before .before .before .loop in
-    let m = c .before .before .before .mark-bit in
+    let m = c .before .before .before .set-bit in
     let at : 64 * c .if2 .k + c .if2 .j ≡ 64 * l .k + l .j + 1 = ⊎-elim (λ w. omega arith) (λ w. omega arith) (c .if2 .came) in (
       ⊎-elim (λ w. omega arith) (λ w. omega arith) (c .if2 .came),
-      ap length (m .ensures) ∙ length-mark (a .on) (l .map) (64 * l .k + l .j) ∙ l .inv .1,
-      l .inv .2 ∙ markRun-next (a .on) (l .map) (64 * l .k + l .j) (l .left) (omega arith) ∙ (rw (at, m .ensures)),
+      ap length (m .ensures) ∙ length-setBlock (a .on) (l .map) (64 * l .k + l .j) ∙ l .inv .1,
+      l .inv .2 ∙ setRun-next (a .on) (l .map) (64 * l .k + l .j) (l .left) (omega arith) ∙ (rw (at, m .ensures)),
     )
 
 same-length : tie.Need-same-length Inv-loop μ-loop
@@ -52,7 +52,7 @@ same-length c = c .before .before .loop .inv .1
 returns : tie.Need-returns Inv-loop μ-loop
 returns c = let a = c .before .before .before .before .args in
     let l = c .before .before .loop in
-    sym (l .inv .2 ∙ markRun-past (a .on) (l .map) (64 * l .k + l .j) (l .left) (omega (arith, ltb-false)))
+    sym (l .inv .2 ∙ setRun-past (a .on) (l .map) (64 * l .k + l .j) (l .left) (omega (arith, ltb-false)))
 
 same-length-2 : tie.Need-same-length-2 Inv-loop μ-loop
 same-length-2 c = c .before .loop .inv .1
@@ -60,16 +60,16 @@ same-length-2 c = c .before .loop .inv .1
 returns-2 : tie.Need-returns-2 Inv-loop μ-loop
 returns-2 c = let a = c .before .before .before .args in
     let l = c .before .loop in
-    sym (l .inv .2 ∙ markRun-none (a .on) (l .map) (64 * l .k + l .j) (l .left) (c .loop-test .left))
+    sym (l .inv .2 ∙ setRun-none (a .on) (l .map) (64 * l .k + l .j) (l .left) (c .loop-test .left))
 
-pub mark-run-spec : {M : Type 1} → statement M
-mark-run-spec =
+pub set-run-spec : {M : Type 1} → statement M
+set-run-spec =
     tie.close
     (tie.spec
     Inv-loop
     μ-loop
     loop-holds
-    mark-bit-requires
+    set-bit-requires
     add-j
     add-k
     sub-left
