@@ -13,7 +13,7 @@ use Rattle.words.specs.Logic.{listFrom}
 use Rattle.words.specs.Memory.{Memory, memory, blockAt, byteIn}
 use Rattle.words.proofs.Memory.{block-length, block-outside}
 use Rattle.log.specs.Replay.{Mapped, mappedByte, fileByte}
-use Rattle.points.specs.Sight.{partOf}
+use Rattle.points.specs.Lent.{partOf}
 use Rattle.points.proofs.Copied.{listFrom-same}
 
 -- an index that is not 0 names its block

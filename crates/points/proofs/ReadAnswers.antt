@@ -20,10 +20,10 @@ use Rattle.log.specs.Opening.{replyOf}
 use Rattle.points.specs.declared.Head.{Head}
 use Rattle.points.specs.declared.Count.{Count}
 use Rattle.points.specs.Reading.{seen, readRefusal, readCount, reading, bufferAfter, locateRefusal, located, locating, viewed}
-use Rattle.points.specs.Sight.{sightRefusal, partOf}
+use Rattle.points.specs.Lent.{catchUpRefusal, partOf}
 use Rattle.points.proofs.Copied.{listFrom-same, sets-front}
 use Rattle.points.proofs.FilePieces.{part-block}
-use Rattle.points.proofs.Seeing.{sight-reasons, sight-passed, sight-inside, failed-before}
+use Rattle.points.proofs.CaughtUp.{catch-up-reasons, catch-up-passed, catch-up-inside, failed-before}
 use Rattle.points.proofs.RecordReasons.{first-settled, first-goes-on, settled-before}
 
 -- ---- an answer by its refusal's number
@@ -50,12 +50,12 @@ module _ (E : Edition) (I : List ℕ) (s : Shared) (h : Head) (table : List ℕ)
 
   -- ---- reading: it has no reason of its own
 
-  read-sight : readRefusal E I s h table ≡ sightRefusal E I s h table false
-  unfolding readRefusal sightRefusal
+  read-sight : readRefusal E I s h table ≡ catchUpRefusal E I s h table false
+  unfolding readRefusal catchUpRefusal
   read-sight = refl
 
   module _ (offset : ℕ) (buffer : List ℕ) where
-    module _ (k : ℕ) (e : k ≡ sightRefusal E I s h table false) (ne : k ≢ 0) where
+    module _ (k : ℕ) (e : k ≡ catchUpRefusal E I s h table false) (ne : k ≢ 0) where
       pub read-refused : record { reply = Refused k; count = 0 } ≡ reading E I s h table offset (length buffer)
       unfolding reading readCount
       read-refused = answer-refused (readRefusal E I s h table) (min (length buffer) (file .size - offset)) k (e ∙ sym read-sight) ne
@@ -68,7 +68,7 @@ module _ (E : Edition) (I : List ℕ) (s : Shared) (h : Head) (table : List ℕ)
       unfolding bufferAfter
       read-untouched = rw no-bytes
 
-    module _ (k : ℕ) (e : k ≡ sightRefusal E I s h table false) (z : k ≡ 0) (f : Mapped) (is : f ≡ file) (n : ℕ)
+    module _ (k : ℕ) (e : k ≡ catchUpRefusal E I s h table false) (z : k ≡ 0) (f : Mapped) (is : f ≡ file) (n : ℕ)
         (l : n ≡ min (length buffer) (f .size - offset)) where
       pub read-done : record { reply = Done; count = n } ≡ reading E I s h table offset (length buffer)
       unfolding reading readCount
@@ -99,22 +99,22 @@ module _ (E : Edition) (I : List ℕ) (s : Shared) (h : Head) (table : List ℕ)
     abbrev unmapped : List Reason
     unmapped = 22 when isZero (getD (file .table) v 0) ∷ []
 
-    locate-settled : (k : ℕ) → k ≡ sightRefusal E I s h table past → k ≢ 0 → k ≡ locateRefusal E I s h table v
-    unfolding sightRefusal locateRefusal
+    locate-settled : (k : ℕ) → k ≡ catchUpRefusal E I s h table past → k ≢ 0 → k ≡ locateRefusal E I s h table v
+    unfolding catchUpRefusal locateRefusal
     locate-settled zero e ne = absurd (ne refl)
-    locate-settled (suc k) e ne = sym (settled-before (sight-reasons E I s h table past) unmapped k (sym e))
+    locate-settled (suc k) e ne = sym (settled-before (catch-up-reasons E I s h table past) unmapped k (sym e))
 
-    pub locate-early : (k : ℕ) → k ≡ sightRefusal E I s h table past → k ≢ 0 → record { reply = Refused k; count = 0 } ≡ locating E I s h table v
+    pub locate-early : (k : ℕ) → k ≡ catchUpRefusal E I s h table past → k ≢ 0 → record { reply = Refused k; count = 0 } ≡ locating E I s h table v
     unfolding locating located
     locate-early k e ne = answer-refused (locateRefusal E I s h table v) (getD (file .table) v 0) k (locate-settled k e ne) ne
 
-    module _ (k : ℕ) (e : k ≡ sightRefusal E I s h table past) (z : k ≡ 0) where
+    module _ (k : ℕ) (e : k ≡ catchUpRefusal E I s h table past) (z : k ≡ 0) where
       pub locate-inside : v < 256
-      locate-inside = leb-false 256 v (sight-inside E I s h table past (sym e ∙ z))
+      locate-inside = leb-false 256 v (catch-up-inside E I s h table past (sym e ∙ z))
 
       locate-late : locateRefusal E I s h table v ≡ first unmapped
       unfolding locateRefusal
-      locate-late = failed-before (sight-reasons E I s h table past) unmapped (sight-passed E I s h table past (sym e ∙ z))
+      locate-late = failed-before (catch-up-reasons E I s h table past) unmapped (catch-up-passed E I s h table past (sym e ∙ z))
 
       module _ (f : Mapped) (is : f ≡ file) (b : ℕ) (at : b ≡ getD (f .table) v 0) where
         index-is : b ≡ getD (file .table) v 0
@@ -136,7 +136,7 @@ module _ (E : Edition) (I : List ℕ) (s : Shared) (h : Head) (table : List ℕ)
 
     locate-some : locateRefusal E I s h table v ≡ 0 → getD (file .table) v 0 ≢ 0
     unfolding locateRefusal
-    locate-some r = nonzero (getD (file .table) v 0) (passes (sight-reasons E I s h table past ++ unmapped) refl r 5)
+    locate-some r = nonzero (getD (file .table) v 0) (passes (catch-up-reasons E I s h table past ++ unmapped) refl r 5)
 
     located-is : located E I s h table v ≡ answer (locateRefusal E I s h table v) (getD (file .table) v 0) .count
     unfolding located

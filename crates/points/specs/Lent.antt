@@ -1,13 +1,14 @@
 -- For the contracts of the code, which is lent a record's parts: what it answers, what it settles, and what it asks for.
-use Prim.Native.Nat.{ℕ, _+_, _-_, _≤_, _<_}
+use Prim.Native.Nat.{ℕ, zero, suc, _+_, _-_, _≤_, _<_}
 use mathlib.Core.Path.{_≡_}
 use mathlib.Core.Bool.{Bool, true, false, _&&_}
-use mathlib.Core.List.{List}
-use lib.ListN.{getD}
+use mathlib.Core.List.{List, [], _∷_, _++_}
+use lib.ListN.{length, getD}
 use lib.Dec.{leb, ltb}
 use Rattle.words.specs.Edition.{Edition, one, blocksMax, fileEnd}
+use Rattle.words.specs.Logic.{first, _when_}
 use Rattle.words.specs.Word.{byteOf}
-use Rattle.words.specs.Memory.{Memory, memory, after}
+use Rattle.words.specs.Memory.{Memory, memory, blockAt, after}
 use Rattle.log.specs.declared.Shared.{Shared}
 use Rattle.points.specs.declared.Write.{Write}
 use Rattle.points.specs.declared.Head.{Head}
@@ -17,11 +18,13 @@ use Rattle.points.specs.declared.Stepped.{Stepped}
 use Rattle.points.specs.declared.LentBegun.{LentBegun}
 use Rattle.points.specs.declared.LentStepped.{LentStepped}
 use Rattle.points.specs.declared.Numbers.{Numbers}
+use Rattle.points.specs.declared.Count.{Count}
 use Rattle.points.specs.declared.plan.Plan.{Plan}
-use Rattle.points.specs.Record.{textMax, runBlocks, runWords, pointOf}
+use Rattle.points.specs.Record.{textMax, runWords, pointOf, recordReasons}
 use Rattle.points.specs.Search.{sharedOf, withNext}
 use Rattle.points.specs.Plan.{answered}
 use Rattle.points.specs.Stepping.{stepRefusal, stepping}
+use Rattle.points.specs.Reading.{seen, brokenAhead, reading, bufferAfter}
 
 -- ---- answers: the record is the head that is answered, with the arrays as they are left
 
@@ -47,6 +50,27 @@ Plans part words n taken h table text r = r ≡ part one (memory one words) (sha
 -- no reason of a step holds
 abbrev pub StepsOn : List ℕ → Numbers → List ℕ → Head → List ℕ → Type 0
 StepsOn words n taken h table = stepRefusal one words (sharedOf n taken) h table ≡ 0
+
+-- ---- the file as a point sees it, caught up privately
+
+-- the first of 10, 11, 14 and 18; and of 17 before 18 where a block is asked for that lies past the file
+unfoldable pub catchUpRefusal : Edition → List ℕ → Shared → Head → List ℕ → Bool → ℕ
+catchUpRefusal E words s h table past = first (recordReasons E words s h table ++ 17 when past ∷ brokenAhead E words s h table ∷ [])
+
+-- the reason, 0 for none; and where there is none the table and the length that the point sees
+pub record CatchesUp (words : List ℕ) (s : Shared) (h : Head) (table : List ℕ) (past : Bool) (reason size : ℕ) (left : List ℕ) : Type 0 where
+  pub refusal : reason ≡ catchUpRefusal one words s h table past
+  pub file : reason ≡ 0 → record { table = left; size = size } ≡ seen one words s h table
+
+-- what reading answers, and the buffer after it
+pub record Reads (words : List ℕ) (s : Shared) (h : Head) (table : List ℕ) (offset : ℕ) (buffer : List ℕ) (answer : Count) (left : List ℕ) : Type 0 where
+  pub count : answer ≡ reading one words s h table offset (length buffer)
+  pub bytes : left ≡ bufferAfter one words s h table offset buffer
+
+-- the part of the image that a logical index names: a block, and nothing for 0
+abbrev pub partOf : Memory → ℕ → List ℕ
+partOf m zero = []
+partOf m (suc b) = blockAt m (suc b)
 
 -- ---- what is asked of a write
 

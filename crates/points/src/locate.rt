@@ -17,15 +17,15 @@ fn wide(b: u16) -> u32
 fn find(image: &[u64], shared: Shared, head: Head, table: &mut [u16; 256], v: usize) -> Count
     ensures { λ r. ⌜ r ≡ locating one (now (image .entry)) shared head (now (table .entry)) v ⌝ }
 {
-    let sight = crate::sight::see(image, shared, head, table, 256 <= v);
-    if sight.reason != 0 {
-        return crate::sight::refused(sight.reason);
+    let current = crate::current::catch_up(image, shared, head, table, 256 <= v);
+    if current.reason != 0 {
+        return crate::current::refused(current.reason);
     }
     let b = wide(table[v]);
     if b == 0 {
-        return crate::sight::refused(crate::NOT_MAPPED);
+        return crate::current::refused(crate::NOT_MAPPED);
     }
-    crate::sight::counted(b)
+    crate::current::counted(b)
 }
 
 // Locating, with the record's table lent: the logical index of virtual block v.
@@ -50,5 +50,5 @@ pub fn view(image: &[u64], shared: Shared, point: Point, v: usize) -> &[u64]
 {
     let head = point.head;
     let found = locate_lent(image, shared, head, &point.table, v);
-    crate::sight::part(image, found.count as usize)
+    crate::current::part(image, found.count as usize)
 }

@@ -8,7 +8,7 @@ ghost use Rattle.words.specs.Logic.{listFrom};
 ghost use Rattle.words.specs.Word.{byteOf};
 ghost use Rattle.words.specs.Memory.{memory, byteIn};
 ghost use Rattle.log.specs.Replay.{mappedByte, fileByte};
-ghost use Rattle.points.specs.Reading.{reading, bufferAfter};
+ghost use Rattle.points.specs.Lent.{Reads};
 use crate::Count;
 use crate::Head;
 use crate::Point;
@@ -97,7 +97,7 @@ fn copy_block(image: &[u64], b: usize, from: usize, buffer: &mut [u8], at: usize
     requires { ⌜ (from + n ≤ 512) × (at + n ≤ length (now buffer)) ⌝ }
     ensures { λ _. ⌜ now (buffer .exit) ≡ sets (now (buffer .entry)) at (listFrom from n (mappedByte (memory one (now (image .entry))) b)) ⌝ }
 {
-    let part = crate::sight::part(image, b);
+    let part = crate::current::part(image, b);
     if part.len() == 0 {
         clear(buffer, at, n);
         return;
@@ -113,7 +113,7 @@ fn fill(image: &[u64], table: &[u16; 256], offset: usize, buffer: &mut [u8], n: 
     let mut done = 0;
     while done < n {
         let p = offset + done;
-        let b = crate::sight::mapped(table, p / 512);
+        let b = crate::current::mapped(table, p / 512);
         let count = least(n - done, 512 - p % 512);
         copy_block(image, b, p % 512, buffer, done, count);
         done += count;
@@ -139,21 +139,21 @@ pub fn read_lent(
     offset: usize,
     buffer: &mut [u8],
 ) -> Count
-    ensures { λ r. ⌜ (r ≡ reading one (now (image .entry)) shared head (now (table .entry)) offset (length (now (buffer .entry)))) × (now (buffer .exit) ≡ bufferAfter one (now (image .entry)) shared head (now (table .entry)) offset (now (buffer .entry))) ⌝ }
+    ensures { λ r. ⌜ Reads (now (image .entry)) shared head (now (table .entry)) offset (now (buffer .entry)) r (now (buffer .exit)) ⌝ }
 {
     let mut own = *table;
-    let sight = crate::sight::see(image, shared, head, &mut own, false);
-    if sight.reason != 0 {
-        return crate::sight::refused(sight.reason);
+    let current = crate::current::catch_up(image, shared, head, &mut own, false);
+    if current.reason != 0 {
+        return crate::current::refused(current.reason);
     }
-    let n = left(sight.size, offset, buffer.len());
+    let n = left(current.size, offset, buffer.len());
     fill(image, &own, offset, buffer, n);
-    crate::sight::counted(n as u32)
+    crate::current::counted(n as u32)
 }
 
 // Reading.
 pub fn read(image: &[u64], shared: Shared, point: Point, offset: usize, buffer: &mut [u8]) -> Count
-    ensures { λ r. ⌜ (r ≡ reading one (now (image .entry)) shared (point .head) (point .table) offset (length (now (buffer .entry)))) × (now (buffer .exit) ≡ bufferAfter one (now (image .entry)) shared (point .head) (point .table) offset (now (buffer .entry))) ⌝ }
+    ensures { λ r. ⌜ Reads (now (image .entry)) shared (point .head) (point .table) offset (now (buffer .entry)) r (now (buffer .exit)) ⌝ }
 {
     let head = point.head;
     read_lent(image, shared, head, &point.table, offset, buffer)

@@ -7,8 +7,8 @@ use borrow.Author.Needs.{needs}
 use Rattle.points.proofs.locate.find.Statement.{statement}
 use Rattle.points.proofs.locate.find.Tie as tie
 
-see-requires : tie.Need-see-requires
-see-requires c κs = search needs
+catch-up-requires : tie.Need-catch-up-requires
+catch-up-requires c κs = search needs
 
 refused-requires : tie.Need-refused-requires
 refused-requires c κs = search needs
@@ -17,18 +17,18 @@ returns : tie.Need-returns
 returns c =
     let a = c .before .before .before .before .before .before .args in
     let ne = c .before .if1 .taken in
-    c .refused .ensures ∙ locate-early one (a .image .now) (a .shared) (a .head) (a .table .now) (a .v) _ (c .before .before .before .see .ensures .0) ne
+    c .refused .ensures ∙ locate-early one (a .image .now) (a .shared) (a .head) (a .table .now) (a .v) _ (c .before .before .before .catch-up .ensures .refusal) ne
 
 mul-wide : tie.Need-mul-wide
 mul-wide c =
     let a = c .before .before .before .before .before .args in
-    let l = locate-inside one (a .image .now) (a .shared) (a .head) (a .table .now) (a .v) _ (c .before .before .see .ensures .0) (c .if1 .left) in
+    let l = locate-inside one (a .image .now) (a .shared) (a .head) (a .table .now) (a .v) _ (c .before .before .catch-up .ensures .refusal) (c .if1 .left) in
     omega arith
 
 element-copy-out-wide : tie.Need-element-copy-out-wide
 element-copy-out-wide c =
     let a = c .before .before .before .before .before .args in
-    let l = locate-inside one (a .image .now) (a .shared) (a .head) (a .table .now) (a .v) _ (c .before .before .see .ensures .0) (c .if1 .left) in
+    let l = locate-inside one (a .image .now) (a .shared) (a .head) (a .table .now) (a .v) _ (c .before .before .catch-up .ensures .refusal) (c .if1 .left) in
     omega arith
 
 wide-requires : tie.Need-wide-requires
@@ -40,10 +40,10 @@ refused-requires-2 c κs = search needs
 returns-2 : tie.Need-returns-2
 returns-2 c =
     let a = c .before .before .before .before .before .before .before .before .before .args in
-    let see = c .before .before .before .before .before .before .see in
+    let caught = c .before .before .before .before .before .before .catch-up in
     let z = c .before .before .before .before .if1 .left in
     c .refused2 .ensures
-    ∙ locate-unmapped one (a .image .now) (a .shared) (a .head) (a .table .now) (a .v) _ (see .ensures .0) z _ (see .ensures .1 z) _
+    ∙ locate-unmapped one (a .image .now) (a .shared) (a .head) (a .table .now) (a .v) _ (caught .ensures .refusal) z _ (caught .ensures .file z) _
     (c .before .before .wide .ensures) (c .before .if2 .taken)
 
 counted-requires : tie.Need-counted-requires
@@ -52,16 +52,16 @@ counted-requires c κs = search needs
 returns-3 : tie.Need-returns-3
 returns-3 c =
     let a = c .before .before .before .before .before .before .before .before .before .args in
-    let see = c .before .before .before .before .before .before .see in
+    let caught = c .before .before .before .before .before .before .catch-up in
     let z = c .before .before .before .before .if1 .left in
-    c .counted .ensures ∙ locate-found one (a .image .now) (a .shared) (a .head) (a .table .now) (a .v) _ (see .ensures .0) z _ (see .ensures .1 z) _
+    c .counted .ensures ∙ locate-found one (a .image .now) (a .shared) (a .head) (a .table .now) (a .v) _ (caught .ensures .refusal) z _ (caught .ensures .file z) _
     (c .before .before .wide .ensures) (c .before .if2 .left)
 
 pub find-spec : {M : Type 1} → statement M
 find-spec =
     tie.close
     (tie.spec
-    see-requires
+    catch-up-requires
     refused-requires
     returns
     mul-wide

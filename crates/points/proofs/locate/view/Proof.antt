@@ -4,7 +4,7 @@ use Rattle.words.specs.Edition.{one}
 use Rattle.words.specs.Memory.{memory}
 use Rattle.points.specs.declared.Count.{Count}
 use Rattle.points.specs.Reading.{locating}
-use Rattle.points.specs.Sight.{partOf}
+use Rattle.points.specs.Lent.{partOf}
 use Rattle.points.proofs.ReadAnswers.{view-part}
 use borrow.Author.Needs.{needs}
 use Rattle.points.proofs.locate.view.Statement.{statement}

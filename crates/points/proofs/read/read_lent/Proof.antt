@@ -6,8 +6,12 @@ use borrow.Author.Needs.{needs}
 use Rattle.points.proofs.read.read_lent.Statement.{statement}
 use Rattle.points.proofs.read.read_lent.Tie as tie
 
-see-requires : tie.Need-see-requires
-see-requires c κs = search needs
+-- the way back, to the bytes that are filled
+abbrev filled : tie.After-counted → tie.After-fill
+filled c = c .before .before .before
+
+catch-up-requires : tie.Need-catch-up-requires
+catch-up-requires c κs = search needs
 
 refused-requires : tie.Need-refused-requires
 refused-requires c κs = search needs
@@ -15,11 +19,12 @@ refused-requires c κs = search needs
 returns : tie.Need-returns
 returns c =
     let a = c .before .before .before .before .before .before .before .before .args in
-    let e = c .before .before .before .see .ensures .0 in
-    let ne = c .before .if1 .taken in (
-      c .refused .ensures ∙ read-refused one (a .image .now) (a .shared) (a .head) (a .table .now) (a .offset) (a .buffer .now) _ e ne,
-      read-untouched one (a .image .now) (a .shared) (a .head) (a .table .now) (a .offset) (a .buffer .now) _ e ne,
-    )
+    let e = c .before .before .before .catch-up .ensures .refusal in
+    let ne = c .before .if1 .taken in
+    record {
+      count = c .refused .ensures ∙ read-refused one (a .image .now) (a .shared) (a .head) (a .table .now) (a .offset) (a .buffer .now) _ e ne;
+      bytes = read-untouched one (a .image .now) (a .shared) (a .head) (a .table .now) (a .offset) (a .buffer .now) _ e ne;
+    }
 
 left-requires : tie.Need-left-requires
 left-requires c κs = search needs
@@ -38,21 +43,23 @@ same-length c = search needs
 
 returns-2 : tie.Need-returns-2
 returns-2 c =
-    let a = c .before .before .before .before .before .before .before .before .before .before .before .before .before .before .args in
-    let see = c .before .before .before .before .before .before .before .before .before .see in
-    let z = c .before .before .before .before .before .before .before .if1 .left in
-    let n = c .before .before .before .before .before .before .left in (
-      c .counted .ensures ∙ read-done one (a .image .now) (a .shared) (a .head) (a .table .now) (a .offset) (a .buffer .now) _ (see .ensures .0) z _
-          (see .ensures .1 z) _ (n .ensures),
-      read-filled one (a .image .now) (a .shared) (a .head) (a .table .now) (a .offset) (a .buffer .now) _ (see .ensures .0) z _ (see .ensures .1 z) _
-          (n .ensures) _ (c .before .before .before .fill .ensures),
-    )
+    let counted = filled c in
+    let n = counted .before .before .before in
+    let caught = n .before .before .before .catch-up in
+    let z = n .before .if1 .left in
+    let a = n .before .before .before .before .before .before .before .before .args in
+    record {
+      count = c .counted .ensures ∙ read-done one (a .image .now) (a .shared) (a .head) (a .table .now) (a .offset) (a .buffer .now) _ (caught .ensures .refusal) z
+          _ (caught .ensures .file z) _ (n .left .ensures);
+      bytes = read-filled one (a .image .now) (a .shared) (a .head) (a .table .now) (a .offset) (a .buffer .now) _ (caught .ensures .refusal) z _
+          (caught .ensures .file z) _ (n .left .ensures) _ (counted .fill .ensures);
+    }
 
 pub read-lent-spec : {M : Type 1} → statement M
 read-lent-spec =
     tie.close
     (tie.spec
-    see-requires
+    catch-up-requires
     refused-requires
     returns
     left-requires

@@ -1,10 +1,10 @@
--- `points::sight::mapped` meets its contract: an element, or the default past the table. Assumes nothing.
+-- `points::current::mapped` meets its contract: an element, or the default past the table. Assumes nothing.
 use native.Mathlib.Omega.{arith}
 use mathlib.Core.Path.{sym}
 use lib.ListN.{List·getD-eq-default}
 use borrow.Author.Needs.{needs}
-use Rattle.points.proofs.sight.mapped.Statement.{statement}
-use Rattle.points.proofs.sight.mapped.Tie as tie
+use Rattle.points.proofs.current.mapped.Statement.{statement}
+use Rattle.points.proofs.current.mapped.Tie as tie
 
 mul-result : tie.Need-mul-result
 mul-result c = search needs

@@ -3,50 +3,49 @@ ghost use mathlib.Core.Path.{_≡_};
 ghost use lib.ListN.{getD};
 ghost use Rattle.words.specs.Edition.{one};
 ghost use Rattle.words.specs.Memory.{memory};
-ghost use Rattle.points.specs.Reading.{seen};
-ghost use Rattle.points.specs.Sight.{sightRefusal, partOf};
+ghost use Rattle.points.specs.Lent.{CatchesUp, partOf};
 use crate::Count;
 use crate::Head;
 use log::Reply;
 use log::Shared;
 
-// Why the file is not seen, 0 where it is; and its length.
-pub(crate) struct Sight {
+// Why the file is not read, 0 where it is; and its length.
+pub(crate) struct Current {
     pub reason: u32,
     pub size: u32,
 }
 
-fn unseen(reason: u32) -> Sight
+fn refused_by(reason: u32) -> Current
     ensures { λ r. ⌜ r .reason ≡ reason ⌝ }
 {
-    Sight { reason, size: 0 }
+    Current { reason, size: 0 }
 }
 
 // The first of 10, 11, 14, 17 where the block asked for lies past the file, and 18; where there is none, the table is caught up, and the length answered.
-pub(crate) fn see(
+pub(crate) fn catch_up(
     image: &[u64],
     shared: Shared,
     head: Head,
     table: &mut [u16; 256],
     past: bool,
-) -> Sight
-    ensures { λ r. ⌜ (r .reason ≡ sightRefusal one (now (image .entry)) shared head (now (table .entry)) past) × (r .reason ≡ 0 → record { table = now (table .exit); size = r .size } ≡ seen one (now (image .entry)) shared head (now (table .entry))) ⌝ }
+) -> Current
+    ensures { λ r. ⌜ CatchesUp (now (image .entry)) shared head (now (table .entry)) past (r .reason) (r .size) (now (table .exit)) ⌝ }
 {
     let reason = crate::record::unfit(image, shared, head, table);
     if reason != 0 {
-        return unseen(reason);
+        return refused_by(reason);
     }
     if past {
-        return unseen(crate::PAST_END);
+        return refused_by(crate::PAST_END);
     }
     let blocks = shared.blocks;
     let place = head.place;
     let ahead = log::ahead::look(image, blocks, place, 0, 0);
     if ahead.broken {
-        return unseen(log::LOG_BROKEN);
+        return refused_by(log::LOG_BROKEN);
     }
     let size = log::ahead::catch_up(image, blocks, place, table, head.length);
-    Sight { reason: 0, size }
+    Current { reason: 0, size }
 }
 
 // The logical block of a virtual one; 0 where nothing is mapped, and past the table.

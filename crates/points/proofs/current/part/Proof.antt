@@ -1,11 +1,11 @@
--- `points::sight::part` meets its contract: no block for 0, and the block for any other index. Assumes nothing.
+-- `points::current::part` meets its contract: no block for 0, and the block for any other index. Assumes nothing.
 use mathlib.Core.Path.{sym, _∙_}
 use Rattle.words.specs.Edition.{one}
 use Rattle.words.specs.Memory.{memory}
 use Rattle.points.proofs.FilePieces.{part-block}
 use borrow.Author.Needs.{needs}
-use Rattle.points.proofs.sight.part.Statement.{statement}
-use Rattle.points.proofs.sight.part.Tie as tie
+use Rattle.points.proofs.current.part.Statement.{statement}
+use Rattle.points.proofs.current.part.Tie as tie
 
 sub-result : tie.Need-sub-result
 sub-result c = search needs

@@ -1,0 +1,72 @@
+-- Catching up privately: each reason why it is refused, and what a call that catches up knows. Assumes nothing.
+use Prim.Native.Nat.{ℕ, zero, suc}
+use mathlib.Core.Path.{_≡_, refl, sym, ap, _∙_}
+use mathlib.Core.Logic.{_≢_}
+use mathlib.Core.Bool.{Bool, true, false}
+use mathlib.Core.List.{List, [], _∷_, _++_}
+use lib.ListN.{getD}
+use Rattle.words.specs.Edition.{Edition, one}
+use Rattle.words.specs.Logic.{Reason, first, _when_}
+use Rattle.words.specs.Memory.{memory}
+use Rattle.words.proofs.Tests.{no-reason, passes}
+use Rattle.log.specs.declared.Shared.{Shared}
+use Rattle.log.specs.declared.Lookahead.{Lookahead}
+use Rattle.log.specs.declared.Place.{Place}
+use Rattle.log.specs.CatchUp.{Walk, ahead, broken}
+use Rattle.log.specs.Look.{lookaheadOf}
+use Rattle.points.specs.declared.Head.{Head}
+use Rattle.points.specs.Record.{recordReasons, unfit}
+use Rattle.points.specs.Lent.{catchUpRefusal, CatchesUp}
+use Rattle.points.proofs.RecordReasons.{unfit-before, fit-goes-on, first-settled, first-goes-on}
+
+-- reasons that all fail leave it to those that come after
+pub failed-before : (rs more : List Reason) → ((i : ℕ) → getD rs i no-reason .holds ≡ false) → first (rs ++ more) ≡ first more
+failed-before [] more h = refl
+failed-before (r ∷ rs) more h = first-goes-on (r .number) (r .holds) (rs ++ more) (h 0) ∙ failed-before rs more (λ i. h (suc i))
+
+-- a reason that is answered says nothing of the file
+pub refused-as :
+    {words : List ℕ} {s : Shared} {h : Head} {table : List ℕ} {past : Bool} {size : ℕ} {left : List ℕ} (r n : ℕ) → r ≡ n → n ≢ 0
+    → n ≡ catchUpRefusal one words s h table past → CatchesUp words s h table past r size left
+refused-as r n e ne f = record { refusal = e ∙ f; file = λ z. absurd (ne (sym e ∙ z)) }
+
+-- what the walk saw
+pub look-broken : (E : Edition) (seen : Lookahead) (blocks x y : ℕ) (p : Place) (w : Walk) → seen ≡ lookaheadOf E blocks x y p w
+    → seen .broken ≡ broken E blocks w
+unfolding lookaheadOf
+look-broken E seen blocks x y p w e = ap (λ (s : Lookahead). s .broken) e
+
+module _ (E : Edition) (I : List ℕ) (s : Shared) (h : Head) (table : List ℕ) (past : Bool) where
+  abbrev aheadBroken : Bool
+  aheadBroken = broken E (s .blocks) (ahead E (memory E I) (s .blocks) (h .place))
+
+  abbrev pub catch-up-reasons : List Reason
+  catch-up-reasons = recordReasons E I s h table ++ 17 when past ∷ 18 when aheadBroken ∷ []
+
+  pub catch-up-unfit : (n : ℕ) → n ≡ unfit E I s h table → n ≢ 0 → n ≡ catchUpRefusal E I s h table past
+  unfolding catchUpRefusal
+  catch-up-unfit zero e ne = absurd (ne refl)
+  catch-up-unfit (suc n) e ne = sym (unfit-before E I s h table (17 when past ∷ 18 when aheadBroken ∷ []) n (sym e))
+
+  module _ (fit : unfit E I s h table ≡ 0) where
+    pub catch-up-past : past ≡ true → 17 ≡ catchUpRefusal E I s h table past
+    unfolding catchUpRefusal
+    catch-up-past p = sym (fit-goes-on E I s h table fit (17 when past ∷ 18 when aheadBroken ∷ []) ∙ first-settled 17 past (18 when aheadBroken ∷ []) p)
+
+    catch-up-late : past ≡ false → catchUpRefusal E I s h table past ≡ first (18 when aheadBroken ∷ [])
+    unfolding catchUpRefusal
+    catch-up-late p = fit-goes-on E I s h table fit (17 when past ∷ 18 when aheadBroken ∷ []) ∙ first-goes-on 17 past (18 when aheadBroken ∷ []) p
+
+    pub catch-up-broken : past ≡ false → aheadBroken ≡ true → 18 ≡ catchUpRefusal E I s h table past
+    catch-up-broken p b = sym (catch-up-late p ∙ first-settled 18 aheadBroken [] b)
+
+    pub catch-up-clear : past ≡ false → aheadBroken ≡ false → 0 ≡ catchUpRefusal E I s h table past
+    catch-up-clear p b = sym (catch-up-late p ∙ first-goes-on 18 aheadBroken [] b)
+
+  module _ (clear : catchUpRefusal E I s h table past ≡ 0) where
+    pub catch-up-passed : (i : ℕ) → getD catch-up-reasons i no-reason .holds ≡ false
+    unfolding catchUpRefusal
+    catch-up-passed = passes catch-up-reasons refl clear
+
+    pub catch-up-inside : past ≡ false
+    catch-up-inside = catch-up-passed 3
