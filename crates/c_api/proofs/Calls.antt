@@ -29,7 +29,7 @@ use Rattle.c_api.specs.declared.Answer.{Answer}
 use Rattle.c_api.specs.declared.Count.{Count}
 use Rattle.c_api.specs.Numbers.{answerNumbers, countNumbers, headNumbers, headFrom, isKnown, leadNumbers, sharedNumbers, leadFrom, sharedFrom}
 use Rattle.c_api.specs.Numbers.{SharedLent, PointLent, sharedIn, lendShared, lendPoint}
-use Rattle.c_api.specs.Calls.{PointLeft, StepLeft, SharedLeft, left, stepLeft, sharedLeft, readLeft, unknown, ifKnown}
+use Rattle.c_api.specs.Calls.{StepLeft, left, pointLeft, stepLeft, sharedLeft, readLeft, unknown, ifKnown}
 use Rattle.c_api.specs.Calls.{joinFor, beginFor, stepFor, leaveFor, readFor, locateFor}
 
 pub number-back : (n : ℕ) → numberOf (replyOf n) ≡ n
@@ -100,19 +100,14 @@ module _ (words : List ℕ) (s : SharedLent) (p : PointLent) where
           → (n : ℕ) → n ≡ numberOf (y .reply) → (xs hs : List ℕ) → xs ≡ sharedNumbers (y .shared) → hs ≡ headNumbers (y .head)
           → left n (lentAs xs (y .shared .taken)) (pointAs hs table text) ≡ beginFor words s p offset bytes
       begin-known offset bytes y table text e n en xs hs es eh′ =
-          rw (en, es, eh′) (ap left-by e ∙ rw (ex, eh) (is-known _ _))
-        where
-          left-by : Begun → PointLeft
-          left-by b = left (numberOf (b .reply)) (lendShared (b .shared)) (lendPoint (b .point))
+          rw (en, es, eh′) (ap (λ (b : Begun). pointLeft (b .reply) (b .shared) (b .point)) e ∙ rw (ex, eh) (is-known _ _))
 
       pub leave-known :
           (y : Left) → y ≡ leaving one words x (pointOf h (p .table) (p .text))
           → (n : ℕ) → n ≡ numberOf (y .reply) → (xs : List ℕ) → xs ≡ sharedNumbers (y .shared)
           → sharedLeft n (lentAs xs (y .shared .taken)) ≡ leaveFor words s p
-      leave-known y e n en xs es = rw (en, es) (ap left-by e ∙ rw (ex, eh) (is-known _ _))
-        where
-          left-by : Left → SharedLeft
-          left-by l = sharedLeft (numberOf (l .reply)) (lendShared (l .shared))
+      leave-known y e n en xs es =
+          rw (en, es) (ap (λ (l : Left). sharedLeft (numberOf (l .reply)) (lendShared (l .shared))) e ∙ rw (ex, eh) (is-known _ _))
 
       pub read-known :
           (offset : ℕ) (buffer : List ℕ) (y : counted.Count) (r : Count) (bytes : List ℕ)

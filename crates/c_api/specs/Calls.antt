@@ -7,7 +7,10 @@ use lib.ListN.{length}
 use Rattle.words.specs.Edition.{one}
 use Rattle.words.specs.Logic.{first, _when_}
 use Rattle.words.specs.Memory.{after}
+use Rattle.log.specs.declared.Shared.{Shared}
+use Rattle.log.specs.declared.Reply.{Reply}
 use Rattle.log.specs.Opening.{numberOf, opened, scratchAfter}
+use Rattle.points.specs.declared.Point.{Point}
 use Rattle.points.specs.declared.StepAnswer.the-variants.{Refused}
 use Rattle.points.specs.Record.{badShared}
 use Rattle.points.specs.Calls.{joining, beginning, leaving}
@@ -41,6 +44,9 @@ pub record PointLeft : Type 0 where
 abbrev pub left : ℕ → SharedLent → PointLent → PointLeft
 left n s p = record { refused = n; shared = s; point = p }
 
+abbrev pub pointLeft : Reply → Shared → Point → PointLeft
+pointLeft reply s p = left (numberOf reply) (lendShared s) (lendPoint p)
+
 -- a step's answer, the image and both records
 pub record StepLeft : Type 0 where
   pub answer : Answer
@@ -67,29 +73,32 @@ pub record ReadLeft : Type 0 where
 abbrev pub readLeft : Count → List ℕ → ReadLeft
 readLeft c bytes = record { answer = c; buffer = bytes }
 
--- ---- the calls
+-- ---- joining, which is handed no record
 
 abbrev pub joinFor : List ℕ → SharedLent → ℕ → PointLeft
 joinFor words s number =
     let j = joining one words (sharedIn s) number in
-    left (numberOf (j .reply)) (lendShared (j .shared)) (lendPoint (j .point))
+    pointLeft (j .reply) (j .shared) (j .point)
+
+-- ---- the calls with a record
 
 -- why a call is refused whose record's numbers are none: 11, and 10 before it
 abbrev pub unknown : List ℕ → List ℕ → List ℕ → ℕ
 unknown words shared taken = first (10 when badShared one words (sharedFrom shared taken) ∷ 11 when true ∷ [])
 
+-- what a refused reading or locating answers
 abbrev pub noCount : ℕ → Count
 noCount n = record { refused = n; count = 0 }
 
 module _ (words : List ℕ) (s : SharedLent) (p : PointLent) where
-  -- what is left where the numbers are a point's record, and where they are none
+  -- what is left where the numbers are a point's record; and, by its number, of a refusal where they are none: all as it was
   unfoldable pub ifKnown : {X : Type 0} → X → (ℕ → X) → X
   ifKnown served refused = elim (isKnown (p .head)) [ true ↦ served | false ↦ refused (unknown words (s .numbers) (s .taken)) ]
 
   abbrev pub beginFor : ℕ → List ℕ → PointLeft
   beginFor offset bytes =
       let b = beginning one words (sharedIn s) (pointIn p) offset bytes in
-      ifKnown (left (numberOf (b .reply)) (lendShared (b .shared)) (lendPoint (b .point))) (λ n. left n s p)
+      ifKnown (pointLeft (b .reply) (b .shared) (b .point)) (λ n. left n s p)
 
   abbrev pub stepFor : StepLeft
   stepFor =
