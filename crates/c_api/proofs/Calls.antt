@@ -1,8 +1,10 @@
 -- The ways out of each call: refused where the record's numbers are none, else as the call with the record answers. Assumes nothing.
 use Prim.Native.Nat.{ℕ, zero, suc}
 use mathlib.Core.Path.{_≡_, refl, sym, _∙_, ap}
-use mathlib.Core.Bool.{true, false}
+use mathlib.Core.Bool.{Bool, true, false, not}
 use mathlib.Core.List.{List}
+use lib.ListN.{length}
+use borrow.Author.Tests.{not-true, not-false}
 use Rattle.words.specs.Edition.{one}
 use Rattle.words.specs.Memory.{after}
 use Rattle.words.proofs.Choice.{choose-true, choose-false}
@@ -17,16 +19,18 @@ use Rattle.points.specs.declared.Stepped.{Stepped}
 use Rattle.points.specs.declared.Left.{Left}
 use Rattle.points.specs.declared.LentBegun.{LentBegun}
 use Rattle.points.specs.declared.LentStepped.{LentStepped}
-use Rattle.points.specs.Record.{badShared, noText, pointOf}
+use Rattle.points.specs.Record.{badShared, pointOf}
 use Rattle.points.specs.Calls.{joining, beginning, leaving}
-use Rattle.points.specs.Plan.{answered}
-use Rattle.points.specs.Stepping.{stepping, stepKind, stepValue}
+use Rattle.points.specs.Stepping.{stepping}
 use Rattle.points.specs.Search.{sharedOf, withNext}
-use Rattle.points.specs.Lent.{begunOf, steppedOf}
+use Rattle.points.specs.Lent.{begunOf, steppedOf, StepLeaves}
 use Rattle.points.specs.Reading.{reading, bufferAfter, locating}
+use Rattle.c_api.specs.declared.Answer.{Answer}
 use Rattle.c_api.specs.declared.Count.{Count}
-use Rattle.c_api.specs.Numbers.{answerNumbers, countNumbers, headNumbers, headFrom, isKnown, sharedNumbers, leadFrom, sharedFrom}
-use Rattle.c_api.specs.Calls.{PointLeft, StepLeft, unknown, pointLeft, sharedLeft, joinFor, beginFor, stepFor, leaveFor, readFor, bufferFor, locateFor}
+use Rattle.c_api.specs.Numbers.{answerNumbers, countNumbers, headNumbers, headFrom, isKnown, leadNumbers, sharedNumbers, leadFrom, sharedFrom}
+use Rattle.c_api.specs.Numbers.{SharedLent, PointLent, sharedIn, lendShared, lendPoint}
+use Rattle.c_api.specs.Calls.{StepLeft, left, pointLeft, stepLeft, sharedLeft, readLeft, unknown, ifKnown}
+use Rattle.c_api.specs.Calls.{joinFor, beginFor, stepFor, leaveFor, readFor, locateFor}
 
 pub number-back : (n : ℕ) → numberOf (replyOf n) ≡ n
 number-back zero = refl
@@ -40,99 +44,78 @@ module _ (words shared taken : List ℕ) where
   pub unknown-11 : badShared one words (sharedFrom shared taken) ≡ false → 11 ≡ unknown words shared taken
   unknown-11 e = rw e
 
-  pub join-as :
-      (s : Shared) → s ≡ sharedFrom shared taken → (number : ℕ) (j : Joined) → j ≡ joining one words s number → (n : ℕ) → n ≡ numberOf (j .reply)
-      → (xs hs : List ℕ) → xs ≡ sharedNumbers (j .shared) → hs ≡ headNumbers (j .point .head)
-      → record { refused = n; shared = xs; taken = j .shared .taken; head = hs; table = j .point .table; text = j .point .text } ≡ joinFor words shared taken number
-  unfolding joinFor
-  join-as s es number j e n en xs hs ex eh = rw (en, ex, eh, e, es)
+-- what the code's test b says of a fact k
+module _ {b k : Bool} (e : b ≡ k) where
+  pub tests-none : not b ≡ true → k ≡ false
+  tests-none t = sym e ∙ not-true _ t
 
-  module _ (head : List ℕ) where
-    -- ---- the numbers are none
+  pub tests-known : not b ≡ false → k ≡ true
+  tests-known t = sym e ∙ not-false _ t
 
-    module _ (none : isKnown head ≡ false) (n : ℕ) (e : n ≡ unknown words shared taken) where
-      pub begin-none :
-          (table text : List ℕ) (offset : ℕ) (bytes : List ℕ)
-          → record { refused = n; shared = shared; taken = taken; head = head; table = table; text = text } ≡ beginFor words shared taken head table text offset bytes
-      unfolding beginFor
-      begin-none table text offset bytes = rw e (sym (choose-false (isKnown head) _ _ none))
+-- what is left of records whose parts are these
+abbrev lentAs : List ℕ → List ℕ → SharedLent
+lentAs numbers taken = record { numbers = numbers; taken = taken }
 
-      pub step-none :
-          (table text : List ℕ)
-          → record { answer = record { kind = 5; value = n }; shared = shared; taken = taken; head = head; table = table; text = text; image = words } ≡ stepFor words shared taken head table text
-      unfolding stepFor
-      step-none table text = rw e (sym (choose-false (isKnown head) _ _ none))
+abbrev pointAs : List ℕ → List ℕ → List ℕ → PointLent
+pointAs head table text = record { head = head; table = table; text = text }
 
-      pub leave-none : (table : List ℕ) → record { refused = n; shared = shared; taken = taken } ≡ leaveFor words shared taken head table
-      unfolding leaveFor
-      leave-none table = rw e (sym (choose-false (isKnown head) _ _ none))
+pub join-as :
+    (words : List ℕ) (s : SharedLent) (number : ℕ) (x : Shared) → x ≡ sharedIn s → (j : Joined) → j ≡ joining one words x number
+    → (n : ℕ) → n ≡ numberOf (j .reply) → (xs hs : List ℕ) → xs ≡ sharedNumbers (j .shared) → hs ≡ headNumbers (j .point .head)
+    → left n (lentAs xs (j .shared .taken)) (pointAs hs (j .point .table) (j .point .text)) ≡ joinFor words s number
+join-as words s number x ex j e n en xs hs es eh = rw (en, es, eh, e, ex)
 
-      pub read-none : (table : List ℕ) (offset room : ℕ) → record { refused = n; count = 0 } ≡ readFor words shared taken head table offset room
-      unfolding readFor
-      read-none table offset room = rw e (sym (choose-false (isKnown head) _ _ none))
+module _ (words : List ℕ) (s : SharedLent) (p : PointLent) where
+  -- the numbers are none
+  pub is-none :
+      {X : Type 0} (served : X) (refused : ℕ → X) → isKnown (p .head) ≡ false → (n : ℕ) → n ≡ unknown words (s .numbers) (s .taken)
+      → refused n ≡ ifKnown words s p served refused
+  unfolding ifKnown
+  is-none served refused none n e = rw e (sym (choose-false (isKnown (p .head)) _ _ none))
 
-      pub buffer-none : (table : List ℕ) (offset : ℕ) (buffer : List ℕ) → buffer ≡ bufferFor words shared taken head table offset buffer
-      unfolding bufferFor
-      buffer-none table offset buffer = sym (choose-false (isKnown head) _ _ none)
+  -- they are a record's
+  module _ (known : isKnown (p .head) ≡ true) (h : Head) (eh : h ≡ headFrom (p .head)) where
+    is-known : {X : Type 0} (served : X) (refused : ℕ → X) → served ≡ ifKnown words s p served refused
+    unfolding ifKnown
+    is-known served refused = sym (choose-true (isKnown (p .head)) _ _ known)
 
-      pub locate-none : (table : List ℕ) (block : ℕ) → record { refused = n; count = 0 } ≡ locateFor words shared taken head table block
-      unfolding locateFor
-      locate-none table block = rw e (sym (choose-false (isKnown head) _ _ none))
+    pub step-known :
+        (lead : Numbers) → lead ≡ leadFrom (s .numbers) → (y : LentStepped) (taken table text image : List ℕ)
+        → StepLeaves words (sharedOf lead (s .taken)) (pointOf h (p .table) (p .text)) (steppedOf lead y taken table text) image
+        → (a : Answer) → a ≡ answerNumbers (y .step)
+        → (xs hs : List ℕ) → xs ≡ leadNumbers (withNext lead (y .next)) → hs ≡ headNumbers (y .head)
+        → stepLeft a image (lentAs xs taken) (pointAs hs table text) ≡ stepFor words s p
+    step-known lead el y taken table text image e a ea xs hs ex eh′ =
+        rw (ea, ex, eh′, e .stored) (ap left-by (e .answers) ∙ rw (el, eh) (is-known _ _))
+      where
+        left-by : Stepped → StepLeft
+        left-by x =
+            stepLeft (answerNumbers (x .step)) (after one words (stepping one words (sharedOf lead (s .taken)) (pointOf h (p .table) (p .text)) .store))
+            (lendShared (x .shared)) (lendPoint (x .point))
 
-    -- ---- they are a record's
+    module _ (x : Shared) (ex : x ≡ sharedIn s) where
+      pub begin-known :
+          (offset : ℕ) (bytes : List ℕ) (y : LentBegun) (table text : List ℕ)
+          → begunOf y table text ≡ beginning one words x (pointOf h (p .table) (p .text)) offset bytes
+          → (n : ℕ) → n ≡ numberOf (y .reply) → (xs hs : List ℕ) → xs ≡ sharedNumbers (y .shared) → hs ≡ headNumbers (y .head)
+          → left n (lentAs xs (y .shared .taken)) (pointAs hs table text) ≡ beginFor words s p offset bytes
+      begin-known offset bytes y table text e n en xs hs es eh′ =
+          rw (en, es, eh′) (ap (λ (b : Begun). pointLeft (b .reply) (b .shared) (b .point)) e ∙ rw (ex, eh) (is-known _ _))
 
-    module _ (known : isKnown head ≡ true) (h : Head) (eh : h ≡ headFrom head) where
-      pub step-some :
-          (lead : Numbers) → lead ≡ leadFrom shared → (table text : List ℕ) (left : LentStepped) (taken′ table′ text′ image : List ℕ) (kind value : ℕ) (hs : List ℕ)
-          → steppedOf lead left taken′ table′ text′ ≡ answered (stepping one words (sharedOf lead taken) (pointOf h table text))
-          → image ≡ after one words (stepping one words (sharedOf lead taken) (pointOf h table text) .store)
-          → kind ≡ stepKind (left .step) → value ≡ stepValue (left .step) → hs ≡ headNumbers (left .head)
-          → record { answer = record { kind = kind; value = value }; shared = sharedNumbers (sharedOf (withNext lead (left .next)) taken′); taken = taken′; head = hs; table = table′; text = text′; image = image }
-          ≡ stepFor words shared taken head table text
-      unfolding stepFor
-      step-some lead el table text left taken′ table′ text′ image kind value hs e ei ek ev en =
-          rw (ek, ev, en, ei) (ap left-by e ∙ rw (el, eh) (sym (choose-true (isKnown head) _ _ known)))
-        where
-          left-by : Stepped → StepLeft
-          left-by x =
-              record {
-                answer = answerNumbers (x .step);
-                shared = sharedNumbers (x .shared);
-                taken = x .shared .taken;
-                head = headNumbers (x .point .head);
-                table = x .point .table;
-                text = x .point .text;
-                image = after one words (stepping one words (sharedOf lead taken) (pointOf h table text) .store);
-              }
+      pub leave-known :
+          (y : Left) → y ≡ leaving one words x (pointOf h (p .table) (p .text))
+          → (n : ℕ) → n ≡ numberOf (y .reply) → (xs : List ℕ) → xs ≡ sharedNumbers (y .shared)
+          → sharedLeft n (lentAs xs (y .shared .taken)) ≡ leaveFor words s p
+      leave-known y e n en xs es =
+          rw (en, es) (ap (λ (l : Left). sharedLeft (numberOf (l .reply)) (lendShared (l .shared))) e ∙ rw (ex, eh) (is-known _ _))
 
-      module _ (s : Shared) (es : s ≡ sharedFrom shared taken) where
-        pub begin-some :
-            (table text : List ℕ) (offset : ℕ) (bytes : List ℕ) (left : LentBegun) (table′ text′ : List ℕ) (n : ℕ) (xs hs : List ℕ)
-            → begunOf left table′ text′ ≡ beginning one words s (pointOf h table text) offset bytes
-            → n ≡ numberOf (left .reply) → xs ≡ sharedNumbers (left .shared) → hs ≡ headNumbers (left .head)
-            → record { refused = n; shared = xs; taken = left .shared .taken; head = hs; table = table′; text = text′ } ≡ beginFor words shared taken head table text offset bytes
-        unfolding beginFor
-        begin-some table text offset bytes left table′ text′ n xs hs e en ex eh′ =
-            rw (en, ex, eh′) (ap (λ (b : Begun). pointLeft (b .reply) (b .shared) (b .point)) e ∙ rw (es, eh) (sym (choose-true (isKnown head) _ _ known)))
+      pub read-known :
+          (offset : ℕ) (buffer : List ℕ) (y : counted.Count) (r : Count) (bytes : List ℕ)
+          → y ≡ reading one words x h (p .table) offset (length buffer) → bytes ≡ bufferAfter one words x h (p .table) offset buffer
+          → r ≡ countNumbers y → readLeft r bytes ≡ readFor words s p offset buffer
+      read-known offset buffer y r bytes e eb er = rw (er, e, eb, ex, eh) (is-known _ _)
 
-        pub leave-some :
-            (table : List ℕ) (left : Left) (n : ℕ) (xs : List ℕ) → left ≡ leaving one words s (pointOf h table noText) → n ≡ numberOf (left .reply) → xs ≡ sharedNumbers (left .shared)
-            → record { refused = n; shared = xs; taken = left .shared .taken } ≡ leaveFor words shared taken head table
-        unfolding leaveFor
-        leave-some table left n xs e en ex = rw (en, ex) (ap sharedLeft e ∙ rw (es, eh) (sym (choose-true (isKnown head) _ _ known)))
-
-        pub read-some :
-            (table : List ℕ) (offset room : ℕ) (c : counted.Count) (r : Count) → c ≡ reading one words s h table offset room → r ≡ countNumbers c
-            → r ≡ readFor words shared taken head table offset room
-        unfolding readFor
-        read-some table offset room c r e er = rw (er, e, es, eh) (sym (choose-true (isKnown head) _ _ known))
-
-        pub buffer-some :
-            (table : List ℕ) (offset : ℕ) (buffer left : List ℕ) → left ≡ bufferAfter one words s h table offset buffer → left ≡ bufferFor words shared taken head table offset buffer
-        unfolding bufferFor
-        buffer-some table offset buffer left e = rw (e, es, eh) (sym (choose-true (isKnown head) _ _ known))
-
-        pub locate-some :
-            (table : List ℕ) (block : ℕ) (c : counted.Count) (r : Count) → c ≡ locating one words s h table block → r ≡ countNumbers c → r ≡ locateFor words shared taken head table block
-        unfolding locateFor
-        locate-some table block c r e er = rw (er, e, es, eh) (sym (choose-true (isKnown head) _ _ known))
+      pub locate-known :
+          (block : ℕ) (y : counted.Count) (r : Count)
+          → y ≡ locating one words x h (p .table) block → r ≡ countNumbers y → r ≡ locateFor words s p block
+      locate-known block y r e er = rw (er, e, ex, eh) (is-known _ _)

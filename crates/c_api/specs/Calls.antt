@@ -1,120 +1,121 @@
 -- What the calls answer and leave, in numbers. Each is document 01's, but for a record whose numbers are no record's: it does not fit.
 use Prim.Native.Nat.{ℕ}
+use mathlib.Core.Path.{_≡_}
 use mathlib.Core.Bool.{true, false}
 use mathlib.Core.List.{List, [], _∷_}
+use lib.ListN.{length}
 use Rattle.words.specs.Edition.{one}
 use Rattle.words.specs.Logic.{first, _when_}
 use Rattle.words.specs.Memory.{after}
 use Rattle.log.specs.declared.Shared.{Shared}
 use Rattle.log.specs.declared.Reply.{Reply}
-use Rattle.log.specs.Opening.{numberOf}
+use Rattle.log.specs.Opening.{numberOf, opened, scratchAfter}
 use Rattle.points.specs.declared.Point.{Point}
-use Rattle.points.specs.declared.Left.{Left}
-use Rattle.points.specs.Record.{badShared, noText, pointOf}
+use Rattle.points.specs.declared.StepAnswer.the-variants.{Refused}
+use Rattle.points.specs.Record.{badShared}
 use Rattle.points.specs.Calls.{joining, beginning, leaving}
-use Rattle.points.specs.Plan.{Outcome}
 use Rattle.points.specs.Stepping.{stepping}
 use Rattle.points.specs.Reading.{reading, bufferAfter, locating}
+use Rattle.c_api.specs.declared.Opened.{Opened}
 use Rattle.c_api.specs.declared.Answer.{Answer}
 use Rattle.c_api.specs.declared.Count.{Count}
-use Rattle.c_api.specs.Numbers.{answerNumbers, countNumbers, headNumbers, headFrom, isKnown, sharedNumbers, sharedFrom}
+use Rattle.c_api.specs.Numbers.{openedNumbers, answerNumbers, countNumbers, headFrom, isKnown, sharedFrom}
+use Rattle.c_api.specs.Numbers.{SharedLent, PointLent, sharedIn, pointIn, lendShared, lendPoint}
+
+-- ---- opening and listing
+
+-- opening's answer, and the scratch as opening leaves it
+pub record Opens (words scratch : List ℕ) (answer : Opened) (scratch′ : List ℕ) : Type 0 where
+  pub answers : answer ≡ openedNumbers (opened one words scratch)
+  pub marks : scratch′ ≡ scratchAfter one words scratch
+
+-- the shared record that opening makes
+abbrev pub sharedFor : List ℕ → List ℕ → SharedLent
+sharedFor words scratch = lendShared (opened one words scratch .shared)
+
+-- ---- what calls leave
+
+-- the refusal's number, and both records
+pub record PointLeft : Type 0 where
+  pub refused : ℕ
+  pub shared : SharedLent
+  pub point : PointLent
+
+abbrev pub left : ℕ → SharedLent → PointLent → PointLeft
+left n s p = record { refused = n; shared = s; point = p }
+
+abbrev pub pointLeft : Reply → Shared → Point → PointLeft
+pointLeft reply s p = left (numberOf reply) (lendShared s) (lendPoint p)
+
+-- a step's answer, the image and both records
+pub record StepLeft : Type 0 where
+  pub answer : Answer
+  pub image : List ℕ
+  pub shared : SharedLent
+  pub point : PointLent
+
+abbrev pub stepLeft : Answer → List ℕ → SharedLent → PointLent → StepLeft
+stepLeft a words s p = record { answer = a; image = words; shared = s; point = p }
+
+-- the refusal's number, and the shared record
+pub record SharedLeft : Type 0 where
+  pub refused : ℕ
+  pub shared : SharedLent
+
+abbrev pub sharedLeft : ℕ → SharedLent → SharedLeft
+sharedLeft n s = record { refused = n; shared = s }
+
+-- the count that reading answers, and the buffer
+pub record ReadLeft : Type 0 where
+  pub answer : Count
+  pub buffer : List ℕ
+
+abbrev pub readLeft : Count → List ℕ → ReadLeft
+readLeft c bytes = record { answer = c; buffer = bytes }
+
+-- ---- joining, which is handed no record
+
+abbrev pub joinFor : List ℕ → SharedLent → ℕ → PointLeft
+joinFor words s number =
+    let j = joining one words (sharedIn s) number in
+    pointLeft (j .reply) (j .shared) (j .point)
+
+-- ---- the calls with a record
 
 -- why a call is refused whose record's numbers are none: 11, and 10 before it
 abbrev pub unknown : List ℕ → List ℕ → List ℕ → ℕ
 unknown words shared taken = first (10 when badShared one words (sharedFrom shared taken) ∷ 11 when true ∷ [])
 
--- ---- joining and beginning
+-- what a refused reading or locating answers
+abbrev pub noCount : ℕ → Count
+noCount n = record { refused = n; count = 0 }
 
--- the refusal's number, and both records as they are left
-pub record PointLeft : Type 0 where
-  pub refused : ℕ
-  pub shared : List ℕ
-  pub taken : List ℕ
-  pub head : List ℕ
-  pub table : List ℕ
-  pub text : List ℕ
+module _ (words : List ℕ) (s : SharedLent) (p : PointLent) where
+  -- what is left where the numbers are a point's record; and, by its number, of a refusal where they are none: all as it was
+  unfoldable pub ifKnown : {X : Type 0} → X → (ℕ → X) → X
+  ifKnown served refused = elim (isKnown (p .head)) [ true ↦ served | false ↦ refused (unknown words (s .numbers) (s .taken)) ]
 
-abbrev pub pointLeft : Reply → Shared → Point → PointLeft
-pointLeft reply s p =
-    record { refused = numberOf reply; shared = sharedNumbers s; taken = s .taken; head = headNumbers (p .head); table = p .table; text = p .text }
+  abbrev pub beginFor : ℕ → List ℕ → PointLeft
+  beginFor offset bytes =
+      let b = beginning one words (sharedIn s) (pointIn p) offset bytes in
+      ifKnown (pointLeft (b .reply) (b .shared) (b .point)) (λ n. left n s p)
 
-unfoldable pub joinFor : List ℕ → List ℕ → List ℕ → ℕ → PointLeft
-joinFor words shared taken number = let j = joining one words (sharedFrom shared taken) number in pointLeft (j .reply) (j .shared) (j .point)
+  abbrev pub stepFor : StepLeft
+  stepFor =
+      let o = stepping one words (sharedIn s) (pointIn p) in
+      ifKnown (stepLeft (answerNumbers (o .step)) (after one words (o .store)) (lendShared (o .shared)) (lendPoint (o .point)))
+      (λ n. stepLeft (answerNumbers (Refused n)) words s p)
 
-unfoldable pub beginFor : List ℕ → List ℕ → List ℕ → List ℕ → List ℕ → List ℕ → ℕ → List ℕ → PointLeft
-beginFor words shared taken head table text offset bytes =
-    let b = beginning one words (sharedFrom shared taken) (pointOf (headFrom head) table text) offset bytes in
-    elim (isKnown head) [
-      | true ↦ pointLeft (b .reply) (b .shared) (b .point)
-      | false ↦ record { refused = unknown words shared taken; shared = shared; taken = taken; head = head; table = table; text = text }
-    ]
+  abbrev pub leaveFor : SharedLeft
+  leaveFor =
+      let l = leaving one words (sharedIn s) (pointIn p) in
+      ifKnown (sharedLeft (numberOf (l .reply)) (lendShared (l .shared))) (λ n. sharedLeft n s)
 
--- ---- stepping
+  abbrev pub readFor : ℕ → List ℕ → ReadLeft
+  readFor offset buffer =
+      let h = headFrom (p .head) in
+      let count = countNumbers (reading one words (sharedIn s) h (p .table) offset (length buffer)) in
+      ifKnown (readLeft count (bufferAfter one words (sharedIn s) h (p .table) offset buffer)) (λ n. readLeft (noCount n) buffer)
 
--- the answer, both records and the image as they are left
-pub record StepLeft : Type 0 where
-  pub answer : Answer
-  pub shared : List ℕ
-  pub taken : List ℕ
-  pub head : List ℕ
-  pub table : List ℕ
-  pub text : List ℕ
-  pub image : List ℕ
-
-abbrev pub stepLeft : List ℕ → Outcome → StepLeft
-stepLeft words o =
-    record {
-      answer = answerNumbers (o .step);
-      shared = sharedNumbers (o .shared);
-      taken = o .shared .taken;
-      head = headNumbers (o .point .head);
-      table = o .point .table;
-      text = o .point .text;
-      image = after one words (o .store);
-    }
-
-unfoldable pub stepFor : List ℕ → List ℕ → List ℕ → List ℕ → List ℕ → List ℕ → StepLeft
-stepFor words shared taken head table text =
-    elim (isKnown head) [
-      | true ↦ stepLeft words (stepping one words (sharedFrom shared taken) (pointOf (headFrom head) table text))
-      | false ↦
-          record { answer = record { kind = 5; value = unknown words shared taken }; shared = shared; taken = taken; head = head; table = table; text = text; image = words }
-    ]
-
--- ---- leaving
-
-pub record SharedLeft : Type 0 where
-  pub refused : ℕ
-  pub shared : List ℕ
-  pub taken : List ℕ
-
-abbrev pub sharedLeft : Left → SharedLeft
-sharedLeft l = record { refused = numberOf (l .reply); shared = sharedNumbers (l .shared); taken = l .shared .taken }
-
--- leaving does not look at the text
-unfoldable pub leaveFor : List ℕ → List ℕ → List ℕ → List ℕ → List ℕ → SharedLeft
-leaveFor words shared taken head table =
-    elim (isKnown head) [
-      | true ↦ sharedLeft (leaving one words (sharedFrom shared taken) (pointOf (headFrom head) table noText))
-      | false ↦ record { refused = unknown words shared taken; shared = shared; taken = taken }
-    ]
-
--- ---- reading and locating
-
-unfoldable pub readFor : List ℕ → List ℕ → List ℕ → List ℕ → List ℕ → ℕ → ℕ → Count
-readFor words shared taken head table offset room =
-    elim (isKnown head) [
-      | true ↦ countNumbers (reading one words (sharedFrom shared taken) (headFrom head) table offset room)
-      | false ↦ record { refused = unknown words shared taken; count = 0 }
-    ]
-
-unfoldable pub bufferFor : List ℕ → List ℕ → List ℕ → List ℕ → List ℕ → ℕ → List ℕ → List ℕ
-bufferFor words shared taken head table offset buffer =
-    elim (isKnown head) [ true ↦ bufferAfter one words (sharedFrom shared taken) (headFrom head) table offset buffer | false ↦ buffer ]
-
-unfoldable pub locateFor : List ℕ → List ℕ → List ℕ → List ℕ → List ℕ → ℕ → Count
-locateFor words shared taken head table block =
-    elim (isKnown head) [
-      | true ↦ countNumbers (locating one words (sharedFrom shared taken) (headFrom head) table block)
-      | false ↦ record { refused = unknown words shared taken; count = 0 }
-    ]
+  abbrev pub locateFor : ℕ → Count
+  locateFor block = ifKnown (countNumbers (locating one words (sharedIn s) (headFrom (p .head)) (p .table) block)) noCount

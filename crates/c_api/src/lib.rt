@@ -1,12 +1,13 @@
-// The calls for C, as include/store.h declares them. Records are lent as arrays, numbers and enums alike: `shared` is blocks, joined points and next place, `taken` the map;
-// `head` the twelve numbers of a point's record, beside `table` and `text`.
+// The calls for C, as include/store.h declares them. Records are lent as arrays, numbers and enums alike:
+// `shared` is blocks, joined points and next place, `taken` the map; `head` the twelve numbers of a point's record, beside `table` and `text`.
 ghost use mathlib.Core.Path.{_≡_};
-ghost use lib.ListN.{length};
 ghost use Rattle.words.specs.Edition.{one};
-ghost use Rattle.log.specs.Opening.{layoutRefusal, layout, opened, scratchAfter};
+ghost use Rattle.log.specs.Opening.{layoutRefusal, layout};
 ghost use Rattle.log.specs.Listing.{rowsOf};
-ghost use Rattle.c_api.specs.Numbers.{openedNumbers, sharedNumbers};
-ghost use Rattle.c_api.specs.Calls.{joinFor, beginFor, stepFor, leaveFor, readFor, bufferFor, locateFor};
+ghost use Rattle.c_api.specs.Numbers.{sharedLent, pointLent, textless};
+ghost use Rattle.c_api.specs.Calls.{Opens, left, stepLeft, sharedLeft, readLeft};
+ghost use Rattle.c_api.specs.Calls.{sharedFor, joinFor, beginFor, stepFor, leaveFor, readFor, locateFor};
+use points::StepAnswer;
 
 // What opening answers: the refusal's number, 0 for none, length and counts.
 #[repr(C)]
@@ -47,8 +48,8 @@ pub extern "C" fn store_lent_open(
     shared: &mut [u32; 3],
     taken: &mut [u64; 16],
 ) -> Opened
-    ensures { λ r. ⌜ (r ≡ openedNumbers (opened one (now (image .entry)) (now (scratch .entry)))) × (now (scratch .exit) ≡ scratchAfter one (now (image .entry)) (now (scratch .entry)))
-        × (now (shared .exit) ≡ sharedNumbers (opened one (now (image .entry)) (now (scratch .entry)) .shared)) × (now (taken .exit) ≡ opened one (now (image .entry)) (now (scratch .entry)) .shared .taken) ⌝ }
+    ensures { λ r. ⌜ Opens (now (image .entry)) (now (scratch .entry)) r (now (scratch .exit))
+        × (sharedLent (shared .exit) (taken .exit) ≡ sharedFor (now (image .entry)) (now (scratch .entry))) ⌝ }
 {
     let opened = log::open::open(image, scratch);
     let kept = opened.shared;
@@ -60,7 +61,7 @@ pub extern "C" fn store_lent_open(
 
 #[no_mangle]
 pub extern "C" fn store_list(image: &[u64], scratch: &mut [u16], rows: &mut [u16; 256]) -> Opened
-    ensures { λ r. ⌜ (r ≡ openedNumbers (opened one (now (image .entry)) (now (scratch .entry)))) × (now (scratch .exit) ≡ scratchAfter one (now (image .entry)) (now (scratch .entry)))
+    ensures { λ r. ⌜ Opens (now (image .entry)) (now (scratch .entry)) r (now (scratch .exit))
         × (now (rows .exit) ≡ rowsOf one (now (image .entry)) (now (scratch .entry))) ⌝ }
 {
     numbers::of_opened(log::list::listed(image, scratch, rows))
@@ -76,7 +77,8 @@ pub extern "C" fn store_lent_join(
     table: &mut [u16; 256],
     text: &mut [u8; 1024],
 ) -> u32
-    ensures { λ r. ⌜ record { refused = r; shared = now (shared .exit); taken = now (taken .exit); head = now (head .exit); table = now (table .exit); text = now (text .exit) } ≡ joinFor (now (image .entry)) (now (shared .entry)) (now (taken .entry)) number ⌝ }
+    ensures { λ r. ⌜ left r (sharedLent (shared .exit) (taken .exit)) (pointLent (head .exit) (table .exit) (text .exit))
+        ≡ joinFor (now (image .entry)) (sharedLent (shared .entry) (taken .entry)) number ⌝ }
 {
     let joined = points::join::join(image, numbers::shared(shared, taken), number);
     let reply = joined.reply;
@@ -105,8 +107,8 @@ pub extern "C" fn store_lent_begin(
     offset: usize,
     bytes: &[u8],
 ) -> u32
-    ensures { λ r. ⌜ record { refused = r; shared = now (shared .exit); taken = now (taken .exit); head = now (head .exit); table = now (table .exit); text = now (text .exit) }
-        ≡ beginFor (now (image .entry)) (now (shared .entry)) (now (taken .entry)) (now (head .entry)) (now (table .entry)) (now (text .entry)) offset (now (bytes .entry)) ⌝ }
+    ensures { λ r. ⌜ left r (sharedLent (shared .exit) (taken .exit)) (pointLent (head .exit) (table .exit) (text .exit)) ≡ beginFor (now (image .entry))
+        (sharedLent (shared .entry) (taken .entry)) (pointLent (head .entry) (table .entry) (text .entry)) offset (now (bytes .entry)) ⌝ }
 {
     if !numbers::is_known(head) {
         return numbers::unknown(image, shared);
@@ -139,25 +141,20 @@ pub extern "C" fn store_lent_step(
     table: &mut [u16; 256],
     text: &mut [u8; 1024],
 ) -> Answer
-    ensures { λ r. ⌜ record { answer = r; shared = now (shared .exit); taken = now (taken .exit); head = now (head .exit); table = now (table .exit); text = now (text .exit); image = now (image .exit) }
-        ≡ stepFor (now (image .entry)) (now (shared .entry)) (now (taken .entry)) (now (head .entry)) (now (table .entry)) (now (text .entry)) ⌝ }
+    ensures { λ r. ⌜ stepLeft r (now (image .exit)) (sharedLent (shared .exit) (taken .exit)) (pointLent (head .exit) (table .exit) (text .exit))
+        ≡ stepFor (now (image .entry)) (sharedLent (shared .entry) (taken .entry)) (pointLent (head .entry) (table .entry) (text .entry)) ⌝ }
 {
     if !numbers::is_known(head) {
-        return Answer {
-            kind: 5,
-            value: numbers::unknown(image, shared),
-        };
+        return numbers::of_step(StepAnswer::Refused(numbers::unknown(image, shared)));
     }
-    let lead = numbers::lead(shared);
+    let mut lead = numbers::lead(shared);
     let stepped = points::step::step_lent(image, lead, taken, numbers::head(head), table, text);
     let step = stepped.step;
     let left = stepped.head;
-    *shared = [lead.blocks, lead.joined, stepped.next];
+    lead.next = stepped.next;
+    *shared = numbers::of_lead(lead);
     *head = numbers::of_head(left);
-    Answer {
-        kind: numbers::kind(step),
-        value: numbers::value(step),
-    }
+    numbers::of_step(step)
 }
 
 #[no_mangle]
@@ -168,7 +165,8 @@ pub extern "C" fn store_lent_leave(
     head: &[u32; 12],
     table: &[u16; 256],
 ) -> u32
-    ensures { λ r. ⌜ record { refused = r; shared = now (shared .exit); taken = now (taken .exit) } ≡ leaveFor (now (image .entry)) (now (shared .entry)) (now (taken .entry)) (now (head .entry)) (now (table .entry)) ⌝ }
+    ensures { λ r. ⌜ sharedLeft r (sharedLent (shared .exit) (taken .exit))
+        ≡ leaveFor (now (image .entry)) (sharedLent (shared .entry) (taken .entry)) (textless (head .entry) (table .entry)) ⌝ }
 {
     if !numbers::is_known(head) {
         return numbers::unknown(image, shared);
@@ -197,14 +195,11 @@ pub extern "C" fn store_lent_read(
     offset: usize,
     buffer: &mut [u8],
 ) -> Count
-    ensures { λ r. ⌜ (r ≡ readFor (now (image .entry)) (now (shared .entry)) (now (taken .entry)) (now (head .entry)) (now (table .entry)) offset (length (now (buffer .entry))))
-        × (now (buffer .exit) ≡ bufferFor (now (image .entry)) (now (shared .entry)) (now (taken .entry)) (now (head .entry)) (now (table .entry)) offset (now (buffer .entry))) ⌝ }
+    ensures { λ r. ⌜ readLeft r (now (buffer .exit))
+        ≡ readFor (now (image .entry)) (sharedLent (shared .entry) (taken .entry)) (textless (head .entry) (table .entry)) offset (now (buffer .entry)) ⌝ }
 {
     if !numbers::is_known(head) {
-        return Count {
-            refused: numbers::unknown(image, shared),
-            count: 0,
-        };
+        return numbers::no_count(numbers::unknown(image, shared));
     }
     numbers::of_count(points::read::read_lent(
         image,
@@ -225,13 +220,10 @@ pub extern "C" fn store_lent_locate(
     table: &[u16; 256],
     block: usize,
 ) -> Count
-    ensures { λ r. ⌜ r ≡ locateFor (now (image .entry)) (now (shared .entry)) (now (taken .entry)) (now (head .entry)) (now (table .entry)) block ⌝ }
+    ensures { λ r. ⌜ r ≡ locateFor (now (image .entry)) (sharedLent (shared .entry) (taken .entry)) (textless (head .entry) (table .entry)) block ⌝ }
 {
     if !numbers::is_known(head) {
-        return Count {
-            refused: numbers::unknown(image, shared),
-            count: 0,
-        };
+        return numbers::no_count(numbers::unknown(image, shared));
     }
     numbers::of_count(points::locate::locate_lent(
         image,

@@ -5,8 +5,10 @@ ghost use mathlib.Core.List.{List};
 ghost use Prim.Native.Nat.{ℕ};
 ghost use Rattle.log.specs.Opening.{numberOf};
 ghost use Rattle.points.specs.Stepping.{stepKind, stepValue};
-ghost use Rattle.c_api.specs.Numbers.{openedNumbers, countNumbers, headNumbers, headFrom, isKnown, sharedNumbers, leadFrom, sharedFrom};
-ghost use Rattle.c_api.specs.Calls.{unknown};
+ghost use Rattle.c_api.specs.Numbers.{openedNumbers, answerNumbers, countNumbers, headNumbers, headFrom, isKnown};
+ghost use Rattle.c_api.specs.Numbers.{leadNumbers, sharedNumbers, leadFrom, sharedFrom};
+ghost use Rattle.c_api.specs.Calls.{unknown, noCount};
+use crate::Answer;
 use crate::Count;
 use crate::Opened;
 use log::Reply;
@@ -24,7 +26,7 @@ pub(crate) fn of_reply(reply: Reply) -> u32
 }
 
 // Which answer of a step it is; and its value.
-pub(crate) fn kind(step: StepAnswer) -> u32
+fn kind(step: StepAnswer) -> u32
     ensures { λ r. ⌜ r ≡ stepKind step ⌝ }
 {
     match step {
@@ -36,7 +38,7 @@ pub(crate) fn kind(step: StepAnswer) -> u32
     }
 }
 
-pub(crate) fn value(step: StepAnswer) -> u32
+fn value(step: StepAnswer) -> u32
     ensures { λ r. ⌜ r ≡ stepValue step ⌝ }
 {
     match step {
@@ -45,6 +47,15 @@ pub(crate) fn value(step: StepAnswer) -> u32
         StepAnswer::Extending => 0,
         StepAnswer::Committed(retries) => retries as u32,
         StepAnswer::Refused(n) => n,
+    }
+}
+
+pub(crate) fn of_step(step: StepAnswer) -> Answer
+    ensures { λ r. ⌜ r ≡ answerNumbers step ⌝ }
+{
+    Answer {
+        kind: kind(step),
+        value: value(step),
     }
 }
 
@@ -67,6 +78,16 @@ pub(crate) fn of_count(count: points::Count) -> Count
     Count {
         refused: of_reply(reply),
         count: count.count,
+    }
+}
+
+// What a refused reading or locating answers.
+pub(crate) fn no_count(reason: u32) -> Count
+    ensures { λ r. ⌜ r ≡ noCount reason ⌝ }
+{
+    Count {
+        refused: reason,
+        count: 0,
     }
 }
 
@@ -124,10 +145,17 @@ pub(crate) fn head(numbers: &[u32; 12]) -> points::Head
     }
 }
 
+// The three numbers of a shared record, in the order of C's record; and back.
+pub(crate) fn of_lead(lead: points::Numbers) -> [u32; 3]
+    ensures { λ r. ⌜ r ≡ leadNumbers lead ⌝ }
+{
+    [lead.blocks, lead.joined, lead.next]
+}
+
 pub(crate) fn of_shared(shared: Shared) -> [u32; 3]
     ensures { λ r. ⌜ r ≡ sharedNumbers shared ⌝ }
 {
-    [shared.blocks, shared.joined, shared.next]
+    of_lead(points::shared::numbers(shared))
 }
 
 pub(crate) fn lead(numbers: &[u32; 3]) -> points::Numbers

@@ -1,9 +1,9 @@
 -- Words and numbers of a text, from a place on: one byte further, and where a search stops.
-use Prim.Native.Nat.{ℕ, zero, suc, _+_, _*_, _-_, _^_, _≤_, _<_}
+use Prim.Native.Nat.{ℕ, suc, _+_, _*_, _-_, _^_, _≤_, _<_}
 use mathlib.Core.Path.{_≡_, refl, sym, _∙_, ap}
 use mathlib.Core.Logic.{_≢_}
 use mathlib.Core.Bool.{Bool, true, false, _&&_}
-use mathlib.Core.List.{List, [], _∷_, _++_}
+use mathlib.Core.List.{List, [], _∷_}
 use native.Mathlib.Omega.{arith}
 use native.Mathlib.Numerals.{add-one}
 use lib.ListN.{length, take, drop, getD, drop-of-length-le}
@@ -66,7 +66,9 @@ module _ (xs : List ℕ) (i : ℕ) where
   unfolding blanks
   blanks-end l = rw (drop-of-length-le xs l)
 
-take-cons : (b x : ℕ) (xs : List ℕ) → Dec (x ≡ b) → take (length (upTo b xs)) xs ≡ upTo b xs → take (length (upTo b (x ∷ xs))) (x ∷ xs) ≡ upTo b (x ∷ xs)
+take-cons :
+    (b x : ℕ) (xs : List ℕ) → Dec (x ≡ b) → take (length (upTo b xs)) xs ≡ upTo b xs
+    → take (length (upTo b (x ∷ xs))) (x ∷ xs) ≡ upTo b (x ∷ xs)
 take-cons b x xs (yes e) s = rw (upTo-same b x xs e)
 take-cons b x xs (no h) s = rw (upTo-other b x xs h) (ap (λ (l : List ℕ). x ∷ l) s)
 
@@ -151,7 +153,9 @@ module _ (word : List ℕ) where
   unfolding isNumber
   too-large h = no-number (and-right-false (between 1 (length word) 20) (and-right-false (all-of isDigit word) (le-ltb (valueFrom 0 word) (2 ^ 64) h)))
 
-  pub is-number : (v : ℕ) → v ≡ valueFrom 0 word → 1 ≤ length word → length word ≤ 20 → all-of isDigit word ≡ true → v < 2 ^ 64 → Value v ≡ numberOf word
+  pub is-number :
+      (v : ℕ) → v ≡ valueFrom 0 word → 1 ≤ length word → length word ≤ 20 → all-of isDigit word ≡ true → v < 2 ^ 64
+      → Value v ≡ numberOf word
   unfolding numberOf isNumber
   is-number v e lo hi d h =
       let l = and-both (leb 1 (length word)) (leb (length word) 20) (le-leb 1 (length word) lo) (le-leb (length word) 20 hi) in

@@ -33,7 +33,7 @@ fn put(places: &mut Places, o: Order, first: usize, count: u64, most: u64)
     if most < o.c {
         return print::error();
     }
-    places[records::SIZE * o.a as usize + first + o.b as usize] = o.c as u32;
+    records::set_number(places, o.a as usize, first + o.b as usize, o.c as u32);
     print::altered();
 }
 

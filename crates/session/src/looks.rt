@@ -89,7 +89,7 @@ fn print_numbers(places: &Places, p: usize)
     requires { ⌜ p < 32 ⌝ }
 {
     for i in 0..12 {
-        print::labelled(b" ", number_of(places[records::SIZE * p + i]));
+        print::labelled(b" ", number_of(records::number(places, p, i)));
     }
 }
 

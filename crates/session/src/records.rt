@@ -9,7 +9,7 @@ use points::Write;
 pub type Places = [u32; 41344];
 
 // How many numbers a place has, and where the table and the text begin among them.
-pub const SIZE: usize = 1292;
+const SIZE: usize = 1292;
 
 pub const TABLE: usize = 12;
 
@@ -31,27 +31,39 @@ fn of8(n: u8) -> u32 {
     n as u32
 }
 
+// Number i of place p is read; it is changed.
+pub(crate) fn number(places: &Places, p: usize, i: usize) -> u32
+    requires { ⌜ (p < 32) × (i < 1292) ⌝ }
+{
+    places[SIZE * p + i]
+}
+
+pub(crate) fn set_number(places: &mut Places, p: usize, i: usize, n: u32)
+    requires { ⌜ (p < 32) × (i < 1292) ⌝ }
+{
+    places[SIZE * p + i] = n;
+}
+
 fn load_head(places: &Places, p: usize) -> Head
     requires { ⌜ p < 32 ⌝ }
 {
-    let at = SIZE * p;
     let place = Place {
-        block: places[at + 2],
-        slot: places[at + 3],
-        passed: places[at + 4],
+        block: number(places, p, 2),
+        slot: number(places, p, 3),
+        passed: number(places, p, 4),
     };
     let write = Write {
-        offset: places[at + 6],
-        size: places[at + 7],
-        run: places[at + 8],
-        phase: points::record::phase_of(places[at + 5]),
-        position: places[at + 9],
-        zeroing: places[at + 10],
-        retries: low16(places[at + 11]),
+        offset: number(places, p, 6),
+        size: number(places, p, 7),
+        run: number(places, p, 8),
+        phase: points::record::phase_of(number(places, p, 5)),
+        position: number(places, p, 9),
+        zeroing: number(places, p, 10),
+        retries: low16(number(places, p, 11)),
     };
     Head {
-        number: places[at],
-        length: places[at + 1],
+        number: number(places, p, 0),
+        length: number(places, p, 1),
         place: place,
         write: write,
     }
@@ -62,7 +74,7 @@ fn load_table(places: &Places, p: usize) -> [u16; 256]
 {
     let mut table = [0u16; 256];
     for i in 0..256 {
-        table[i] = low16(places[SIZE * p + TABLE + i]);
+        table[i] = low16(number(places, p, TABLE + i));
     }
     table
 }
@@ -72,7 +84,7 @@ fn load_text(places: &Places, p: usize) -> [u8; 1024]
 {
     let mut text = [0u8; 1024];
     for i in 0..1024 {
-        text[i] = low8(places[SIZE * p + TEXT + i]);
+        text[i] = low8(number(places, p, TEXT + i));
     }
     text
 }
@@ -91,32 +103,36 @@ pub(crate) fn load(places: &Places, p: usize) -> Point
     }
 }
 
+fn save_write(places: &mut Places, p: usize, write: Write)
+    requires { ⌜ p < 32 ⌝ }
+{
+    let phase = write.phase;
+    set_number(places, p, 5, points::record::phase_number(phase));
+    set_number(places, p, 6, write.offset);
+    set_number(places, p, 7, write.size);
+    set_number(places, p, 8, write.run);
+    set_number(places, p, 9, write.position);
+    set_number(places, p, 10, write.zeroing);
+    set_number(places, p, 11, write.retries as u32);
+}
+
 fn save_head(places: &mut Places, p: usize, head: Head)
     requires { ⌜ p < 32 ⌝ }
 {
-    let at = SIZE * p;
     let place = head.place;
-    let write = head.write;
-    let phase = write.phase;
-    places[at] = head.number;
-    places[at + 1] = head.length;
-    places[at + 2] = place.block;
-    places[at + 3] = place.slot;
-    places[at + 4] = place.passed;
-    places[at + 5] = points::record::phase_number(phase);
-    places[at + 6] = write.offset;
-    places[at + 7] = write.size;
-    places[at + 8] = write.run;
-    places[at + 9] = write.position;
-    places[at + 10] = write.zeroing;
-    places[at + 11] = write.retries as u32;
+    set_number(places, p, 0, head.number);
+    set_number(places, p, 1, head.length);
+    set_number(places, p, 2, place.block);
+    set_number(places, p, 3, place.slot);
+    set_number(places, p, 4, place.passed);
+    save_write(places, p, head.write);
 }
 
 fn save_table(places: &mut Places, p: usize, table: &[u16; 256])
     requires { ⌜ p < 32 ⌝ }
 {
     for i in 0..256 {
-        places[SIZE * p + TABLE + i] = of16(table[i]);
+        set_number(places, p, TABLE + i, of16(table[i]));
     }
 }
 
@@ -124,7 +140,7 @@ fn save_text(places: &mut Places, p: usize, text: &[u8; 1024])
     requires { ⌜ p < 32 ⌝ }
 {
     for i in 0..1024 {
-        places[SIZE * p + TEXT + i] = of8(text[i]);
+        set_number(places, p, TEXT + i, of8(text[i]));
     }
 }
 
@@ -142,7 +158,7 @@ pub(crate) fn clear(places: &mut Places, p: usize)
     requires { ⌜ p < 32 ⌝ }
 {
     for i in 0..SIZE {
-        places[SIZE * p + i] = 0;
+        set_number(places, p, i, 0);
     }
 }
 

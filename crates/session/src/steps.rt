@@ -1,5 +1,5 @@
 // A point's steps, told by stretches of equal answers.
-ghost use Prim.Native.Nat.{_+_, _<_, _^_};
+ghost use Prim.Native.Nat.{_+_, _<_};
 use crate::print;
 use log::Shared;
 use points::Point;

@@ -1,10 +1,25 @@
 -- `c_api::store_lent_begin`: refused where the record's numbers are none, else as the call answers. Assumes nothing.
-use mathlib.Core.Path.{sym, _∙_}
-use borrow.Author.Tests.{not-true, not-false}
-use Rattle.c_api.proofs.Calls.{begin-none, begin-some}
+use Rattle.c_api.specs.Numbers.{sharedLent, pointLent}
+use Rattle.c_api.proofs.Calls.{tests-none, tests-known, is-none, begin-known}
 use borrow.Author.Needs.{needs}
 use Rattle.c_api.proofs.store_lent_begin.Statement.{statement}
 use Rattle.c_api.proofs.store_lent_begin.Tie as tie
+
+-- the way back, call by call
+abbrev begun : tie.After-of-reply → tie.After-begin-lent
+begun c = c .before .before .before .before .before .before
+
+abbrev headed : tie.After-begin-lent → tie.After-head
+headed c = c .before .before .before
+
+abbrev shared : tie.After-head → tie.After-shared
+shared c = c .before .before
+
+abbrev tested : tie.After-shared → tie.Else1
+tested c = c .before .before .before
+
+abbrev start : tie.After-is-known → tie.Start
+start c = c .before .before .before .before
 
 is-known-requires : tie.Need-is-known-requires
 is-known-requires c κs = search needs
@@ -14,14 +29,16 @@ unknown-requires c κs = search needs
 
 returns : tie.Need-returns
 returns c =
-    let a = c .before .before .before .before .before .before .before .args in
-    begin-none (a .image .now) (a .shared .now) (a .taken .now) (a .head .now) (sym (c .before .before .before .is-known .ensures) ∙ not-true _ (c .before .before .if1 .taken)) _ (c .unknown .ensures (a .taken .now)) (a .table .now) (a .text .now) (a .offset) (a .bytes .now)
+    let t = c .before .before in
+    let a = start (t .before) .args in
+    is-none (a .image .now) (sharedLent (a .shared) (a .taken)) (pointLent (a .head) (a .table) (a .text)) _ _
+    (tests-none (t .before .is-known .ensures) (t .if1 .taken)) _ (c .unknown .ensures (a .taken .now))
 
 shared-requires : tie.Need-shared-requires
 shared-requires c κs = search needs
 
 head-requires : tie.Need-head-requires
-head-requires c κs = sym (c .before .before .before .before .before .is-known .ensures) ∙ not-false _ (c .before .before .before .before .if1 .left)
+head-requires c κs = let t = tested (c .before) in tests-known (t .before .is-known .ensures) (t .if1 .left)
 
 begin-lent-requires : tie.Need-begin-lent-requires
 begin-lent-requires c κs = search needs
@@ -37,10 +54,15 @@ of-reply-requires c κs = search needs
 
 returns-2 : tie.Need-returns-2
 returns-2 c =
-    let a = c .before .before .before .before .before .before .before .before .before .before .before .before .before .before .before .before .before .before .before .args in
-    let b = c .before .before .before .before .before .before .begin-lent in
-    begin-some (a .image .now) (a .shared .now) (a .taken .now) (a .head .now) (sym (c .before .before .before .before .before .before .before .before .before .before .before .before .before .before .before .is-known .ensures) ∙ not-false _ (c .before .before .before .before .before .before .before .before .before .before .before .before .before .before .if1 .left)) _ (c .before .before .before .before .before .before .before .before .before .head .ensures) _ (c .before .before .before .before .before .before .before .before .before .before .before .shared .ensures) (a .table .now) (a .text .now) (a .offset) (a .bytes .now)
-    (b .result) (b .last .1 .1 .1 .0) (b .last .1 .1 .1 .1 .0) _ _ _ (b .ensures) (c .of-reply .ensures) (c .before .before .of-shared .ensures) (c .before .of-head .ensures)
+    let b = begun c in
+    let h = headed b in
+    let s = shared h in
+    let t = tested s in
+    let a = start (t .before) .args in
+    begin-known (a .image .now) (sharedLent (a .shared) (a .taken)) (pointLent (a .head) (a .table) (a .text))
+    (tests-known (t .before .is-known .ensures) (t .if1 .left)) _ (h .head .ensures) _ (s .shared .ensures) (a .offset) (a .bytes .now)
+    (b .begin-lent .result) (b .begin-lent .last .1 .1 .1 .0) (b .begin-lent .last .1 .1 .1 .1 .0) (b .begin-lent .ensures)
+    _ (c .of-reply .ensures) _ _ (c .before .before .of-shared .ensures) (c .before .of-head .ensures)
 
 pub store-lent-begin-spec : {M : Type 1} → statement M
 store-lent-begin-spec =

@@ -1,8 +1,19 @@
 -- `c_api::store_lent_join`. Assumes nothing.
+use Rattle.c_api.specs.Numbers.{sharedLent}
 use Rattle.c_api.proofs.Calls.{join-as}
 use borrow.Author.Needs.{needs}
 use Rattle.c_api.proofs.store_lent_join.Statement.{statement}
 use Rattle.c_api.proofs.store_lent_join.Tie as tie
+
+-- the way back, call by call
+abbrev copied : tie.After-of-reply → tie.After-left
+copied c = c .before .before .before .before .before
+
+abbrev joined : tie.After-left → tie.After-join
+joined c = c .before .before .before .before
+
+abbrev start : tie.After-join → tie.Start
+start c = c .before .before .before .before .before
 
 shared-requires : tie.Need-shared-requires
 shared-requires c κs = search needs
@@ -21,9 +32,10 @@ of-reply-requires c κs = search needs
 
 returns : tie.Need-returns
 returns c =
-    let a = c .before .before .before .before .before .before .before .before .before .before .before .before .before .before .args in
-    let j = c .before .before .before .before .before .before .before .before .before .join in
-    join-as (a .image .now) (a .shared .now) (a .taken .now) _ (c .before .before .before .before .before .before .before .before .before .before .shared .ensures) (a .number) (j .result) (j .ensures) _ (c .of-reply .ensures) _ _ (c .before .before .of-shared .ensures) (c .before .of-head .ensures)
+    let j = joined (copied c) in
+    let a = start j .args in
+    join-as (a .image .now) (sharedLent (a .shared) (a .taken)) (a .number) _ (j .before .shared .ensures) (j .join .result) (j .join .ensures)
+    _ (c .of-reply .ensures) _ _ (c .before .before .of-shared .ensures) (c .before .of-head .ensures)
 
 pub store-lent-join-spec : {M : Type 1} → statement M
 store-lent-join-spec =

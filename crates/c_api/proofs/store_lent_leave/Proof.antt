@@ -1,11 +1,23 @@
 -- `c_api::store_lent_leave`: refused where the record's numbers are none, else as the call answers. Assumes nothing.
-use mathlib.Core.Path.{sym, _∙_}
-use borrow.Author.Tests.{not-true, not-false}
 use Rattle.points.specs.Record.{noText}
-use Rattle.c_api.proofs.Calls.{leave-none, leave-some}
+use Rattle.c_api.specs.Numbers.{sharedLent, textless}
+use Rattle.c_api.proofs.Calls.{tests-none, tests-known, is-none, leave-known}
 use borrow.Author.Needs.{needs}
 use Rattle.c_api.proofs.store_lent_leave.Statement.{statement}
 use Rattle.c_api.proofs.store_lent_leave.Tie as tie
+
+-- the way back, call by call
+abbrev gone : tie.After-of-reply → tie.After-leave-lent
+gone c = c .before .before .before .before
+
+abbrev shared : tie.After-leave-lent → tie.After-shared
+shared c = c .before .before
+
+abbrev tested : tie.After-shared → tie.Else1
+tested c = c .before .before .before
+
+abbrev start : tie.After-is-known → tie.Start
+start c = c .before .before
 
 is-known-requires : tie.Need-is-known-requires
 is-known-requires c κs = search needs
@@ -15,14 +27,16 @@ unknown-requires c κs = search needs
 
 returns : tie.Need-returns
 returns c =
-    let a = c .before .before .before .before .before .args in
-    leave-none (a .image .now) (a .shared .now) (a .taken .now) (a .head .now) (sym (c .before .before .before .is-known .ensures) ∙ not-true _ (c .before .before .if1 .taken)) _ (c .unknown .ensures (a .taken .now)) (a .table .now)
+    let t = c .before .before in
+    let a = start (t .before) .args in
+    is-none (a .image .now) (sharedLent (a .shared) (a .taken)) (textless (a .head) (a .table)) _ _
+    (tests-none (t .before .is-known .ensures) (t .if1 .taken)) _ (c .unknown .ensures (a .taken .now))
 
 shared-requires : tie.Need-shared-requires
 shared-requires c κs = search needs
 
 head-requires : tie.Need-head-requires
-head-requires c κs = sym (c .before .before .before .before .is-known .ensures) ∙ not-false _ (c .before .before .before .if1 .left)
+head-requires c κs = let t = tested c in tests-known (t .before .is-known .ensures) (t .if1 .left)
 
 leave-lent-requires : tie.Need-leave-lent-requires
 leave-lent-requires c κs = search needs
@@ -35,9 +49,13 @@ of-reply-requires c κs = search needs
 
 returns-2 : tie.Need-returns-2
 returns-2 c =
-    let a = c .before .before .before .before .before .before .before .before .before .before .before .before .args in
-    let l = c .before .before .before .before .leave-lent in
-    leave-some (a .image .now) (a .shared .now) (a .taken .now) (a .head .now) (sym (c .before .before .before .before .before .before .before .before .before .before .is-known .ensures) ∙ not-false _ (c .before .before .before .before .before .before .before .before .before .if1 .left)) _ (c .before .before .before .before .before .head .ensures) _ (c .before .before .before .before .before .before .shared .ensures) (a .table .now) (l .result) _ _ (l .ensures noText) (c .of-reply .ensures) (c .before .of-shared .ensures)
+    let l = gone c in
+    let s = shared l in
+    let t = tested s in
+    let a = start (t .before) .args in
+    leave-known (a .image .now) (sharedLent (a .shared) (a .taken)) (textless (a .head) (a .table))
+    (tests-known (t .before .is-known .ensures) (t .if1 .left)) _ (l .before .head .ensures) _ (s .shared .ensures)
+    (l .leave-lent .result) (l .leave-lent .ensures noText) _ (c .of-reply .ensures) _ (c .before .of-shared .ensures)
 
 pub store-lent-leave-spec : {M : Type 1} → statement M
 store-lent-leave-spec =

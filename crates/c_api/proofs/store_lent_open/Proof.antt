@@ -1,7 +1,7 @@
 -- `c_api::store_lent_open`. Assumes nothing.
 use mathlib.Core.Path.{_∙_, ap}
 use Rattle.log.specs.declared.Opened.{Opened}
-use Rattle.c_api.specs.Numbers.{openedNumbers, sharedNumbers}
+use Rattle.c_api.specs.Numbers.{openedNumbers, lendShared}
 use borrow.Author.Needs.{needs}
 use Rattle.c_api.proofs.store_lent_open.Statement.{statement}
 use Rattle.c_api.proofs.store_lent_open.Tie as tie
@@ -21,12 +21,16 @@ same-length c = search needs
 returns : tie.Need-returns
 returns c =
     let o = c .before .before .before .before .before .before .«open» in (
-      c .of-opened .ensures ∙ ap openedNumbers (o .ensures .0),
-      o .ensures .1,
-      c .before .of-shared .ensures ∙ ap (λ (x : Opened). sharedNumbers (x .shared)) (o .ensures .0),
-      ap (λ (x : Opened). x .shared .taken) (o .ensures .0),
+      record { answers = c .of-opened .ensures ∙ ap openedNumbers (o .ensures .0); marks = o .ensures .1 },
+      rw (c .before .of-shared .ensures) (ap (λ (x : Opened). lendShared (x .shared)) (o .ensures .0)),
     )
 
 pub store-lent-open-spec : {M : Type 1} → statement M
 store-lent-open-spec =
-    tie.close (tie.spec open-requires of-shared-requires of-opened-requires same-length returns)
+    tie.close
+    (tie.spec
+    open-requires
+    of-shared-requires
+    of-opened-requires
+    same-length
+    returns)

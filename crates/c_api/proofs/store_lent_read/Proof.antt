@@ -1,11 +1,19 @@
 -- `c_api::store_lent_read`: refused where the record's numbers are none, and the buffer untouched; else as the call answers. Assumes nothing.
-use mathlib.Core.Path.{sym, _∙_}
-use lib.ListN.{length}
-use borrow.Author.Tests.{not-true, not-false}
-use Rattle.c_api.proofs.Calls.{read-none, buffer-none, read-some, buffer-some}
+use Rattle.c_api.specs.Numbers.{sharedLent, textless}
+use Rattle.c_api.proofs.Calls.{tests-none, tests-known, is-none, read-known}
 use borrow.Author.Needs.{needs}
 use Rattle.c_api.proofs.store_lent_read.Statement.{statement}
 use Rattle.c_api.proofs.store_lent_read.Tie as tie
+
+-- the way back, call by call
+abbrev read : tie.After-of-count → tie.After-read-lent
+read c = c .before .before .before
+
+abbrev headed : tie.After-read-lent → tie.After-head
+headed c = c .before .before
+
+abbrev start : tie.After-is-known → tie.Start
+start c = c .before .before .before
 
 is-known-requires : tie.Need-is-known-requires
 is-known-requires c κs = search needs
@@ -13,20 +21,22 @@ is-known-requires c κs = search needs
 unknown-requires : tie.Need-unknown-requires
 unknown-requires c κs = search needs
 
+no-count-requires : tie.Need-no-count-requires
+no-count-requires c κs = search needs
+
 returns : tie.Need-returns
 returns c =
-    let a = c .before .before .before .before .before .args in
-    let k = sym (c .before .before .is-known .ensures) ∙ not-true _ (c .before .if1 .taken) in
-    let n = c .unknown .ensures (a .taken .now) in (
-      read-none (a .image .now) (a .shared .now) (a .taken .now) (a .head .now) k _ n (a .table .now) (a .offset) (length (a .buffer .now)),
-      buffer-none (a .image .now) (a .shared .now) (a .taken .now) (a .head .now) k _ n (a .table .now) (a .offset) (a .buffer .now),
-    )
+    let t = c .before .before in
+    let a = start (t .before) .args in
+    rw (c .no-count .ensures)
+    (is-none (a .image .now) (sharedLent (a .shared) (a .taken)) (textless (a .head) (a .table)) _ _
+    (tests-none (t .before .is-known .ensures) (t .if1 .taken)) _ (c .before .unknown .ensures (a .taken .now)))
 
 shared-requires : tie.Need-shared-requires
 shared-requires c κs = search needs
 
 head-requires : tie.Need-head-requires
-head-requires c κs = sym (c .before .before .is-known .ensures) ∙ not-false _ (c .before .if1 .left)
+head-requires c κs = let t = c .before in tests-known (t .before .is-known .ensures) (t .if1 .left)
 
 read-lent-requires : tie.Need-read-lent-requires
 read-lent-requires c κs = search needs
@@ -39,14 +49,14 @@ same-length c = search needs
 
 returns-2 : tie.Need-returns-2
 returns-2 c =
-    let a = c .before .before .before .before .before .before .before .before .before .before .before .args in
-    let r = c .before .before .before .read-lent in
-    let k = sym (c .before .before .before .before .before .before .before .before .is-known .ensures) ∙ not-false _ (c .before .before .before .before .before .before .before .if1 .left) in
-    let h = c .before .before .before .before .before .head .ensures in
-    let s = c .before .before .before .before .before .before .shared .ensures in (
-      read-some (a .image .now) (a .shared .now) (a .taken .now) (a .head .now) k _ h _ s (a .table .now) (a .offset) (length (a .buffer .now)) _ _ (r .ensures .0) (c .of-count .ensures),
-      buffer-some (a .image .now) (a .shared .now) (a .taken .now) (a .head .now) k _ h _ s (a .table .now) (a .offset) (a .buffer .now) _ (r .ensures .1),
-    )
+    let r = read c in
+    let h = headed r in
+    let s = h .before in
+    let t = s .before in
+    let a = start (t .before) .args in
+    read-known (a .image .now) (sharedLent (a .shared) (a .taken)) (textless (a .head) (a .table))
+    (tests-known (t .before .is-known .ensures) (t .if1 .left)) _ (h .head .ensures) _ (s .shared .ensures) (a .offset) (a .buffer .now)
+    _ _ _ (r .read-lent .ensures .0) (r .read-lent .ensures .1) (c .of-count .ensures)
 
 pub store-lent-read-spec : {M : Type 1} → statement M
 store-lent-read-spec =
@@ -54,6 +64,7 @@ store-lent-read-spec =
     (tie.spec
     is-known-requires
     unknown-requires
+    no-count-requires
     returns
     shared-requires
     head-requires

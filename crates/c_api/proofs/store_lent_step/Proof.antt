@@ -1,10 +1,25 @@
 -- `c_api::store_lent_step`: refused where the record's numbers are none, else as the call answers. Assumes nothing.
-use mathlib.Core.Path.{sym, _∙_}
-use borrow.Author.Tests.{not-true, not-false}
-use Rattle.c_api.proofs.Calls.{step-none, step-some}
+use Rattle.c_api.specs.Numbers.{sharedLent, pointLent}
+use Rattle.c_api.proofs.Calls.{tests-none, tests-known, is-none, step-known}
 use borrow.Author.Needs.{needs}
 use Rattle.c_api.proofs.store_lent_step.Statement.{statement}
 use Rattle.c_api.proofs.store_lent_step.Tie as tie
+
+-- the way back, call by call
+abbrev stepped : tie.After-of-step2 → tie.After-step-lent
+stepped c = c .before .before .before .before .before .before
+
+abbrev headed : tie.After-step-lent → tie.After-head
+headed c = c .before .before .before
+
+abbrev led : tie.After-head → tie.After-lead
+led c = c .before .before .before .before
+
+abbrev tested : tie.After-lead → tie.Else1
+tested c = c .before .before
+
+abbrev start : tie.After-is-known → tie.Start
+start c = c .before .before .before
 
 is-known-requires : tie.Need-is-known-requires
 is-known-requires c κs = search needs
@@ -12,41 +27,53 @@ is-known-requires c κs = search needs
 unknown-requires : tie.Need-unknown-requires
 unknown-requires c κs = search needs
 
+of-step-requires : tie.Need-of-step-requires
+of-step-requires c κs = search needs
+
 same-length : tie.Need-same-length
 same-length c = search needs
 
 returns : tie.Need-returns
 returns c =
-    let a = c .before .before .before .before .before .before .before .args in
-    step-none (a .image .now) (a .shared .now) (a .taken .now) (a .head .now) (sym (c .before .before .before .before .is-known .ensures) ∙ not-true _ (c .before .before .before .if1 .taken)) _ (c .unknown .ensures (a .taken .now)) (a .table .now) (a .text .now)
+    let t = c .before .before .before .before in
+    let a = start (t .before) .args in
+    rw (c .of-step .ensures)
+    (is-none (a .image .now) (sharedLent (a .shared) (a .taken)) (pointLent (a .head) (a .table) (a .text)) _ _
+    (tests-none (t .before .is-known .ensures) (t .if1 .taken)) _ (c .before .unknown .ensures (a .taken .now)))
 
 lead-requires : tie.Need-lead-requires
 lead-requires c κs = search needs
 
 head-requires : tie.Need-head-requires
-head-requires c κs = sym (c .before .before .before .before .before .before .is-known .ensures) ∙ not-false _ (c .before .before .before .before .before .if1 .left)
+head-requires c κs = let t = tested (c .before .before .before) in tests-known (t .before .is-known .ensures) (t .if1 .left)
 
 step-lent-requires : tie.Need-step-lent-requires
 step-lent-requires c κs = search needs
 
+of-lead-requires : tie.Need-of-lead-requires
+of-lead-requires c κs = search needs
+
 of-head-requires : tie.Need-of-head-requires
 of-head-requires c κs = search needs
 
-kind-requires : tie.Need-kind-requires
-kind-requires c κs = search needs
-
-value-requires : tie.Need-value-requires
-value-requires c κs = search needs
+of-step-requires-2 : tie.Need-of-step-requires-2
+of-step-requires-2 c κs = search needs
 
 same-length-2 : tie.Need-same-length-2
 same-length-2 c = search needs
 
 returns-2 : tie.Need-returns-2
 returns-2 c =
-    let a = c .before .before .before .before .before .before .before .before .before .before .before .before .before .before .before .before .before .before .before .before .args in
-    let s = c .before .before .before .before .before .before .before .step-lent in
-    step-some (a .image .now) (a .shared .now) (a .taken .now) (a .head .now) (sym (c .before .before .before .before .before .before .before .before .before .before .before .before .before .before .before .before .before .is-known .ensures) ∙ not-false _ (c .before .before .before .before .before .before .before .before .before .before .before .before .before .before .before .before .if1 .left)) _ (c .before .before .before .before .before .before .before .before .before .before .head .ensures) _ (c .before .before .before .before .before .before .before .before .before .before .before .before .before .before .lead .ensures) (a .table .now) (a .text .now)
-    (s .result) (s .last .1 .1 .0) (s .last .1 .1 .1 .1 .0) (s .last .1 .1 .1 .1 .1 .0) _ _ _ _ (s .ensures .answers) (s .ensures .stored) (c .before .kind .ensures) (c .value .ensures) (c .before .before .of-head .ensures)
+    let s = stepped c in
+    let h = headed s in
+    let l = led h in
+    let t = tested l in
+    let a = start (t .before) .args in
+    let y = s .step-lent in
+    step-known (a .image .now) (sharedLent (a .shared) (a .taken)) (pointLent (a .head) (a .table) (a .text))
+    (tests-known (t .before .is-known .ensures) (t .if1 .left)) _ (h .head .ensures) _ (l .lead .ensures)
+    (y .result) (y .last .1 .1 .0) (y .last .1 .1 .1 .1 .0) (y .last .1 .1 .1 .1 .1 .0) _ (y .ensures)
+    _ (c .of-step2 .ensures) _ _ (c .before .before .of-lead .ensures) (c .before .of-head .ensures)
 
 pub store-lent-step-spec : {M : Type 1} → statement M
 store-lent-step-spec =
@@ -54,13 +81,14 @@ store-lent-step-spec =
     (tie.spec
     is-known-requires
     unknown-requires
+    of-step-requires
     same-length
     returns
     lead-requires
     head-requires
     step-lent-requires
+    of-lead-requires
     of-head-requires
-    kind-requires
-    value-requires
+    of-step-requires-2
     same-length-2
     returns-2)

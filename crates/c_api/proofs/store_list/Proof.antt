@@ -15,7 +15,15 @@ same-length : tie.Need-same-length
 same-length c = search needs
 
 returns : tie.Need-returns
-returns c = let l = c .before .before .before .listed in (c .of-opened .ensures ∙ ap openedNumbers (l .ensures .0), l .ensures .1, l .ensures .2)
+returns c =
+    let l = c .before .before .before .listed in
+    (record { answers = c .of-opened .ensures ∙ ap openedNumbers (l .ensures .0); marks = l .ensures .1 }, l .ensures .2)
 
 pub store-list-spec : {M : Type 1} → statement M
-store-list-spec = tie.close (tie.spec listed-requires of-opened-requires same-length returns)
+store-list-spec =
+    tie.close
+    (tie.spec
+    listed-requires
+    of-opened-requires
+    same-length
+    returns)

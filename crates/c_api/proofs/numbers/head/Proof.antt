@@ -1,5 +1,4 @@
 -- `c_api::numbers::head`: number by number; a retry count of a head has 16 bits. Assumes nothing.
-use Prim.Native.Nat.{_≤_}
 use native.Mathlib.Omega.{arith}
 use lib.ListN.{getD}
 use lib.Dec.{leb}
@@ -8,6 +7,13 @@ use Rattle.words.proofs.Logic.{and-right}
 use borrow.Author.Needs.{needs}
 use Rattle.c_api.proofs.numbers.head.Statement.{statement}
 use Rattle.c_api.proofs.numbers.head.Tie as tie
+
+-- the way back: to the number at 6, and to the first
+abbrev seventh : tie.After-t39 → tie.After-t23
+seventh c = c .before .before .before .before .before .before
+
+abbrev first : tie.After-t23 → tie.After-t4
+first c = c .before .before .before .before .before .before
 
 element-copy-out-t4 : tie.Need-element-copy-out-t4
 element-copy-out-t4 c = search needs
@@ -50,8 +56,9 @@ element-copy-out-t39 c = search needs
 
 cast-t40 : tie.Need-cast-t40
 cast-t40 c =
-    let a = c .before .before .before .before .before .before .before .before .before .before .before .before .before .args in
-    let l : getD (a .numbers .now) 11 0 ≤ 65535 = leb-true (getD (a .numbers .now) 11 0) 65535 (and-right (leb (getD (a .numbers .now) 8 0) 5) (leb (getD (a .numbers .now) 11 0) 65535) (c .before .before .before .before .before .before .before .before .before .before .before .before .before .pre)) in
+    let start = first (seventh c) .before in
+    let xs = start .args .numbers .now in
+    let l = leb-true (getD xs 11 0) 65535 (and-right (leb (getD xs 8 0) 5) (leb (getD xs 11 0) 65535) (start .pre)) in
     record { fits = omega (arith, l) }
 
 returns : tie.Need-returns

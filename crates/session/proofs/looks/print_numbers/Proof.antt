@@ -17,17 +17,8 @@ loop-holds c = omega arith
 slice-aggregate-labelled : tie.Need-slice-aggregate-labelled Inv-loop μ-loop
 slice-aggregate-labelled c = refl
 
-mul-number-of : tie.Need-mul-number-of Inv-loop μ-loop
-mul-number-of c = omega arith
-
-add-number-of : tie.Need-add-number-of Inv-loop μ-loop
-add-number-of c = omega arith
-
-mul-number-of-2 : tie.Need-mul-number-of-2 Inv-loop μ-loop
-mul-number-of-2 c = omega arith
-
-element-copy-out-number-of : tie.Need-element-copy-out-number-of Inv-loop μ-loop
-element-copy-out-number-of c = omega arith
+number-requires : tie.Need-number-requires Inv-loop μ-loop
+number-requires c κs = (omega arith, omega arith)
 
 number-of-requires : tie.Need-number-of-requires Inv-loop μ-loop
 number-of-requires c κs = tt
@@ -55,10 +46,7 @@ print-numbers-spec =
     μ-loop
     loop-holds
     slice-aggregate-labelled
-    mul-number-of
-    add-number-of
-    mul-number-of-2
-    element-copy-out-number-of
+    number-requires
     number-of-requires
     labelled-requires
     add-i

@@ -13,17 +13,8 @@ abbrev μ-loop : tie.MeasureT-loop
 loop-holds : tie.Need-loop-holds Inv-loop μ-loop
 loop-holds c = omega arith
 
-mul-places : tie.Need-mul-places Inv-loop μ-loop
-mul-places c = omega arith
-
-add-places : tie.Need-add-places Inv-loop μ-loop
-add-places c = omega arith
-
-mul-places-2 : tie.Need-mul-places-2 Inv-loop μ-loop
-mul-places-2 c = omega arith
-
-element-write-places : tie.Need-element-write-places Inv-loop μ-loop
-element-write-places c = omega arith
+set-number-requires : tie.Need-set-number-requires Inv-loop μ-loop
+set-number-requires c κs = (omega arith, omega arith)
 
 add-i : tie.Need-add-i Inv-loop μ-loop
 add-i c = omega arith
@@ -44,10 +35,7 @@ clear-spec =
     Inv-loop
     μ-loop
     loop-holds
-    mul-places
-    add-places
-    mul-places-2
-    element-write-places
+    set-number-requires
     add-i
     loop-less
     loop-again

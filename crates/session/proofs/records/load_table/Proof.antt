@@ -13,20 +13,11 @@ abbrev μ-loop : tie.MeasureT-loop
 loop-holds : tie.Need-loop-holds Inv-loop μ-loop
 loop-holds c = omega arith
 
-mul-low16 : tie.Need-mul-low16 Inv-loop μ-loop
-mul-low16 c = omega arith
+add-number : tie.Need-add-number Inv-loop μ-loop
+add-number c = omega arith
 
-add-low16 : tie.Need-add-low16 Inv-loop μ-loop
-add-low16 c = omega arith
-
-add-low16-2 : tie.Need-add-low16-2 Inv-loop μ-loop
-add-low16-2 c = omega arith
-
-mul-low16-2 : tie.Need-mul-low16-2 Inv-loop μ-loop
-mul-low16-2 c = omega arith
-
-element-copy-out-low16 : tie.Need-element-copy-out-low16 Inv-loop μ-loop
-element-copy-out-low16 c = omega arith
+number-requires : tie.Need-number-requires Inv-loop μ-loop
+number-requires c κs = (omega arith, omega arith)
 
 low16-requires : tie.Need-low16-requires Inv-loop μ-loop
 low16-requires c κs = tt
@@ -56,11 +47,8 @@ load-table-spec =
     Inv-loop
     μ-loop
     loop-holds
-    mul-low16
-    add-low16
-    add-low16-2
-    mul-low16-2
-    element-copy-out-low16
+    add-number
+    number-requires
     low16-requires
     mul-table
     array-write-table

@@ -13,20 +13,11 @@ abbrev μ-loop : tie.MeasureT-loop
 loop-holds : tie.Need-loop-holds Inv-loop μ-loop
 loop-holds c = omega arith
 
-mul-low8 : tie.Need-mul-low8 Inv-loop μ-loop
-mul-low8 c = omega arith
+add-number : tie.Need-add-number Inv-loop μ-loop
+add-number c = omega arith
 
-add-low8 : tie.Need-add-low8 Inv-loop μ-loop
-add-low8 c = omega arith
-
-add-low8-2 : tie.Need-add-low8-2 Inv-loop μ-loop
-add-low8-2 c = omega arith
-
-mul-low8-2 : tie.Need-mul-low8-2 Inv-loop μ-loop
-mul-low8-2 c = omega arith
-
-element-copy-out-low8 : tie.Need-element-copy-out-low8 Inv-loop μ-loop
-element-copy-out-low8 c = omega arith
+number-requires : tie.Need-number-requires Inv-loop μ-loop
+number-requires c κs = (omega arith, omega arith)
 
 low8-requires : tie.Need-low8-requires Inv-loop μ-loop
 low8-requires c κs = tt
@@ -53,11 +44,8 @@ load-text-spec =
     Inv-loop
     μ-loop
     loop-holds
-    mul-low8
-    add-low8
-    add-low8-2
-    mul-low8-2
-    element-copy-out-low8
+    add-number
+    number-requires
     low8-requires
     array-write-text
     add-i

@@ -13,6 +13,9 @@ abbrev μ-loop : tie.MeasureT-loop
 loop-holds : tie.Need-loop-holds Inv-loop μ-loop
 loop-holds c = omega arith
 
+add-set-number : tie.Need-add-set-number Inv-loop μ-loop
+add-set-number c = omega arith
+
 mul-of16 : tie.Need-mul-of16 Inv-loop μ-loop
 mul-of16 c = omega arith
 
@@ -22,20 +25,8 @@ element-copy-out-of16 c = omega arith
 of16-requires : tie.Need-of16-requires Inv-loop μ-loop
 of16-requires c κs = tt
 
-mul-places : tie.Need-mul-places Inv-loop μ-loop
-mul-places c = omega arith
-
-add-places : tie.Need-add-places Inv-loop μ-loop
-add-places c = omega arith
-
-add-places-2 : tie.Need-add-places-2 Inv-loop μ-loop
-add-places-2 c = omega arith
-
-mul-places-2 : tie.Need-mul-places-2 Inv-loop μ-loop
-mul-places-2 c = omega arith
-
-element-write-places : tie.Need-element-write-places Inv-loop μ-loop
-element-write-places c = omega arith
+set-number-requires : tie.Need-set-number-requires Inv-loop μ-loop
+set-number-requires c κs = (omega arith, omega arith)
 
 add-i : tie.Need-add-i Inv-loop μ-loop
 add-i c = omega arith
@@ -56,14 +47,11 @@ save-table-spec =
     Inv-loop
     μ-loop
     loop-holds
+    add-set-number
     mul-of16
     element-copy-out-of16
     of16-requires
-    mul-places
-    add-places
-    add-places-2
-    mul-places-2
-    element-write-places
+    set-number-requires
     add-i
     loop-less
     loop-again

@@ -13,26 +13,17 @@ abbrev μ-loop : tie.MeasureT-loop
 loop-holds : tie.Need-loop-holds Inv-loop μ-loop
 loop-holds c = omega arith
 
+add-set-number : tie.Need-add-set-number Inv-loop μ-loop
+add-set-number c = omega arith
+
 element-copy-out-of8 : tie.Need-element-copy-out-of8 Inv-loop μ-loop
 element-copy-out-of8 c = omega arith
 
 of8-requires : tie.Need-of8-requires Inv-loop μ-loop
 of8-requires c κs = tt
 
-mul-places : tie.Need-mul-places Inv-loop μ-loop
-mul-places c = omega arith
-
-add-places : tie.Need-add-places Inv-loop μ-loop
-add-places c = omega arith
-
-add-places-2 : tie.Need-add-places-2 Inv-loop μ-loop
-add-places-2 c = omega arith
-
-mul-places-2 : tie.Need-mul-places-2 Inv-loop μ-loop
-mul-places-2 c = omega arith
-
-element-write-places : tie.Need-element-write-places Inv-loop μ-loop
-element-write-places c = omega arith
+set-number-requires : tie.Need-set-number-requires Inv-loop μ-loop
+set-number-requires c κs = (omega arith, omega arith)
 
 add-i : tie.Need-add-i Inv-loop μ-loop
 add-i c = omega arith
@@ -53,13 +44,10 @@ save-text-spec =
     Inv-loop
     μ-loop
     loop-holds
+    add-set-number
     element-copy-out-of8
     of8-requires
-    mul-places
-    add-places
-    add-places-2
-    mul-places-2
-    element-write-places
+    set-number-requires
     add-i
     loop-less
     loop-again

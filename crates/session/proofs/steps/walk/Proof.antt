@@ -12,6 +12,10 @@ Inv-loop image₀ most s₀ p₀ last₀ times₀ left₀ image s p last times l
 abbrev μ-loop : tie.MeasureT-loop
 μ-loop image₀ most s₀ p₀ last₀ times₀ left₀ image s p last times left = left
 
+-- the way back to the step
+abbrev stepped : tie.After-stretch Inv-loop μ-loop → tie.After-step Inv-loop μ-loop
+stepped c = c .before .before .before .before
+
 loop-holds : tie.Need-loop-holds Inv-loop μ-loop
 loop-holds c = (refl, omega arith)
 
@@ -31,14 +35,16 @@ loop-less : tie.Need-loop-less Inv-loop μ-loop
 loop-less c = omega arith
 
 loop-again : tie.Need-loop-again Inv-loop μ-loop
-loop-again c = let s = c .before .before .before .before .before .before .before .before in
+loop-again c =
+    let s = stepped (c .before .before .before .before) in
     (s .step .kept .0 ∙ s .before .before .before .loop .inv .0, omega arith)
 
 loop-less-2 : tie.Need-loop-less-2 Inv-loop μ-loop
 loop-less-2 c = omega arith
 
 loop-again-2 : tie.Need-loop-again-2 Inv-loop μ-loop
-loop-again-2 c = let s = c .before .before .before .before .before .before .before .before in
+loop-again-2 c =
+    let s = stepped (c .before .before .before .before) in
     (s .step .kept .0 ∙ s .before .before .before .loop .inv .0, omega arith)
 
 print-stretch-requires : tie.Need-print-stretch-requires Inv-loop μ-loop
