@@ -56,7 +56,7 @@ returns-2 c =
     let a = start (t .before) .args in
     read-known (a .image .now) (sharedLent (a .shared) (a .taken)) (textless (a .head) (a .table))
     (tests-known (t .before .is-known .ensures) (t .if1 .left)) _ (h .head .ensures) _ (s .shared .ensures) (a .offset) (a .buffer .now)
-    _ _ _ (r .read-lent .ensures .0) (r .read-lent .ensures .1) (c .of-count .ensures)
+    _ _ _ (r .read-lent .ensures .count) (r .read-lent .ensures .bytes) (c .of-count .ensures)
 
 pub store-lent-read-spec : {M : Type 1} → statement M
 store-lent-read-spec =
