@@ -10,6 +10,7 @@ use Rattle.words.specs.Logic.{first, _when_}
 use Rattle.words.specs.Word.{byteOf}
 use Rattle.words.specs.Memory.{Memory, memory, blockAt, after}
 use Rattle.log.specs.declared.Shared.{Shared}
+use Rattle.log.specs.Replay.{Mapped}
 use Rattle.points.specs.declared.Write.{Write}
 use Rattle.points.specs.declared.Head.{Head}
 use Rattle.points.specs.declared.Point.{Point}
@@ -44,7 +45,8 @@ pub record StepLeaves (words : List ℕ) (s : Shared) (p : Point) (answer : Step
 -- ---- plans
 
 -- the plan is that of this part of a step, for the records that these parts make
-abbrev pub Plans : (Edition → Memory → Shared → Point → Plan) → List ℕ → Numbers → List ℕ → Head → List ℕ → List ℕ → Plan → Type 0
+abbrev pub Plans : (Edition → Memory → Shared → Point → Plan)
+    → List ℕ → Numbers → List ℕ → Head → List ℕ → List ℕ → Plan → Type 0
 Plans part words n taken h table text r = r ≡ part one (memory one words) (sharedOf n taken) (pointOf h table text)
 
 -- no reason of a step holds
@@ -62,8 +64,13 @@ pub record CatchesUp (words : List ℕ) (s : Shared) (h : Head) (table : List �
   pub refusal : reason ≡ catchUpRefusal one words s h table past
   pub file : reason ≡ 0 → record { table = left; size = size } ≡ seen one words s h table
 
+-- a table, where the length does not matter: bytes are found by it alone
+abbrev pub unsized : List ℕ → Mapped
+unsized table = record { table = table; size = 0 }
+
 -- what reading answers, and the buffer after it
-pub record Reads (words : List ℕ) (s : Shared) (h : Head) (table : List ℕ) (offset : ℕ) (buffer : List ℕ) (answer : Count) (left : List ℕ) : Type 0 where
+pub record Reads (words : List ℕ) (s : Shared) (h : Head) (table : List ℕ) (offset : ℕ) (buffer : List ℕ) (answer : Count) (left : List ℕ)
+    : Type 0 where
   pub count : answer ≡ reading one words s h table offset (length buffer)
   pub bytes : left ≡ bufferAfter one words s h table offset buffer
 

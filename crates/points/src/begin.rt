@@ -135,7 +135,12 @@ pub fn begin_lent(
     LentBegun {
         reply: Reply::Done,
         shared: crate::shared::take(shared, start.run, crate::record::span(at, size)),
-        head: crate::plan::standing(head, length, start.place, new_write(at, size, start.run)),
+        head: crate::plan::head_of(
+            head.number,
+            length,
+            start.place,
+            new_write(at, size, start.run),
+        ),
     }
 }
 

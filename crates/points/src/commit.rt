@@ -173,7 +173,8 @@ fn at_end(numbers: Numbers, taken: &[u64; 16], head: Head) -> Plan
     extend(head, b)
 }
 
-// With no word left to fill: the entry is stored where the word at the log place is empty; at the end of the chain it is extended; otherwise the record catches up.
+// With no word left to fill: the entry is stored where the word at the log place is empty; at the end of the chain it is extended; otherwise the
+// record catches up.
 pub(crate) fn committing<'a>(
     image: &[u64],
     numbers: Numbers,

@@ -4,7 +4,6 @@ ghost use Rattle.words.specs.Edition.{one};
 ghost use Rattle.words.specs.Memory.{memory};
 ghost use Rattle.points.specs.Record.{idleAt};
 ghost use Rattle.points.specs.Calls.{badFirst, joinRefusal, joining};
-use crate::Head;
 use crate::Joined;
 use crate::Point;
 use log::Place;
@@ -45,12 +44,7 @@ fn idle_at(number: u32, place: Place) -> Point
     let table = [0u16; 256];
     let text = [0u8; 1024];
     Point {
-        head: Head {
-            number,
-            length: 0,
-            place,
-            write: crate::plan::no_write(),
-        },
+        head: crate::plan::head_of(number, 0, place, crate::plan::no_write()),
         table,
         text,
     }

@@ -3,7 +3,7 @@ ghost use mathlib.Core.Path.{_≡_};
 ghost use mathlib.Core.Bool.{true, false};
 ghost use Prim.Native.Nat.{_<_};
 ghost use Rattle.words.specs.Edition.{one};
-ghost use Rattle.points.specs.Record.{runWords, noWrite, standing};
+ghost use Rattle.points.specs.Record.{runWords, noWrite, headOf};
 ghost use Rattle.points.specs.Plan.{storing, resting};
 ghost use Rattle.points.specs.Stepping.{refused, turned, toCommit, retried, nextSlot, entering};
 use crate::Head;
@@ -135,12 +135,12 @@ pub(crate) fn turned(write: Write, phase: Phase, position: u32, zeroing: u32, re
     }
 }
 
-// The head with another length, log place and write.
-pub(crate) fn standing(head: Head, length: u32, place: Place, write: Write) -> Head
-    ensures { λ r. ⌜ r ≡ standing head length place write ⌝ }
+// The head of its numbers, its log place and its write.
+pub(crate) fn head_of(number: u32, length: u32, place: Place, write: Write) -> Head
+    ensures { λ r. ⌜ r ≡ headOf number length place write ⌝ }
 {
     Head {
-        number: head.number,
+        number,
         length,
         place,
         write,

@@ -8,7 +8,7 @@ ghost use Rattle.words.specs.Logic.{listFrom};
 ghost use Rattle.words.specs.Word.{byteOf};
 ghost use Rattle.words.specs.Memory.{memory, byteIn};
 ghost use Rattle.log.specs.Replay.{mappedByte, fileByte};
-ghost use Rattle.points.specs.Lent.{Reads};
+ghost use Rattle.points.specs.Lent.{Reads, unsized};
 use crate::Count;
 use crate::Head;
 use crate::Point;
@@ -108,7 +108,8 @@ fn copy_block(image: &[u64], b: usize, from: usize, buffer: &mut [u8], at: usize
 // n bytes of the file from an offset on go to the buffer's front, block by block.
 fn fill(image: &[u64], table: &[u16; 256], offset: usize, buffer: &mut [u8], n: usize)
     requires { ⌜ (n ≤ length (now buffer)) × (offset + n < 2 ^ 64) ⌝ }
-    ensures { λ _. ⌜ now (buffer .exit) ≡ sets (now (buffer .entry)) 0 (listFrom offset n (fileByte one (memory one (now (image .entry))) (record { table = now (table .entry); size = 0 }))) ⌝ }
+    ensures { λ _. ⌜ now (buffer .exit)
+        ≡ sets (now (buffer .entry)) 0 (listFrom offset n (fileByte one (memory one (now (image .entry))) (unsized (now (table .entry))))) ⌝ }
 {
     let mut done = 0;
     while done < n {
@@ -130,7 +131,8 @@ fn left(size: u32, offset: usize, room: usize) -> usize
     least(room, size as usize - offset)
 }
 
-// Reading, with the record's table lent: the file's bytes from an offset on fill the buffer, as far as both go; the count is answered, and no further byte is touched.
+// Reading, with the record's table lent: the file's bytes from an offset on fill the buffer, as far as both go; the count is answered, and no
+// further byte is touched.
 pub fn read_lent(
     image: &[u64],
     shared: Shared,

@@ -83,7 +83,8 @@ fn settle<'a>(
     table: &'a [u16; 256],
     text: &'a [u8; 1024],
 ) -> Plan
-    ensures { λ r. ⌜ r ≡ planned one (now (image .entry)) (sharedOf numbers (now (taken .entry))) (pointOf head (now (table .entry)) (now (text .entry))) ⌝ }
+    ensures { λ r. ⌜ r
+        ≡ planned one (now (image .entry)) (sharedOf numbers (now (taken .entry))) (pointOf head (now (table .entry)) (now (text .entry))) ⌝ }
 {
     let reason = crate::record::unfit_numbers(image, numbers, head, table);
     if reason != 0 {
@@ -178,7 +179,7 @@ pub fn step_lent(
     keep_text(text, plan.clears);
     let kind = plan.kind;
     store(image, kind, plan.block, plan.word, plan.value);
-    let left = crate::plan::standing(head, length, plan.place, plan.write);
+    let left = crate::plan::head_of(head.number, length, plan.place, plan.write);
     let answer = plan.step;
     LentStepped {
         step: answer,

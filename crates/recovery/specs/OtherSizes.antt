@@ -12,9 +12,10 @@ use Rattle.words.specs.Memory.{memory, put, wordAt}
 use Rattle.words.specs.BlockMap.{freeCount}
 use Rattle.log.specs.Entry.{entryOf, entryV, entryB, entryN, entryU, entryPoint, entryRest}
 use Rattle.log.specs.Chain.{log}
-use Rattle.log.specs.Opening.{numberOf, layoutRefusal, layout, openRefusal, fileOf, opened, openedFile}
+use Rattle.log.specs.Opening.{numberOf, layoutRefusal, layout, openRefusal, fileOf, nobodyJoined, opened, openedFile}
 use Rattle.points.specs.declared.Head.{Head}
-use Rattle.points.specs.Record.{noPoint, noWrite, noTable, unfit}
+use Rattle.points.specs.Record.{headOf, noPoint, noWrite, noTable, unfit}
+use Rattle.points.specs.Search.{withJoined}
 use Rattle.recovery.specs.World.{World, Call, join, begin, Event, world, events}
 use Rattle.recovery.specs.History.{enough, openWorld, alone, finishes}
 use Rattle.recovery.specs.Claim.{runMost, loneSteps}
@@ -105,11 +106,11 @@ used E u = openHolding E (entryOf E 0 2 1 u 0)
 
 -- a head of point 0 with this length and slot; and the reason that leaving gives it, on 4 blocks of edition two, at another edition and block count too
 abbrev pub headWith : ℕ → ℕ → Head
-headWith length slot = record { number = 0; length = length; place = record { block = 1; slot = slot; passed = 1 }; write = noWrite }
+headWith length slot = headOf 0 length (record { block = 1; slot = slot; passed = 1 }) noWrite
 
 abbrev pub leaveReason : Edition → ℕ → ℕ → ℕ → ℕ
 leaveReason E blocks length slot =
-    unfit E (laid two 4) (record { blocks = blocks; taken = 3 ∷ replicate 15 0; joined = 1; next = 2 }) (headWith length slot) noTable
+    unfit E (laid two 4) (withJoined (nobodyJoined blocks (3 ∷ replicate 15 0)) 1) (headWith length slot) noTable
 
 -- a point joins on 4 blocks and begins a write of two bytes at this offset, then one of a single byte
 abbrev pub twoOrOne : Edition → ℕ → List ℕ

@@ -15,7 +15,7 @@ use Rattle.points.proofs.step.step_lent.Statement.{statement}
 use Rattle.points.proofs.step.step_lent.Tie as tie
 
 -- the way back, call by call
-abbrev stored : tie.After-standing → tie.After-store
+abbrev stored : tie.After-head-of → tie.After-store
 stored c = c .before .before .before
 
 abbrev kept : tie.After-store → tie.After-keep-text
@@ -64,8 +64,8 @@ keep-text-requires c κs = search needs
 store-requires : tie.Need-store-requires
 store-requires c κs = search needs
 
-standing-requires : tie.Need-standing-requires
-standing-requires c κs = search needs
+head-of-requires : tie.Need-head-of-requires
+head-of-requires c κs = search needs
 
 same-length : tie.Need-same-length
 same-length c = search needs
@@ -84,9 +84,9 @@ returns c =
     let m = memory one (a .image .now) in
     let e = plan .settle .ensures in
     record {
-      answers = carried-out one m (a .numbers) (a .taken .now) (plan .settle .result) p (c .standing .result) (map .release .last .0)
+      answers = carried-out one m (a .numbers) (a .taken .now) (plan .settle .result) p (c .head-of .result) (map .release .last .0)
           (block .take-one .last .1 .0) (table .read-in .last .1 .1 .1 .0) (text .keep-text .last .0) (block .take-one .result) (table .read-in .result)
-          (map .release .ensures) (block .take-one .ensures) (table .read-in .ensures) (text .keep-text .ensures) (c .standing .ensures)
+          (map .release .ensures) (block .take-one .ensures) (table .read-in .ensures) (text .keep-text .ensures) (c .head-of .ensures)
           ∙ ap (λ (x : Plan). answered (carriedOut one m s p x)) e;
       stored = stored c .store .ensures ∙ ap (λ (x : Plan). after one (a .image .now) (carriedOut one m s p x .store)) e;
     }
@@ -94,4 +94,4 @@ returns c =
 pub step-lent-spec : {M : Type 1} → statement M
 step-lent-spec =
     tie.close
-    (tie.spec settle-requires release-requires take-one-requires read-in-requires keep-text-requires store-requires standing-requires same-length returns)
+    (tie.spec settle-requires release-requires take-one-requires read-in-requires keep-text-requires store-requires head-of-requires same-length returns)
