@@ -205,16 +205,19 @@ store-keeps E m s p c = go (isZeroing (p .head .write .phase)) refl c
         let l = ltb-true (p .head .write .position) (E .blockWords) c in
         subst (Leaves s p) (sym (ap (carriedOut E m s p) (on-zeroing E m s p e ∙ zero-on E m (p .head) c) ∙ zero-leaves E m s p l)) (refl, refl)
     go false e c =
-        subst (Leaves s p) (sym (ap (carriedOut E m s p) (on-filling E m s p e ∙ fill-on E m s p c) ∙ fill-leaves E m s p (nextWord E (p .head .write)))) (refl, refl)
+        subst (Leaves s p) (sym (ap (carriedOut E m s p) (on-filling E m s p e ∙ fill-on E m s p c) ∙ fill-leaves E m s p
+        (nextWord E (p .head .write)))) (refl, refl)
 
 step-keeps : (E : Edition) (words : List ℕ) (s : Shared) (p : Point) → stores E (p .head .write) ≡ true → Leaves s p (stepping E words s p)
 unfolding stepping afterRefusal
 step-keeps E words s p c = go (stepRefusal E words s (p .head) (p .table)) refl
   where
     go : (n : ℕ) → stepRefusal E words s (p .head) (p .table) ≡ n → Leaves s p (stepping E words s p)
-    go zero e = subst (λ (plan : Plan). Leaves s p (carriedOut E (memory E words) s p plan)) (sym (goes-on E words s p e)) (store-keeps E (memory E words) s p c)
+    go zero e = subst (λ (plan : Plan). Leaves s p (carriedOut E (memory E words) s p plan)) (sym (goes-on E words s p e))
+        (store-keeps E (memory E words) s p c)
     go (suc k) e =
-        subst (Leaves s p) (sym (ap (carriedOut E (memory E words) s p) (refused-on E words s p k e) ∙ refusal-leaves E (memory E words) s p (suc k))) (refl, refl)
+        subst (Leaves s p) (sym (ap (carriedOut E (memory E words) s p) (refused-on E words s p k e) ∙ refusal-leaves E (memory E words) s p (suc k)))
+        (refl, refl)
 
 known-step : (E : Edition) (w : World) (n : ℕ) (p : Point) → isJoined (w .shared) n ≡ true → stores E (handed w n p .head .write) ≡ true
     → tableFits (w .shared .blocks) (handed w n p .table) ≡ true → Known (serve E w (step n p) .world) (suc n)
