@@ -1,16 +1,17 @@
 -- What inner functions ask for and answer, for their contracts. Nothing here is promised: `CatchUp` and `Opening` have what is.
-use Prim.Native.Nat.{ℕ, zero, suc, _<_, _≤_}
+use Prim.Native.Nat.{ℕ, zero, suc, _+_, _<_, _≤_}
 use mathlib.Core.Path.{_≡_}
 use mathlib.Core.Bool.{Bool, true, false, _||_}
 use mathlib.Core.List.{List, [], _∷_}
 use lib.ListN.{length, getD}
 use lib.Dec.{ltb, eqb}
-use Rattle.words.specs.Edition.{one, blocksMax}
+use Rattle.words.specs.Edition.{one, blockBytes, fileBlocks, blocksMax}
 use Rattle.words.specs.Logic.{some-of, member, Reason, _when_}
 use Rattle.words.specs.Memory.{Memory, memory, blockCount, wrongSize}
 use Rattle.words.specs.BlockMap.{taken, setBlock, setAll, mapOf}
 use Rattle.log.specs.declared.Place.{Place}
 use Rattle.log.specs.Chain.{firstIndex, chain, outside, badSuperblock, badIndex, endless, badLog}
+use Rattle.log.specs.Entry.{entryV, entryB, entryN, entryU}
 use Rattle.log.specs.Opening.{takenAtOpening, cleared}
 use Rattle.log.specs.Replay.{Mapped, replayOn, sharesBlock}
 
@@ -19,6 +20,10 @@ use Rattle.log.specs.Replay.{Mapped, replayOn, sharesBlock}
 -- entries are taken in: the table after and the length r are what replay makes of the table and the length before
 abbrev pub TakenIn : List ℕ → List ℕ → ℕ → List ℕ → ℕ → Type 0
 TakenIn entries before size after r = _≡_ {A = Mapped} (record { table = after; size = r }) (replayOn one (record { table = before; size = size }) entries)
+
+-- an entry whose fields alone allow it to be taken in
+abbrev pub Mappable : ℕ → Type 0
+Mappable e = (1 ≤ entryN e) × (entryV e + entryN e ≤ fileBlocks) × (entryB e + entryN e ≤ blocksMax) × (entryU one e ≤ blockBytes one)
 
 -- ---- opening
 

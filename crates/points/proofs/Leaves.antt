@@ -2,19 +2,21 @@
 use Prim.Native.Nat.{ℕ, _^_, _<_}
 use native.Mathlib.Omega.{arith}
 use native.Mathlib.Decide.{decLt}
-use mathlib.Core.Path.{_≡_, sym, _∙_}
+use mathlib.Core.Path.{_≡_, sym, ap, _∙_}
 use mathlib.Core.Bool.{true, false}
-use mathlib.Core.List.{List}
+use mathlib.Core.List.{List, [], _∷_, _++_, append-nil}
 use Rattle.words.specs.Edition.{Edition}
 use Rattle.words.specs.Word.{bit}
-use Rattle.words.specs.BlockMap.{withBit, setBlock}
+use Rattle.words.specs.BlockMap.{withBit, setBlock, setEach}
+use Rattle.words.specs.Logic.{upFrom}
+use Rattle.words.proofs.BlockMap.{each-run, each-append}
 use Rattle.words.proofs.Choice.{choose-true, choose-false, chosen-zero}
 use Rattle.words.proofs.Tests.{no-true}
 use Rattle.log.specs.declared.Shared.{Shared}
 use Rattle.log.specs.declared.Reply.the-variants.{Done, Refused}
 use Rattle.points.specs.declared.Write.{Write}
 use Rattle.points.specs.declared.Point.{Point}
-use Rattle.points.specs.Record.{isIdle, isZeroing, unfit}
+use Rattle.points.specs.Record.{isIdle, isZeroing, runBlocks, held, unfit}
 use Rattle.points.specs.Search.{withJoined, withTaken}
 use Rattle.points.specs.Calls.{withoutHeld, leaving}
 use Rattle.points.specs.Plan.{withoutRun}
@@ -25,17 +27,21 @@ use Rattle.points.proofs.RecordReasons.{refused-so}
 
 module _ (E : Edition) (map : List ℕ) (w : Write) where
   pub held-idle : isIdle (w .phase) ≡ true → map ≡ withoutHeld E map w
-  unfolding withoutHeld
-  held-idle e = sym (choose-true (isIdle (w .phase)) map _ e)
+  unfolding withoutHeld setEach
+  held-idle e = sym (ap (setEach false map) (choose-true (isIdle (w .phase)) [] _ e))
 
   module _ (busy : isIdle (w .phase) ≡ false) (freed : List ℕ) (run : freed ≡ withoutRun E map w) where
     pub held-run : isZeroing (w .phase) ≡ false → freed ≡ withoutHeld E map w
-    unfolding withoutHeld
-    held-run e = run ∙ sym (choose-false (isIdle (w .phase)) map _ busy ∙ choose-false (isZeroing (w .phase)) _ _ e)
+    unfolding withoutHeld withoutRun
+    held-run e = run ∙ each-run false map (w .run) (runBlocks E w)
+        ∙ sym (ap (setEach false map) (choose-false (isIdle (w .phase)) [] _ busy ∙ rw e (append-nil (upFrom (w .run) (runBlocks E w)))))
 
     pub held-both : (left : List ℕ) → isZeroing (w .phase) ≡ true → left ≡ setBlock false freed (w .zeroing) → left ≡ withoutHeld E map w
-    unfolding withoutHeld
-    held-both left e l = l ∙ rw run (sym (choose-false (isIdle (w .phase)) map _ busy ∙ choose-true (isZeroing (w .phase)) _ _ e))
+    unfolding withoutHeld withoutRun setEach
+    held-both left e l =
+        let both : held E w ≡ upFrom (w .run) (runBlocks E w) ++ (w .zeroing ∷ []) = choose-false (isIdle (w .phase)) [] _ busy ∙ rw e in
+        l ∙ ap (λ (m : List ℕ). setBlock false m (w .zeroing)) (run ∙ each-run false map (w .run) (runBlocks E w))
+        ∙ sym (ap (setEach false map) both ∙ each-append false map (upFrom (w .run) (runBlocks E w)) (w .zeroing ∷ []))
 
 -- a point whose bit is set is one of 32
 pub joined-small : (joined number : ℕ) → joined < 2 ^ 32 → bit joined number ≡ true → number < 32

@@ -114,7 +114,7 @@ fn read_in(
 {
     match reads {
         Reads::NoEntry => length,
-        Reads::OwnEntry => log::ahead::take_entry(entry, blocks, table, length),
+        Reads::OwnEntry => log::ahead::take_entry(entry, table, length),
         Reads::AllAhead => log::ahead::catch_up(image, blocks, at, table, length),
     }
 }

@@ -29,7 +29,7 @@ unfolding readIn replayOn
 returns-2 c =
     let told = c .before .before .enum-told2 .given .1 in
     let f = rw told at (c .before .before .before .before .before .pre) in
-    rw told (c .take-entry .ensures (f .0) (f .1))
+    rw told (c .take-entry .ensures _ (f .0) (f .1))
 
 returns-3 : tie.Need-returns-3
 unfolding readIn
