@@ -5,12 +5,15 @@ use mathlib.Core.Bool.{Bool, true, false, _&&_}
 use mathlib.Core.List.{List, [], _∷_, _++_}
 use lib.ListN.{length, getD}
 use lib.Dec.{leb, ltb}
-use Rattle.words.specs.Edition.{Edition, one, blocksMax, fileEnd}
+use Rattle.words.specs.Edition.{Edition, one, blocksMax, fileBlocks, fileEnd}
 use Rattle.words.specs.Logic.{first, _when_}
 use Rattle.words.specs.Word.{byteOf}
 use Rattle.words.specs.Memory.{Memory, memory, blockAt, after}
 use Rattle.log.specs.declared.Shared.{Shared}
+use Rattle.log.specs.declared.Place.{Place}
+use Rattle.log.specs.Entry.{legal}
 use Rattle.log.specs.Replay.{Mapped}
+use Rattle.log.specs.CatchUp.{ahead, broken}
 use Rattle.points.specs.declared.Write.{Write}
 use Rattle.points.specs.declared.Head.{Head}
 use Rattle.points.specs.declared.Point.{Point}
@@ -20,8 +23,12 @@ use Rattle.points.specs.declared.LentBegun.{LentBegun}
 use Rattle.points.specs.declared.LentStepped.{LentStepped}
 use Rattle.points.specs.declared.Numbers.{Numbers}
 use Rattle.points.specs.declared.Count.{Count}
+use Rattle.points.specs.declared.plan.Reads.{Reads}
+use Rattle.points.specs.declared.plan.Reads.the-variants.{NoEntry, OwnEntry, AllAhead}
+use Rattle.points.specs.declared.plan.Frees.{Frees}
+use Rattle.points.specs.declared.plan.Frees.the-variants.{NoBlock, Run, Replaced, Zeroed}
 use Rattle.points.specs.declared.plan.Plan.{Plan}
-use Rattle.points.specs.Record.{textMax, runWords, pointOf, recordReasons}
+use Rattle.points.specs.Record.{textMax, runFirst, runBlocks, runWords, pointOf, recordReasons}
 use Rattle.points.specs.Search.{sharedOf, withNext}
 use Rattle.points.specs.Plan.{answered}
 use Rattle.points.specs.Stepping.{stepRefusal, stepping}
@@ -53,6 +60,21 @@ Plans part words n taken h table text r = r ≡ part one (memory one words) (sha
 abbrev pub StepsOn : List ℕ → Numbers → List ℕ → Head → List ℕ → Type 0
 StepsOn words n taken h table = stepRefusal one words (sharedOf n taken) h table ≡ 0
 
+-- ---- what carrying out a plan asks for
+
+-- an entry that keeps its rules, or a walk that is not broken, in an image no larger than one may be
+abbrev pub Readable : Reads → Edition → Memory → ℕ → Place → ℕ → Type 0
+Readable NoEntry E m blocks at entry = Unit {0}
+Readable OwnEntry E m blocks at entry = (blocks ≤ blocksMax) × (legal E blocks entry ≡ true)
+Readable AllAhead E m blocks at entry = (blocks ≤ blocksMax) × (broken E blocks (ahead E m blocks at) ≡ false)
+
+-- where blocks are replaced, the write ends inside the table
+abbrev pub InTable : Frees → Edition → Write → Type 0
+InTable NoBlock E w = Unit {0}
+InTable Run E w = Unit {0}
+InTable Replaced E w = runFirst E w + runBlocks E w ≤ fileBlocks
+InTable Zeroed E w = Unit {0}
+
 -- ---- the file as a point sees it, caught up privately
 
 -- the first of 10, 11, 14 and 18; and of 17 before 18 where a block is asked for that lies past the file
@@ -69,7 +91,7 @@ abbrev pub unsized : List ℕ → Mapped
 unsized table = record { table = table; size = 0 }
 
 -- what reading answers, and the buffer after it
-pub record Reads (words : List ℕ) (s : Shared) (h : Head) (table : List ℕ) (offset : ℕ) (buffer : List ℕ) (answer : Count) (left : List ℕ)
+pub record ReadLeaves (words : List ℕ) (s : Shared) (h : Head) (table : List ℕ) (offset : ℕ) (buffer : List ℕ) (answer : Count) (left : List ℕ)
     : Type 0 where
   pub count : answer ≡ reading one words s h table offset (length buffer)
   pub bytes : left ≡ bufferAfter one words s h table offset buffer

@@ -1,18 +1,16 @@
 -- A plan: what a step is to do, a field for each thing, settled before anything changes; and what carrying it out leaves.
-use Prim.Native.Nat.{ℕ, zero, suc, _+_, _/_, _%_, _≤_}
-use mathlib.Core.Path.{_≡_}
+use Prim.Native.Nat.{ℕ, _+_, _/_, _%_}
 use mathlib.Core.Bool.{Bool, true, false}
 use mathlib.Core.List.{List}
 use mathlib.Core.Option.{Option, none, some}
 use lib.ListN.{take, drop}
-use Rattle.words.specs.Edition.{Edition, blocksMax, fileBlocks}
+use Rattle.words.specs.Edition.{Edition}
 use Rattle.words.specs.Memory.{Memory, Store}
 use Rattle.words.specs.BlockMap.{setBlock, setRun, setAll}
 use Rattle.log.specs.declared.Place.{Place}
 use Rattle.log.specs.declared.Shared.{Shared}
-use Rattle.log.specs.Entry.{legal}
 use Rattle.log.specs.Replay.{Mapped, apply, replayOn}
-use Rattle.log.specs.CatchUp.{ahead, broken}
+use Rattle.log.specs.CatchUp.{ahead}
 use Rattle.points.specs.declared.Write.{Write}
 use Rattle.points.specs.declared.Point.{Point}
 use Rattle.points.specs.declared.StepAnswer.{StepAnswer}
@@ -129,18 +127,3 @@ carriedOut E m s p plan =
       point = pointOf (standing h (f .size) (plan .place) (plan .write)) (f .table) (textAfter (plan .clears) (p .text));
       store = storeOf E (plan .kind) (plan .block) (plan .word) (plan .value);
     }
-
--- ---- what the code that carries it out asks for
-
--- an entry that keeps its rules, or a walk that is not broken, in an image no larger than one may be
-abbrev pub Readable : Reads → Edition → Memory → ℕ → Place → ℕ → Type 0
-Readable NoEntry E m blocks at entry = Unit {0}
-Readable OwnEntry E m blocks at entry = (blocks ≤ blocksMax) × (legal E blocks entry ≡ true)
-Readable AllAhead E m blocks at entry = (blocks ≤ blocksMax) × (broken E blocks (ahead E m blocks at) ≡ false)
-
--- where blocks are replaced, the write ends inside the table
-abbrev pub InTable : Frees → Edition → Write → Type 0
-InTable NoBlock E w = Unit {0}
-InTable Run E w = Unit {0}
-InTable Replaced E w = runFirst E w + runBlocks E w ≤ fileBlocks
-InTable Zeroed E w = Unit {0}

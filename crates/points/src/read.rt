@@ -8,7 +8,7 @@ ghost use Rattle.words.specs.Logic.{listFrom};
 ghost use Rattle.words.specs.Word.{byteOf};
 ghost use Rattle.words.specs.Memory.{memory, byteIn};
 ghost use Rattle.log.specs.Replay.{mappedByte, fileByte};
-ghost use Rattle.points.specs.Lent.{Reads, unsized};
+ghost use Rattle.points.specs.Lent.{ReadLeaves, unsized};
 use crate::Count;
 use crate::Head;
 use crate::Point;
@@ -141,7 +141,7 @@ pub fn read_lent(
     offset: usize,
     buffer: &mut [u8],
 ) -> Count
-    ensures { λ r. ⌜ Reads (now (image .entry)) shared head (now (table .entry)) offset (now (buffer .entry)) r (now (buffer .exit)) ⌝ }
+    ensures { λ r. ⌜ ReadLeaves (now (image .entry)) shared head (now (table .entry)) offset (now (buffer .entry)) r (now (buffer .exit)) ⌝ }
 {
     let mut own = *table;
     let current = crate::current::catch_up(image, shared, head, &mut own, false);
@@ -155,7 +155,7 @@ pub fn read_lent(
 
 // Reading.
 pub fn read(image: &[u64], shared: Shared, point: Point, offset: usize, buffer: &mut [u8]) -> Count
-    ensures { λ r. ⌜ Reads (now (image .entry)) shared (point .head) (point .table) offset (now (buffer .entry)) r (now (buffer .exit)) ⌝ }
+    ensures { λ r. ⌜ ReadLeaves (now (image .entry)) shared (point .head) (point .table) offset (now (buffer .entry)) r (now (buffer .exit)) ⌝ }
 {
     let head = point.head;
     read_lent(image, shared, head, &point.table, offset, buffer)

@@ -7,7 +7,8 @@ ghost use lib.ListN.{take, drop};
 ghost use Rattle.words.specs.Edition.{one};
 ghost use Rattle.words.specs.BlockMap.{setAll};
 ghost use Rattle.points.specs.declared.plan.Frees.the-variants.{Replaced};
-ghost use Rattle.points.specs.Plan.{withoutRun, replaced, freed, InTable};
+ghost use Rattle.points.specs.Plan.{withoutRun, replaced, freed};
+ghost use Rattle.points.specs.Lent.{InTable};
 use crate::Write;
 use crate::plan::Frees;
 
