@@ -1,6 +1,6 @@
 -- `points::current::catch_up`: each reason is asked where the ones before it failed. Assumes nothing.
 use native.Mathlib.Omega.{arith}
-use mathlib.Core.Path.{_≡_, refl, sym, _∙_}
+use mathlib.Core.Path.{sym, _∙_}
 use Rattle.words.specs.Edition.{one}
 use Rattle.words.specs.Memory.{memory}
 use Rattle.log.specs.CatchUp.{ahead}

@@ -1,13 +1,10 @@
 -- `points::read::copy_bytes` meets its contract: the bytes put in and those still to come are always all of them. Assumes nothing.
-use Prim.Native.Nat.{ℕ, _+_, _*_, _-_, _/_, _%_, _≤_, _<_}
-use mathlib.Core.Path.{_≡_, refl, sym, ap, _∙_}
+use Prim.Native.Nat.{_+_, _-_}
+use mathlib.Core.Path.{ap}
 use native.Mathlib.Omega.{arith}
-use lib.ListN.{length, getD, set}
-use lib.Seq.{sets}
-use Rattle.words.specs.Logic.{listFrom}
-use Rattle.words.specs.Word.{byteOf}
+use lib.ListN.{set}
 use Rattle.words.specs.Memory.{byteIn}
-use Rattle.points.proofs.Copied.{Copied, copied-none, copied-more, copied-all, word-bytes}
+use Rattle.points.proofs.Copied.{Copied, copied-none, copied-more, copied-all}
 use Rattle.points.proofs.read.copy_bytes.Statement.{statement}
 use Rattle.points.proofs.read.copy_bytes.Tie as tie
 

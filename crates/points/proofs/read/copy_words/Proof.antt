@@ -1,11 +1,8 @@
 -- `points::read::copy_words` meets its contract: the bytes put in and those still to come are always all of them, eight more with each word. Assumes nothing.
-use Prim.Native.Nat.{ℕ, _+_, _*_, _-_, _/_, _%_, _≤_, _<_}
-use mathlib.Core.Path.{_≡_, refl, sym, ap, _∙_}
+use Prim.Native.Nat.{_+_, _*_, _-_}
+use mathlib.Core.Path.{_≡_, ap, _∙_}
 use native.Mathlib.Omega.{arith}
-use lib.ListN.{length, getD, set}
 use lib.Seq.{sets}
-use Rattle.words.specs.Logic.{listFrom}
-use Rattle.words.specs.Word.{byteOf}
 use Rattle.words.specs.Memory.{byteIn}
 use Rattle.points.proofs.Copied.{Copied, copied-none, copied-more, copied-all, word-bytes}
 use Rattle.points.proofs.read.copy_words.Statement.{statement}
