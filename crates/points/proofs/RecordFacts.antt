@@ -16,7 +16,8 @@ use Rattle.log.specs.declared.Place.{Place}
 use Rattle.log.specs.declared.Shared.{Shared}
 use Rattle.points.specs.declared.Write.{Write}
 use Rattle.points.specs.declared.Head.{Head}
-use Rattle.points.specs.Record.{isIdle, isZeroing, span, badShared, badText, pastEnd, inside, placeFits, zeroingFits, writeFits, headFits, tableFits, fits}
+use Rattle.points.specs.Record.{isIdle, isZeroing, span, badShared, badText, pastEnd, inside}
+use Rattle.points.specs.Record.{placeFits, zeroingFits, writeFits, headFits, tableFits, fits}
 
 -- ---- a test as its facts
 

@@ -69,9 +69,11 @@ returns-2 c =
     let a = start e .args in
     begin-done one (a .image .now) (a .shared) (pointOf (a .head) (a .table .now) (a .text .now)) (a .offset) (a .bytes .now) r _ _ _ _ _ _ _ _
     (q .ensures .tail z) (q .ensures .found z) (taken .before .before .before .catch-up .ensures (r .few) (r .sound))
-    (taken .before .before .text-of .ensures) (rw (c .before .new-write .ensures) at (c .head-of .ensures)) (taken .before .span .ensures) (taken .take .ensures)
+    (taken .before .before .text-of .ensures) (rw (c .before .new-write .ensures) at (c .head-of .ensures))
+    (taken .before .span .ensures) (taken .take .ensures)
 
 pub begin-lent-spec : {M : Type 1} → statement M
 begin-lent-spec =
     tie.close
-    (tie.spec settle-requires returns catch-up-requires text-of-requires cast-at cast-size span-requires take-requires new-write-requires head-of-requires returns-2)
+    (tie.spec settle-requires returns catch-up-requires text-of-requires cast-at cast-size span-requires take-requires new-write-requires head-of-requires
+    returns-2)

@@ -50,7 +50,8 @@ returns-3 c =
     let z = zeroed next in
     let a = start z .args in
     let m = memory one (a .image .now) in
-    c .give-back .ensures ∙ sym (lost-on one m (a .head) (le-ltb _ _ (z .if1 .left)) (not-zero _ (λ e. c .before .if2 .left (next .next-index .ensures ∙ e))))
+    c .give-back .ensures
+    ∙ sym (lost-on one m (a .head) (le-ltb _ _ (z .if1 .left)) (not-zero _ (λ e. c .before .if2 .left (next .next-index .ensures ∙ e))))
 
 pub extending-spec : {M : Type 1} → statement M
 extending-spec =

@@ -24,7 +24,8 @@ returns : tie.Need-returns
 returns c =
     let a = start (c .before .before .before) .args in
     let ne = c .before .if1 .taken in
-    c .refused .ensures ∙ locate-early one (a .image .now) (a .shared) (a .head) (a .table .now) (a .v) _ (c .before .before .before .catch-up .ensures .refusal) ne
+    c .refused .ensures
+    ∙ locate-early one (a .image .now) (a .shared) (a .head) (a .table .now) (a .v) _ (c .before .before .before .catch-up .ensures .refusal) ne
 
 mul-wide : tie.Need-mul-wide
 mul-wide c =
@@ -63,7 +64,8 @@ returns-3 c =
     let a = start (inside .before .before) .args in
     let caught = inside .before .before .catch-up in
     let z = inside .if1 .left in
-    c .counted .ensures ∙ locate-found one (a .image .now) (a .shared) (a .head) (a .table .now) (a .v) _ (caught .ensures .refusal) z _ (caught .ensures .file z) _
+    c .counted .ensures
+    ∙ locate-found one (a .image .now) (a .shared) (a .head) (a .table .now) (a .v) _ (caught .ensures .refusal) z _ (caught .ensures .file z) _
     (c .before .before .wide .ensures) (c .before .if2 .left)
 
 pub find-spec : {M : Type 1} → statement M

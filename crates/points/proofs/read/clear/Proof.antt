@@ -28,13 +28,19 @@ loop-less : tie.Need-loop-less Inv-loop μ-loop
 loop-less c = omega arith
 
 loop-again : tie.Need-loop-again Inv-loop μ-loop
-loop-again c = let a = c .before .before .args in let l = c .before .loop in copied-more (λ _. 0) (a .buffer .now) (a .at) 0 (a .n) (l .buffer) (l .k) (l .inv) _ 1 (omega arith) refl
+loop-again c =
+    let a = c .before .before .args in
+    let l = c .before .loop in
+    copied-more (λ _. 0) (a .buffer .now) (a .at) 0 (a .n) (l .buffer) (l .k) (l .inv) _ 1 (omega arith) refl
 
 same-length : tie.Need-same-length Inv-loop μ-loop
 same-length c = c .before .loop .inv .same
 
 returns : tie.Need-returns Inv-loop μ-loop
-returns c = let a = c .before .before .args in let l = c .before .loop in copied-all (λ _. 0) (a .buffer .now) (a .at) 0 (a .n) (l .buffer) (l .k) (l .inv) (omega arith)
+returns c =
+    let a = c .before .before .args in
+    let l = c .before .loop in
+    copied-all (λ _. 0) (a .buffer .now) (a .at) 0 (a .n) (l .buffer) (l .k) (l .inv) (omega arith)
 
 pub clear-spec : {M : Type 1} → statement M
 clear-spec =

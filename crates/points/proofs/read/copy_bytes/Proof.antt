@@ -42,13 +42,20 @@ loop-less : tie.Need-loop-less Inv-loop μ-loop
 loop-less c = omega arith
 
 loop-again : tie.Need-loop-again Inv-loop μ-loop
-loop-again c = let a = c .before .before .before .before .before .before .args in let l = c .before .before .before .loop in copied-more (byteIn (a .part .now)) (a .buffer .now) (a .at) (a .from) (a .n) (l .buffer) (l .k) (l .inv) _ 1 (omega arith) (ap (set (l .buffer) (a .at + l .k)) (c .byte .ensures))
+loop-again c =
+    let a = c .before .before .before .before .before .before .args in
+    let l = c .before .before .before .loop in
+    copied-more (byteIn (a .part .now)) (a .buffer .now) (a .at) (a .from) (a .n) (l .buffer) (l .k) (l .inv) _ 1 (omega arith)
+    (ap (set (l .buffer) (a .at + l .k)) (c .byte .ensures))
 
 same-length : tie.Need-same-length Inv-loop μ-loop
 same-length c = c .before .loop .inv .same
 
 returns : tie.Need-returns Inv-loop μ-loop
-returns c = let a = c .before .before .before .before .args in let l = c .before .loop in copied-all (byteIn (a .part .now)) (a .buffer .now) (a .at) (a .from) (a .n) (l .buffer) (l .k) (l .inv) (omega arith)
+returns c =
+    let a = c .before .before .before .before .args in
+    let l = c .before .loop in
+    copied-all (byteIn (a .part .now)) (a .buffer .now) (a .at) (a .from) (a .n) (l .buffer) (l .k) (l .inv) (omega arith)
 
 pub copy-bytes-spec : {M : Type 1} → statement M
 copy-bytes-spec =

@@ -1,4 +1,4 @@
--- `points::read::fill` meets its contract: the bytes put in and those still to come are always all of them, a block's share more with each turn. Assumes nothing.
+-- `points::read::fill`: the bytes put in and those still to come are always all of them, a block's share more with each turn.
 use Prim.Native.Nat.{ℕ, _+_, _-_}
 use native.Mathlib.Omega.{arith}
 use mathlib.Core.Path.{_≡_, ap, _∙_}

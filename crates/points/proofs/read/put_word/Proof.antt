@@ -88,7 +88,8 @@ returns c =
     let low = c .before .before .before .before in
     let a = start low .args in
     rw (low .before .before .before .byte .ensures, low .before .before .byte2 .ensures, low .before .byte3 .ensures, low .byte4 .ensures)
-    (rw (c .before .before .before .byte5 .ensures, c .before .before .byte6 .ensures, c .before .byte7 .ensures, c .byte8 .ensures) (sets-eight (byteOf (a .w)) (a .buffer .now) (a .at)))
+    (rw (c .before .before .before .byte5 .ensures, c .before .before .byte6 .ensures, c .before .byte7 .ensures, c .byte8 .ensures)
+    (sets-eight (byteOf (a .w)) (a .buffer .now) (a .at)))
 
 pub put-word-spec : {M : Type 1} → statement M
 put-word-spec =

@@ -55,7 +55,9 @@ returns-2 c =
     let z = n .before .if1 .left in
     let a = start up .args in
     record {
-      count = c .counted .ensures ∙ read-done one (a .image .now) (a .shared) (a .head) (a .table .now) (a .offset) (a .buffer .now) _ (caught .ensures .refusal) z
+      count =
+          c .counted .ensures
+          ∙ read-done one (a .image .now) (a .shared) (a .head) (a .table .now) (a .offset) (a .buffer .now) _ (caught .ensures .refusal) z
           _ (caught .ensures .file z) _ (n .left .ensures);
       bytes = read-filled one (a .image .now) (a .shared) (a .head) (a .table .now) (a .offset) (a .buffer .now) _ (caught .ensures .refusal) z _
           (caught .ensures .file z) _ (n .left .ensures) _ (counted .fill .ensures);

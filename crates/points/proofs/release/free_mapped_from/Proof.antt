@@ -47,8 +47,11 @@ loop-again c =
     let turn = c .before .before .before .before .before .before in
     let a = called turn .args in
     let l = turn .loop in
-    let f = c .before .before .free-mapped in
-    (omega arith, freed-one (a .map .now) (l .map) (f .last .0) (a .table .now) (a .n) (a .v) (l .left) (l .at) (omega arith) (l .inv .1) (f .ensures), f .kept .0 ∙ l .inv .2)
+    let f = c .before .before .free-mapped in (
+      omega arith,
+      freed-one (a .map .now) (l .map) (f .last .0) (a .table .now) (a .n) (a .v) (l .left) (l .at) (omega arith) (l .inv .1) (f .ensures),
+      f .kept .0 ∙ l .inv .2,
+    )
 
 same-length : tie.Need-same-length Inv-loop μ-loop
 same-length c = c .before .loop .inv .2
