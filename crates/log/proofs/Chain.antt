@@ -53,7 +53,8 @@ module _ (m : Memory) where
 
 -- a pass over the chain
 module _ (m : Memory) (map : List ℕ) (n b : ℕ) where
-  pub links-marks : 0 < n → (b ≡ 0 → ⊥) → setAll true map (chainFrom m n b) ≡ setAll true (setBlock true map b) (chainFrom m (n - 1) (nextIndex m b))
+  pub links-marks : 0 < n → (b ≡ 0 → ⊥)
+      → setAll true map (chainFrom m n b) ≡ setAll true (setBlock true map b) (chainFrom m (n - 1) (nextIndex m b))
   links-marks h ne = rw (chain-next m n b h ne) (setAll-next map b (chainFrom m (n - 1) (nextIndex m b)) ne)
 
   pub links-marked : b ≡ 0 → setAll true map (chainFrom m n b) ≡ map

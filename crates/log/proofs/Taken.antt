@@ -92,7 +92,8 @@ clash-is map [] h s = refl
 clash-is map (zero ∷ xs) h s = clash-is map xs (h .1) s
 clash-is map (suc b ∷ xs) h s =
     ap (λ (t : Bool). taken map (suc b) || t)
-    (clash-is (setBlock true map (suc b)) xs (h .1) (sound-setBlock map (suc b) (h .0) s) ∙ ap (λ (t : Bool). repeated xs || t) (some-setBlock map b xs (omega arith) s))
+    (clash-is (setBlock true map (suc b)) xs (h .1) (sound-setBlock map (suc b) (h .0) s)
+    ∙ ap (λ (t : Bool). repeated xs || t) (some-setBlock map b xs (omega arith) s))
     ∙ sym (or-assoc (taken map (suc b)) (repeated xs) (member (suc b) xs || someTaken map xs))
     ∙ ap (λ (t : Bool). t || (member (suc b) xs || someTaken map xs)) (or-comm (taken map (suc b)) (repeated xs))
     ∙ middle (repeated xs) (taken map (suc b)) (member (suc b) xs) (someTaken map xs)

@@ -51,7 +51,8 @@ entry-kept E v b n u p hu hp =
     rw (e, f)
 
 pub entry-for-legal :
-    (E : Edition) (blocks : ℕ) (h : Head) → 1 ≤ h .write .size → h .write .size ≤ 1024 → h .write .offset + h .write .size ≤ fileEnd E → 1 ≤ h .write .run
+    (E : Edition) (blocks : ℕ) (h : Head) → 1 ≤ h .write .size → h .write .size ≤ 1024 → h .write .offset + h .write .size ≤ fileEnd E
+    → 1 ≤ h .write .run
     → h .write .run + runBlocks E (h .write) ≤ blocks → blocks ≤ 1024 → h .number < 32 → legal E blocks (entryFor E h) ≡ true
 entry-for-legal E blocks h some few ends low inside max point =
     let w = h .write in
@@ -125,15 +126,18 @@ free-at map table at n = go (decLt at (length table))
 
 -- what is left to free, after one more
 pub freed-one :
-    (start map more table : List ℕ) (n v left at : ℕ) → 0 < left → setAll false start (take n (drop v table)) ≡ setAll false map (take left (drop at table))
-    → more ≡ setAll false map (getD table at 0 ∷ []) → setAll false start (take n (drop v table)) ≡ setAll false more (take (left - 1) (drop (at + 1) table))
+    (start map more table : List ℕ) (n v left at : ℕ) → 0 < left
+    → setAll false start (take n (drop v table)) ≡ setAll false map (take left (drop at table))
+    → more ≡ setAll false map (getD table at 0 ∷ [])
+    → setAll false start (take n (drop v table)) ≡ setAll false more (take (left - 1) (drop (at + 1) table))
 freed-one start map more table n v left at h inv e =
     let l : suc (left - 1) ≡ left = omega arith in
     let a : suc at ≡ at + 1 = omega arith in
     inv ∙ rw (e, ← a) (rw l at (free-at map table at (left - 1)))
 
 pub freed-all :
-    (start map table : List ℕ) (n v left at : ℕ) → left ≤ 0 → setAll false start (take n (drop v table)) ≡ setAll false map (take left (drop at table))
+    (start map table : List ℕ) (n v left at : ℕ) → left ≤ 0
+    → setAll false start (take n (drop v table)) ≡ setAll false map (take left (drop at table))
     → map ≡ setAll false start (take n (drop v table))
 unfolding setAll
 freed-all start map table n v left at h inv =

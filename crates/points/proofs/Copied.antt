@@ -3,7 +3,7 @@
 use Prim.Native.Nat.{ℕ, zero, suc, _+_, _*_, _-_, _/_, _%_, _≤_, _<_}
 use native.Mathlib.Omega.{arith}
 use mathlib.Core.Path.{_≡_, refl, sym, ap, ap₂, _∙_}
-use mathlib.Core.List.{List, [], _∷_, _++_}
+use mathlib.Core.List.{List, _∷_, _++_}
 use lib.ListN.{length, getD, drop, set}
 use lib.Seq.{sets, sets-eq, length-sets}
 use Rattle.words.specs.Logic.{listFrom}
@@ -17,7 +17,8 @@ listFrom-same f g i j zero h = refl
 listFrom-same f g i j (suc n) h =
     let a : i + 0 ≡ i = omega arith in
     let b : j + 0 ≡ j = omega arith in
-    let more : (k : ℕ) → k < n → f (suc i + k) ≡ g (suc j + k) = λ k l. let c : suc i + k ≡ i + suc k = omega arith in let d : suc j + k ≡ j + suc k = omega arith in rw (c, d) (h (suc k) (omega arith)) in
+    let more : (k : ℕ) → k < n → f (suc i + k) ≡ g (suc j + k) =
+    λ k l. let c : suc i + k ≡ i + suc k = omega arith in let d : suc j + k ≡ j + suc k = omega arith in rw (c, d) (h (suc k) (omega arith)) in
     ap₂ (λ (x : ℕ) (xs : List ℕ). x ∷ xs) (rw (a, b) at (h 0 (omega arith))) (listFrom-same f g (suc i) (suc j) n more)
 
 module _ (f : ℕ → ℕ) where
@@ -53,7 +54,8 @@ module _ (f : ℕ → ℕ) where
   -- eight stores, one after the other
   pub sets-eight :
       (xs : List ℕ) (at : ℕ)
-      → set (set (set (set (set (set (set (set xs at (f 0)) (at + 1) (f 1)) (at + 2) (f 2)) (at + 3) (f 3)) (at + 4) (f 4)) (at + 5) (f 5)) (at + 6) (f 6)) (at + 7) (f 7)
+      → set (set (set (set (set (set (set (set xs at (f 0)) (at + 1) (f 1)) (at + 2) (f 2)) (at + 3) (f 3)) (at + 4) (f 4)) (at + 5) (f 5)) (at + 6) (f 6))
+      (at + 7) (f 7)
       ≡ sets xs at (listFrom 0 8 f)
   sets-eight xs at =
       let a : at + 1 ≡ suc at = omega arith in

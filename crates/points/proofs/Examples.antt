@@ -25,7 +25,8 @@ abbrev place : ℕ → ℕ → ℕ → Place
 place block slot passed = record { block = block; slot = slot; passed = passed }
 
 abbrev write : ℕ → ℕ → ℕ → Phase → ℕ → ℕ → Write
-write offset size run phase position zeroing = record { offset = offset; size = size; run = run; phase = phase; position = position; zeroing = zeroing; retries = 0 }
+write offset size run phase position zeroing =
+    record { offset = offset; size = size; run = run; phase = phase; position = position; zeroing = zeroing; retries = 0 }
 
 abbrev head : ℕ → Place → Write → Head
 head length p w = record { number = 1; length = length; place = p; write = w }
@@ -50,20 +51,23 @@ unfolding computing
 phases-past = refl
 
 -- zeroing: position 64, slot 64, under 64 passed, a block from 1 to 7
-zeroing-fits : map fit (atSlot 64 (three Zeroing 64 7) ∷ atSlot 64 (three Zeroing 65 7) ∷ atSlot 63 (three Zeroing 64 7) ∷ head 0 (place 1 64 64) (three Zeroing 64 7)
-    ∷ atSlot 64 (three Zeroing 64 8) ∷ atSlot 64 (three Zeroing 64 0) ∷ []) ≡ 1 ∷ 0 ∷ 0 ∷ 0 ∷ 0 ∷ 0 ∷ []
+zeroing-fits : map fit (atSlot 64 (three Zeroing 64 7) ∷ atSlot 64 (three Zeroing 65 7) ∷ atSlot 63 (three Zeroing 64 7)
+    ∷ head 0 (place 1 64 64) (three Zeroing 64 7) ∷ atSlot 64 (three Zeroing 64 8) ∷ atSlot 64 (three Zeroing 64 0) ∷ []) ≡ 1 ∷ 0 ∷ 0 ∷ 0 ∷ 0 ∷ 0 ∷ []
 unfolding computing
 zeroing-fits = refl
 
 -- idle: the write fields are not looked at, place and length are
-idle-fits : map fit (head 131072 (place 7 64 64) (write 0 0 99 Idle 999 99) ∷ head 131073 (place 7 64 64) (three Idle 0 0) ∷ head 0 (place 8 2 1) (three Idle 0 0) ∷ head 0 (place 0 2 1) (three Idle 0 0)
-    ∷ head 0 (place 1 65 1) (three Idle 0 0) ∷ head 0 (place 1 1 1) (three Idle 0 0) ∷ head 0 (place 1 2 65) (three Idle 0 0) ∷ head 0 (place 1 2 0) (three Idle 0 0) ∷ []) ≡ 1 ∷ 0 ∷ 0 ∷ 0 ∷ 0 ∷ 0 ∷ 0 ∷ 0 ∷ []
+idle-fits : map fit (head 131072 (place 7 64 64) (write 0 0 99 Idle 999 99) ∷ head 131073 (place 7 64 64) (three Idle 0 0)
+    ∷ head 0 (place 8 2 1) (three Idle 0 0) ∷ head 0 (place 0 2 1) (three Idle 0 0)
+    ∷ head 0 (place 1 65 1) (three Idle 0 0) ∷ head 0 (place 1 1 1) (three Idle 0 0)
+    ∷ head 0 (place 1 2 65) (three Idle 0 0) ∷ head 0 (place 1 2 0) (three Idle 0 0) ∷ []) ≡ 1 ∷ 0 ∷ 0 ∷ 0 ∷ 0 ∷ 0 ∷ 0 ∷ 0 ∷ []
 unfolding computing
 idle-fits = refl
 
 -- the run from 1 on and inside, with its last block; the text has 1 to 1,024 bytes and ends by 131,072
-write-fits : map (λ w. fit (atSlot 2 w)) (write 500 600 5 Filling 0 0 ∷ write 500 600 6 Filling 0 0 ∷ write 500 600 0 Filling 0 0 ∷ write 0 1024 6 Filling 0 0 ∷ write 0 1025 5 Filling 0 0 ∷ write 0 0 5 Filling 0 0
-    ∷ write 131071 1 7 Filling 0 0 ∷ write 131071 2 5 Filling 0 0 ∷ []) ≡ 1 ∷ 0 ∷ 0 ∷ 1 ∷ 0 ∷ 0 ∷ 1 ∷ 0 ∷ []
+write-fits : map (λ w. fit (atSlot 2 w))
+    (write 500 600 5 Filling 0 0 ∷ write 500 600 6 Filling 0 0 ∷ write 500 600 0 Filling 0 0 ∷ write 0 1024 6 Filling 0 0
+    ∷ write 0 1025 5 Filling 0 0 ∷ write 0 0 5 Filling 0 0 ∷ write 131071 1 7 Filling 0 0 ∷ write 131071 2 5 Filling 0 0 ∷ []) ≡ 1 ∷ 0 ∷ 0 ∷ 1 ∷ 0 ∷ 0 ∷ 1 ∷ 0 ∷ []
 unfolding computing
 write-fits = refl
 
@@ -79,12 +83,14 @@ abbrev shared : ℕ → ℕ → Shared
 shared bits next = record { blocks = 8; taken = bits ∷ replicate 15 0; joined = 0; next = next }
 
 -- blocks 0 and 1 taken: from the next place on; the last start; back to 1, passing it by, where the run would not fit
-search-order : search (shared 3 4) 2 ∷ search (shared 3 6) 2 ∷ search (shared 3 7) 2 ∷ search (shared 3 7) 1 ∷ search (shared 3 1) 3 ∷ search (shared 3 5) 3 ∷ search (shared 3 6) 3 ∷ [] ≡ 4 ∷ 6 ∷ 2 ∷ 7 ∷ 2 ∷ 5 ∷ 2 ∷ []
+search-order : search (shared 3 4) 2 ∷ search (shared 3 6) 2 ∷ search (shared 3 7) 2 ∷ search (shared 3 7) 1 ∷ search (shared 3 1) 3
+    ∷ search (shared 3 5) 3 ∷ search (shared 3 6) 3 ∷ [] ≡ 4 ∷ 6 ∷ 2 ∷ 7 ∷ 2 ∷ 5 ∷ 2 ∷ []
 unfolding computing
 search-order = refl
 
 -- block 4 taken too: a run over it is none, at either of its blocks; with all but 7 taken only one block is found, with all taken none
-search-taken : search (shared 0x13 3) 2 ∷ search (shared 0x13 4) 1 ∷ search (shared 0x13 2) 3 ∷ search (shared 0x7F 1) 1 ∷ search (shared 0x7F 1) 2 ∷ search (shared 0xFF 1) 1 ∷ [] ≡ 5 ∷ 5 ∷ 5 ∷ 7 ∷ 0 ∷ 0 ∷ []
+search-taken : search (shared 0x13 3) 2 ∷ search (shared 0x13 4) 1 ∷ search (shared 0x13 2) 3 ∷ search (shared 0x7F 1) 1 ∷ search (shared 0x7F 1) 2
+    ∷ search (shared 0xFF 1) 1 ∷ [] ≡ 5 ∷ 5 ∷ 5 ∷ 7 ∷ 0 ∷ 0 ∷ []
 unfolding computing
 search-taken = refl
 
@@ -96,7 +102,8 @@ run-taken = refl
 -- ---- the entry of a write
 
 -- used bytes: from the last block's start to the end, 1 to 512
-used-bytes : map (λ w. entryFor one (head 0 (place 1 2 1) w)) (write 510 4 2 Filling 0 0 ∷ write 0 512 2 Filling 0 0 ∷ write 512 1 3 Filling 0 0 ∷ write 511 514 3 Filling 0 0 ∷ [])
+used-bytes : map (λ w. entryFor one (head 0 (place 1 2 1) w))
+    (write 510 4 2 Filling 0 0 ∷ write 0 512 2 Filling 0 0 ∷ write 512 1 3 Filling 0 0 ∷ write 511 514 3 Filling 0 0 ∷ [])
     ≡ entryOf one 0 2 2 2 1 ∷ entryOf one 0 2 1 512 1 ∷ entryOf one 1 3 1 1 1 ∷ entryOf one 0 3 3 1 1 ∷ []
 unfolding computing
 used-bytes = refl
@@ -114,7 +121,8 @@ retries-capped = refl
 abbrev left : Write → List ℕ
 left w = take 1 (withoutHeld one (0xFF ∷ replicate 15 0) w)
 
-leaving-frees : left (three Idle 0 7) ++ left (three Filling 9 7) ++ left (three RefillLast 9 7) ++ left (three Zeroing 9 7) ≡ 0xFF ∷ 0x8F ∷ 0x8F ∷ 0x0F ∷ []
+leaving-frees : left (three Idle 0 7) ++ left (three Filling 9 7) ++ left (three RefillLast 9 7) ++ left (three Zeroing 9 7)
+    ≡ 0xFF ∷ 0x8F ∷ 0x8F ∷ 0x0F ∷ []
 unfolding computing
 leaving-frees = refl
 
@@ -130,11 +138,13 @@ unfolding computing
 one-again = refl
 
 -- two blocks: both edges, each alone by the entry, each alone by the text, neither
-two-again : again 511 2 0 2 ∷ again 511 2 0 1 ∷ again 511 2 1 1 ∷ again 511 513 0 2 ∷ again 0 513 0 2 ∷ again 0 1024 0 2 ∷ [] ≡ 4 ∷ 2 ∷ 3 ∷ 2 ∷ 3 ∷ 1 ∷ []
+two-again : again 511 2 0 2 ∷ again 511 2 0 1 ∷ again 511 2 1 1 ∷ again 511 513 0 2 ∷ again 0 513 0 2 ∷ again 0 1024 0 2 ∷ []
+    ≡ 4 ∷ 2 ∷ 3 ∷ 2 ∷ 3 ∷ 1 ∷ []
 unfolding computing
 two-again = refl
 
 -- three blocks: the middle one holds text alone
-three-again : again 511 514 0 3 ∷ again 511 514 0 2 ∷ again 511 514 1 1 ∷ again 511 514 1 2 ∷ again 511 514 3 1 ∷ [] ≡ 4 ∷ 2 ∷ 1 ∷ 3 ∷ 1 ∷ []
+three-again : again 511 514 0 3 ∷ again 511 514 0 2 ∷ again 511 514 1 1 ∷ again 511 514 1 2 ∷ again 511 514 3 1 ∷ []
+    ≡ 4 ∷ 2 ∷ 1 ∷ 3 ∷ 1 ∷ []
 unfolding computing
 three-again = refl

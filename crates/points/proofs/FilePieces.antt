@@ -38,7 +38,8 @@ module _ (m : Memory) (b : ℕ) (part : List ℕ) (is : part ≡ partOf m b) (fr
   hole-bytes e = listFrom-same (λ _. 0) (byteIn part) 0 from n (λ k _. sym (no-byte part e (from + k))) ∙ part-bytes
 
 -- a part is a whole block, or empty
-pub part-whole : (E : Edition) (words : List ℕ) (b : ℕ) (part : List ℕ) → part ≡ partOf (memory E words) b → length part ≢ 0 → length part ≡ E .blockWords
+pub part-whole : (E : Edition) (words : List ℕ) (b : ℕ) (part : List ℕ) → part ≡ partOf (memory E words) b → length part ≢ 0
+    → length part ≡ E .blockWords
 part-whole E words zero part e h = absurd (h (ap length e))
 part-whole E words (suc b) part e h = go (decLt (suc b) (length words / E .blockWords))
   where

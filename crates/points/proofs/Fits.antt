@@ -23,7 +23,8 @@ use Rattle.log.specs.declared.Shared.{Shared}
 use Rattle.points.specs.declared.Phase.the-variants.{Idle}
 use Rattle.points.specs.declared.Write.{Write}
 use Rattle.points.specs.declared.Head.{Head}
-use Rattle.points.specs.Record.{phaseOf, isIdle, isZeroing, span, badShared, badText, pastEnd, inside, placeFits, zeroingFits, writeFits, headFits, tableFits}
+use Rattle.points.specs.Record.{phaseOf, isIdle, isZeroing, span, badShared, badText, pastEnd}
+use Rattle.points.specs.Record.{inside, placeFits, zeroingFits, writeFits, headFits, tableFits}
 
 -- ---- several tests, made from the first on
 
@@ -53,7 +54,8 @@ pub shared-tests :
     ≡ badShared E words s
 unfolding badShared
 shared-tests E words s =
-    ors-any (not (between 4 (s .blocks) 1024)) (not (eqb (E .blockWords * s .blocks) (length words)) ∷ not (leb 1 (s .next) && ltb (s .next) (s .blocks)) ∷ [])
+    ors-any (not (between 4 (s .blocks) 1024))
+    (not (eqb (E .blockWords * s .blocks) (length words)) ∷ not (leb 1 (s .next) && ltb (s .next) (s .blocks)) ∷ [])
 
 -- ---- the head
 
@@ -74,19 +76,23 @@ module _ (E : Edition) (blocks : ℕ) (p : Place) where
     runTests = (not (badText (w .size)) && not (pastEnd E (w .offset) (w .size))) && inside blocks (w .run) (span E (w .offset) (w .size))
 
     abbrev pub positionTest : Bool
-    positionTest = elim (isZeroing (w .phase)) [ true ↦ zeroingFits E blocks p w | false ↦ leb (w .position) (span E (w .offset) (w .size) * E .blockWords) ]
+    positionTest =
+        elim (isZeroing (w .phase)) [ true ↦ zeroingFits E blocks p w | false ↦ leb (w .position) (span E (w .offset) (w .size) * E .blockWords) ]
 
     write-tests : runTests && positionTest ≡ writeFits E blocks p w
     unfolding writeFits
     write-tests =
-        ands-every (not (badText (w .size))) (not (pastEnd E (w .offset) (w .size)) ∷ inside blocks (w .run) (span E (w .offset) (w .size)) ∷ positionTest ∷ [])
+        ands-every (not (badText (w .size)))
+        (not (pastEnd E (w .offset) (w .size)) ∷ inside blocks (w .run) (span E (w .offset) (w .size)) ∷ positionTest ∷ [])
 
     pub write-zeroing : isZeroing (w .phase) ≡ true → runTests && zeroingFits E blocks p w ≡ writeFits E blocks p w
     write-zeroing e =
         ap (λ (t : Bool). runTests && t)
-        (sym (choose-true (isZeroing (w .phase)) (zeroingFits E blocks p w) (leb (w .position) (span E (w .offset) (w .size) * E .blockWords)) e)) ∙ write-tests
+        (sym (choose-true (isZeroing (w .phase)) (zeroingFits E blocks p w) (leb (w .position) (span E (w .offset) (w .size) * E .blockWords)) e))
+        ∙ write-tests
 
-    pub write-filling : isZeroing (w .phase) ≡ false → runTests && leb (w .position) (E .blockWords * span E (w .offset) (w .size)) ≡ writeFits E blocks p w
+    pub write-filling : isZeroing (w .phase) ≡ false
+        → runTests && leb (w .position) (E .blockWords * span E (w .offset) (w .size)) ≡ writeFits E blocks p w
     write-filling e =
         let q : E .blockWords * span E (w .offset) (w .size) ≡ span E (w .offset) (w .size) * E .blockWords = omega arith in
         ap (λ (k : ℕ). runTests && leb (w .position) k) q
@@ -150,7 +156,8 @@ below-both a b n = go (decLt a n) (decLt b n)
     go (yes l) (no k) = let k : n ≤ b = omega arith in rw (lt-ltb a n l, le-ltb b n k) (le-ltb (max a b) n (omega arith))
     go (no l) d = let l : n ≤ a = omega arith in rw (le-ltb a n l) (le-ltb (max a b) n (omega arith))
 
-pub table-first : (blocks : ℕ) (table : List ℕ) → 0 < length table → tableFits blocks table ≡ ltb (getD table 0 0) blocks && tableFits blocks (drop 0 table)
+pub table-first : (blocks : ℕ) (table : List ℕ) → 0 < length table
+    → tableFits blocks table ≡ ltb (getD table 0 0) blocks && tableFits blocks (drop 0 table)
 unfolding tableFits
 table-first blocks [] h = absurd (omega arith)
 table-first blocks (x ∷ xs) h = twice (ltb x blocks)

@@ -43,7 +43,8 @@ module _ (E : Edition) (words : List ℕ) (s : Shared) (number : ℕ) where
 
   module _ (none : joinRefusal E words s number ≡ 0) where
     pub join-done :
-        (j f : ℕ) (t : Shared) (p : Point) → j ≡ withBit true (s .joined) number → t ≡ withJoined s j → f ≡ firstIndex (memory E words) → p ≡ newPoint number f
+        (j f : ℕ) (t : Shared) (p : Point) → j ≡ withBit true (s .joined) number → t ≡ withJoined s j → f ≡ firstIndex (memory E words)
+        → p ≡ newPoint number f
         → record { reply = Done; shared = t; point = p } ≡ joining E words s number
     unfolding joining
     join-done j f t p ej et ef ep = rw (ep, et, ej, ef) (sym (chosen-zero (joinRefusal E words s number) _ _ none))

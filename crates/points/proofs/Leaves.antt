@@ -54,12 +54,14 @@ joined-small joined number l e = go (decLt number 32)
 -- ---- the answers
 
 module _ (E : Edition) (words : List ℕ) (s : Shared) (p : Point) where
-  pub leave-refused : (r : ℕ) → r ≡ unfit E words s (p .head) (p .table) → (r ≡ 0 → ⊥) → record { reply = Refused r; shared = s } ≡ leaving E words s p
+  pub leave-refused : (r : ℕ) → r ≡ unfit E words s (p .head) (p .table) → (r ≡ 0 → ⊥)
+      → record { reply = Refused r; shared = s } ≡ leaving E words s p
   unfolding leaving
   leave-refused r e h = rw e (sym (refused-so (unfit E words s (p .head) (p .table)) _ (λ n. record { reply = Refused n; shared = s }) (λ z. h (e ∙ z))))
 
   pub leave-done :
-      unfit E words s (p .head) (p .table) ≡ 0 → (map : List ℕ) (j : ℕ) (t u : Shared) → map ≡ withoutHeld E (s .taken) (p .head .write) → t ≡ withTaken s map
+      unfit E words s (p .head) (p .table) ≡ 0 → (map : List ℕ) (j : ℕ) (t u : Shared) → map ≡ withoutHeld E (s .taken) (p .head .write)
+      → t ≡ withTaken s map
       → j ≡ withBit false (s .joined) (p .head .number) → u ≡ withJoined t j → record { reply = Done; shared = u } ≡ leaving E words s p
   unfolding leaving
   leave-done e map j t u em et ej eu = rw (eu, et, em, ej) (sym (chosen-zero (unfit E words s (p .head) (p .table)) _ _ e))

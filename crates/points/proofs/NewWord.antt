@@ -127,7 +127,8 @@ module _ (E : Edition) (m : Memory) (f : Mapped) (offset size : ℕ) (text : Lis
 abbrev pub Done : (ℕ → ℕ) → ℕ → ℕ → ℕ → Type 0
 Done f at p w = (at ≤ p) × (p ≤ at + 8) × (w ≡ fromBytes (listFrom p (at + 8 - p) f)) × (w < 2 ^ (8 * (at + 8 - p)))
 
-pub next-byte : (f : ℕ → ℕ) (at p w x : ℕ) → Done f at p w → at < p → x ≡ f (p - 1) → x < 256 → Done f at (p - 1) (bitOr (w * 2 ^ 8 % 2 ^ 64) x)
+pub next-byte : (f : ℕ → ℕ) (at p w x : ℕ) → Done f at p w → at < p → x ≡ f (p - 1) → x < 256
+    → Done f at (p - 1) (bitOr (w * 2 ^ 8 % 2 ^ 64) x)
 next-byte f at p w x d h e l =
     let n : at + 8 - (p - 1) ≡ suc (at + 8 - p) = omega arith in
     let q : suc (p - 1) ≡ p = omega arith in
@@ -149,7 +150,8 @@ mapped-word m (suc b) i j ne h =
 -- ---- the word of the definition
 
 -- two lists of bytes that agree byte by byte make one word
-same-bytes : (i j n : ℕ) (f g : ℕ → ℕ) → ((k : ℕ) → k < n → f (i + k) ≡ g (j + k)) → fromBytes (listFrom i n f) ≡ fromBytes (listFrom j n g)
+same-bytes : (i j n : ℕ) (f g : ℕ → ℕ) → ((k : ℕ) → k < n → f (i + k) ≡ g (j + k))
+    → fromBytes (listFrom i n f) ≡ fromBytes (listFrom j n g)
 same-bytes i j n f g h = bytes-view i n f (λ k. g (j + k)) h ∙ sym (bytes-view j n g (λ k. g (j + k)) (λ k l. refl))
 
 -- a word is its bytes
@@ -169,7 +171,9 @@ word-bytes w (suc n) h =
 module _ (E : Edition) (m : Memory) (h : Head) (table text : List ℕ) (k copied : ℕ) where
   -- the word copied is the mapped block's at the run's word k
   abbrev pub Copied : Type 0
-  Copied = (j : ℕ) → j < 8 → byteOf copied j ≡ mappedByte m (getD table (h .write .offset / blockBytes E + k / E .blockWords) 0) (8 * (k % E .blockWords) + j)
+  Copied =
+      (j : ℕ) → j < 8
+      → byteOf copied j ≡ mappedByte m (getD table (h .write .offset / blockBytes E + k / E .blockWords) 0) (8 * (k % E .blockWords) + j)
 
   -- the run's bytes before the text, and those up to the text's end
   abbrev lead : ℕ

@@ -71,8 +71,10 @@ module _ (E : Edition) (w : Write) where
         seek-is (w .position) (runWords E w - w .position) k (pending RefillFirst E w) (f .0) (omega (arith, run-some)) (rw (lt-ltb k (E .blockWords) h) (f .1))
         (λ y i j. not-pending (ltb y (E .blockWords)) y (f .2 y i j))
 
-    pub first-done : First (w .position) k → E .blockWords ≤ k → seek (w .position) (runWords E w - w .position) (pending RefillFirst E w) ≡ runWords E w
-    first-done f h = seek-none (w .position) (runWords E w - w .position) (pending RefillFirst E w) (λ y i j. none y i (decLt y (E .blockWords))) ∙ omega arith
+    pub first-done : First (w .position) k → E .blockWords ≤ k
+        → seek (w .position) (runWords E w - w .position) (pending RefillFirst E w) ≡ runWords E w
+    first-done f h =
+        seek-none (w .position) (runWords E w - w .position) (pending RefillFirst E w) (λ y i j. none y i (decLt y (E .blockWords))) ∙ omega arith
       where
         none : (y : ℕ) → w .position ≤ y → Dec (y < E .blockWords) → pending RefillFirst E w y ≡ false
         none y i (yes l) = not-pending (ltb y (E .blockWords)) y (f .2 y i (omega arith))
@@ -95,7 +97,8 @@ module _ (E : Edition) (w : Write) where
         (rw (le-ltb k (E .blockWords) (omega arith), le-leb (runWords E w) (k + E .blockWords) (omega arith)) (f .1)) (none-last f)
 
     pub last-done :
-        First (max (w .position) (E .blockWords)) k → runWords E w ≤ k → seek (w .position) (runWords E w - w .position) (pending RefillLast E w) ≡ runWords E w
+        First (max (w .position) (E .blockWords)) k → runWords E w ≤ k
+        → seek (w .position) (runWords E w - w .position) (pending RefillLast E w) ≡ runWords E w
     last-done f h = seek-none (w .position) (runWords E w - w .position) (pending RefillLast E w) (λ y i j. none-last f y i (omega arith)) ∙ omega arith
 
     pub both-found : First (w .position) k → k < E .blockWords → seek (w .position) (runWords E w - w .position) (pending RefillBoth E w) ≡ k
@@ -105,7 +108,8 @@ module _ (E : Edition) (w : Write) where
 
     pub both-last :
         First (w .position) k → E .blockWords ≤ k
-        → seek (w .position) (runWords E w - w .position) (pending RefillLast E w) ≡ seek (w .position) (runWords E w - w .position) (pending RefillBoth E w)
+        → seek (w .position) (runWords E w - w .position) (pending RefillLast E w)
+        ≡ seek (w .position) (runWords E w - w .position) (pending RefillBoth E w)
     both-last f h =
         seek-same (w .position) (runWords E w - w .position) (pending RefillLast E w) (pending RefillBoth E w) (λ y i j. same y i (decLt y (E .blockWords)))
       where
@@ -130,5 +134,6 @@ module _ (E : Edition) (w : Write) where
       every-word a zero = refl
       every-word a (suc n) = refl
 
-  pub next-none : (phase : Phase) → w .phase ≡ phase → ((k : ℕ) → pending phase E w k ≡ false) → w .position ≤ runWords E w → nextWord E w ≡ runWords E w
+  pub next-none : (phase : Phase) → w .phase ≡ phase → ((k : ℕ) → pending phase E w k ≡ false) → w .position ≤ runWords E w
+      → nextWord E w ≡ runWords E w
   next-none phase e f low = next-in phase e ∙ seek-none (w .position) (runWords E w - w .position) (pending phase E w) (λ y i j. f y) ∙ omega arith

@@ -1,9 +1,9 @@
 -- What reading, locating and viewing answer: one law for each exit of the code. Assumes nothing.
-use Prim.Native.Nat.{ℕ, zero, suc, _+_, _-_, _<_, min}
+use Prim.Native.Nat.{ℕ, zero, suc, _-_, _<_, min}
 use native.Mathlib.Omega.{arith}
 use mathlib.Core.Path.{_≡_, refl, sym, ap, _∙_}
 use mathlib.Core.Logic.{_≢_}
-use mathlib.Core.Bool.{Bool, true, false}
+use mathlib.Core.Bool.{Bool, false}
 use mathlib.Core.List.{List, [], _∷_, _++_}
 use lib.ListN.{length, getD, drop}
 use lib.Seq.{sets}
@@ -40,7 +40,8 @@ answer-done zero n k e f = rw f
 answer-done (suc r) n k e f = absurd (omega arith)
 
 -- the part of an answer that is 0 exactly where it is refused
-view-answer : (m : Memory) (r n b : ℕ) → b ≡ answer r n .count → (r ≡ 0 → n ≢ 0) → partOf m b ≡ (elim r [ zero ↦ blockAt m b | suc k ↦ [] ])
+view-answer : (m : Memory) (r n b : ℕ) → b ≡ answer r n .count → (r ≡ 0 → n ≢ 0)
+    → partOf m b ≡ (elim r [ zero ↦ blockAt m b | suc k ↦ [] ])
 view-answer m zero n b e ne = part-block m b (λ z. ne refl (sym e ∙ z))
 view-answer m (suc r) n b e ne = ap (partOf m) e
 
@@ -104,7 +105,8 @@ module _ (E : Edition) (I : List ℕ) (s : Shared) (h : Head) (table : List ℕ)
     locate-settled zero e ne = absurd (ne refl)
     locate-settled (suc k) e ne = sym (settled-before (catch-up-reasons E I s h table past) unmapped k (sym e))
 
-    pub locate-early : (k : ℕ) → k ≡ catchUpRefusal E I s h table past → k ≢ 0 → record { reply = Refused k; count = 0 } ≡ locating E I s h table v
+    pub locate-early : (k : ℕ) → k ≡ catchUpRefusal E I s h table past → k ≢ 0
+        → record { reply = Refused k; count = 0 } ≡ locating E I s h table v
     unfolding locating located
     locate-early k e ne = answer-refused (locateRefusal E I s h table v) (getD (file .table) v 0) k (locate-settled k e ne) ne
 

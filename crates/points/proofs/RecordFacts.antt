@@ -1,5 +1,5 @@
 -- What a call that passes 10 and 11 knows, as named facts on numbers, which `omega` reads. Assumes nothing.
-use Prim.Native.Nat.{ℕ, zero, suc, _+_, _*_, _-_, _≤_, _<_}
+use Prim.Native.Nat.{ℕ, zero, suc, _+_, _*_, _≤_, _<_}
 use native.Mathlib.Omega.{arith}
 use mathlib.Core.Path.{_≡_, sym, _∙_}
 use mathlib.Core.Bool.{true, false, _&&_}
@@ -16,7 +16,8 @@ use Rattle.log.specs.declared.Place.{Place}
 use Rattle.log.specs.declared.Shared.{Shared}
 use Rattle.points.specs.declared.Write.{Write}
 use Rattle.points.specs.declared.Head.{Head}
-use Rattle.points.specs.Record.{isIdle, isZeroing, span, badShared, badText, pastEnd, inside, placeFits, zeroingFits, writeFits, headFits, tableFits, fits}
+use Rattle.points.specs.Record.{isIdle, isZeroing, span, badShared, badText, pastEnd, inside}
+use Rattle.points.specs.Record.{placeFits, zeroingFits, writeFits, headFits, tableFits, fits}
 
 -- ---- a test as its facts
 

@@ -34,7 +34,8 @@ settled-before (r ∷ rs) more k e = go (r .holds) refl (λ h. settled-before rs
     go false x ih = first-goes-on (r .number) (r .holds) (rs ++ more) x ∙ ih (sym (first-goes-on (r .number) (r .holds) rs x) ∙ e)
 
 -- a call that is refused answers so, whatever it would do otherwise
-pub refused-so {ℓ} : {A : Type ℓ} (n : ℕ) (done : A) (refused : ℕ → A) → (n ≡ 0 → ⊥) → (elim n [ zero ↦ done | suc k ↦ refused (suc k) ]) ≡ refused n
+pub refused-so {ℓ} : {A : Type ℓ} (n : ℕ) (done : A) (refused : ℕ → A) → (n ≡ 0 → ⊥)
+    → (elim n [ zero ↦ done | suc k ↦ refused (suc k) ]) ≡ refused n
 refused-so zero done refused h = absurd (h refl)
 refused-so (suc n) done refused h = refl
 

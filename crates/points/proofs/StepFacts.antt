@@ -25,8 +25,10 @@ use Rattle.points.specs.Record.{runFirst, runBlocks, firstEdge, lastEdge
 use Rattle.points.specs.Fill.{nextWord}
 use Rattle.points.specs.Search.{search}
 use Rattle.points.specs.Plan.{resting}
-use Rattle.points.specs.Stepping.{refill, refillAfter, refused, commit, giveUp, extend, moveOn, atEnd, committing, fill, filling, writeOn, stepRefusal, planned}
-use Rattle.points.proofs.RecordFacts.{SharedFits, PlaceFits, RunFits, ZeroingFits, shared-facts, fits-place, fits-write, run-facts, write-zeroing-facts, write-position, span-few}
+use Rattle.points.specs.Stepping.{refill, refillAfter, refused, commit, giveUp, extend, moveOn}
+use Rattle.points.specs.Stepping.{atEnd, committing, fill, filling, writeOn, stepRefusal, planned}
+use Rattle.points.proofs.RecordFacts.{SharedFits, PlaceFits, RunFits, ZeroingFits, shared-facts, fits-place}
+use Rattle.points.proofs.RecordFacts.{fits-write, run-facts, write-zeroing-facts, write-position, span-few}
 use Rattle.points.proofs.RecordReasons.{unfit-before, fit-goes-on, first-settled, first-goes-on}
 use Rattle.points.proofs.NotRefused.{step-shared, step-fits, step-joined, step-busy}
 use Rattle.points.proofs.StepCases.{empty, ended, fill-on, commit-on, store-on, end-on, move-on, endReasons, extend-on, give-on, stop-on, go-on}
@@ -142,12 +144,14 @@ module _ (E : Edition) (m : Memory) (s : Shared) (h : Head) where
 -- ---- moving on, by what the walk saw
 
 module _ (E : Edition) (m : Memory) (h : Head) (blocks : ℕ) (seen : Lookahead)
-    (e : seen ≡ lookaheadOf E blocks (runFirst E (h .write)) (runFirst E (h .write) + runBlocks E (h .write) - 1) (h .place) (ahead E m blocks (h .place))) where
+    (e : seen ≡ lookaheadOf E blocks (runFirst E (h .write)) (runFirst E (h .write) + runBlocks E (h .write) - 1) (h .place)
+    (ahead E m blocks (h .place))) where
   pub move-stops : seen .broken ≡ true → moveOn E m h blocks ≡ refused E h 18
   unfolding lookaheadOf
   move-stops b = stop-on E m h blocks (sym (ap (λ (x : Lookahead). x .broken) e) ∙ b)
 
   pub move-goes : seen .broken ≡ false → moveOn E m h blocks
-      ≡ resting Moved (seen .place) (refill (firstEdge E (h .write) && seen .first) (lastEdge E (h .write) && seen .last) E (h .write)) AllAhead NoBlock 0 false
+      ≡ resting Moved (seen .place)
+      (refill (firstEdge E (h .write) && seen .first) (lastEdge E (h .write) && seen .last) E (h .write)) AllAhead NoBlock 0 false
   unfolding lookaheadOf refillAfter
   move-goes b = go-on E m h blocks (sym (ap (λ (x : Lookahead). x .broken) e) ∙ b) ∙ rw e

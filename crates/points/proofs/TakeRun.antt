@@ -15,7 +15,8 @@ use Rattle.points.specs.Search.{sharedOf, withNext, search, nextAfter, t
 
 -- a start that is found is one of those tried
 among-le :
-    (map : List ℕ) (n last i k : ℕ) (cs : List ℕ) → ((b : ℕ) → i ≤ b → b < i + k → b ≤ last) → freeAmong map n cs ≤ last → freeAmong map n (upFrom i k ++ cs) ≤ last
+    (map : List ℕ) (n last i k : ℕ) (cs : List ℕ) → ((b : ℕ) → i ≤ b → b < i + k → b ≤ last) → freeAmong map n cs ≤ last
+    → freeAmong map n (upFrom i k ++ cs) ≤ last
 unfolding freeAmong
 among-le map n last i zero cs below h = h
 among-le map n last i (suc k) cs below h =
@@ -42,7 +43,8 @@ pub next-past : (blocks b : ℕ) → blocks ≤ b → 1 ≡ nextAfter blocks b
 next-past blocks b h = sym (choose-false _ b 1 (le-ltb b blocks h))
 
 pub taking-one :
-    (n : Numbers) (taken : List ℕ) (b next : ℕ) (map : List ℕ) → (b ≡ 0 → ⊥) → next ≡ nextAfter (n .blocks) (b + 1) → map ≡ setRun true taken b 1
+    (n : Numbers) (taken : List ℕ) (b next : ℕ) (map : List ℕ) → (b ≡ 0 → ⊥) → next ≡ nextAfter (n .blocks) (b + 1)
+    → map ≡ setRun true taken b 1
     → sharedOf (withNext n next) map ≡ takingOne (sharedOf n taken) b
 unfolding takingOne taking
 taking-one n taken zero next map h en em = absurd (h refl)

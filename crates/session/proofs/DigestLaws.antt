@@ -16,7 +16,8 @@ module _ (h i : ℕ) (xs : List ℕ) where
   unfolding digestFrom
   digest-end l = rw (drop-of-length-le xs l)
 
-  pub words-next : (r : ℕ) → i < length xs → r ≡ digestFrom h (parts (getD xs i 0 ∷ [])) → digestFrom h (parts (drop i xs)) ≡ digestFrom r (parts (drop (i + 1) xs))
+  pub words-next : (r : ℕ) → i < length xs → r ≡ digestFrom h (parts (getD xs i 0 ∷ []))
+      → digestFrom h (parts (drop i xs)) ≡ digestFrom r (parts (drop (i + 1) xs))
   unfolding digestFrom parts
   words-next r l e = rw (e, add-one, drop-cons xs i 0)
 

@@ -92,7 +92,8 @@ free-taken map (suc n) =
 
 -- one more word counted: n of its bits, the lesser of 64 and what is left of the blocks
 pub count-step :
-    (m : List ℕ) (blocks k left n r free : ℕ) → left ≡ blocks - 64 * k → n ≡ min left 64 → r ≡ ones (getD m k 0 % 2 ^ n) → r ≤ n → left ≤ free
+    (m : List ℕ) (blocks k left n r free : ℕ) → left ≡ blocks - 64 * k → n ≡ min left 64 → r ≡ ones (getD m k 0 % 2 ^ n) → r ≤ n
+    → left ≤ free
     → free + takenBelow m (blocks - left) ≡ blocks → free - r + takenBelow m (blocks - (left - n)) ≡ blocks
 count-step m blocks k zero n r free e en er le lf h =
     let a : blocks - (zero - n) ≡ blocks - zero = omega arith in
@@ -114,7 +115,8 @@ below-past m (suc d) =
     rw (e, takenBelow, z, bit-none ((64 * length m + d) % 64), add-zero) (below-past m d)
 
 -- all words counted
-pub count-end : (m : List ℕ) (blocks k left free : ℕ) → length m ≤ k → k ≤ length m → left ≡ blocks - 64 * k → free + takenBelow m (blocks - left) ≡ blocks → free ≡ freeCount m blocks
+pub count-end : (m : List ℕ) (blocks k left free : ℕ) → length m ≤ k → k ≤ length m → left ≡ blocks - 64 * k
+    → free + takenBelow m (blocks - left) ≡ blocks → free ≡ freeCount m blocks
 count-end m blocks k zero free g h e i =
     let a : blocks - zero ≡ blocks = omega arith in
     let f : freeCount m blocks + takenBelow m blocks ≡ blocks = free-taken m blocks in

@@ -29,7 +29,8 @@ module _ (map : List ℕ) (n : ℕ) where
   pub run-start : (s : ℕ) → takenIn map s n ≡ takenIn map (s + 0) (n - 0)
   run-start s = ap₂ (takenIn map) (omega arith) (omega arith)
 
-  pub first-skip : (s last : ℕ) → s ≤ last → takenIn map s n ≡ true → freeAmong map n (upFrom s (suc last - s)) ≡ freeAmong map n (upFrom (s + 1) (suc last - (s + 1)))
+  pub first-skip : (s last : ℕ) → s ≤ last → takenIn map s n ≡ true
+      → freeAmong map n (upFrom s (suc last - s)) ≡ freeAmong map n (upFrom (s + 1) (suc last - (s + 1)))
   unfolding freeAmong
   first-skip s last l t =
       let a : suc last - s ≡ suc (last - s) = omega arith in
@@ -84,11 +85,13 @@ module _ (map : List ℕ) (n : ℕ) where
       let m : min (suc next) (suc (blocks - n)) - 1 ≡ 0 = omega arith in
       rw (e, m)
 
-  pub found-first : (blocks next f : ℕ) → f ≡ freeAmong map n (upFrom next (suc (blocks - n) - next)) → (f ≡ 0 → ⊥) → found map blocks next n ≡ f
+  pub found-first : (blocks next f : ℕ) → f ≡ freeAmong map n (upFrom next (suc (blocks - n) - next)) → (f ≡ 0 → ⊥)
+      → found map blocks next n ≡ f
   unfolding found
   found-first blocks next f e h = among-left (upFrom next (suc (blocks - n) - next)) (upFrom 1 (min next (suc (blocks - n)) - 1)) (λ z. h (e ∙ z)) ∙ sym e
 
-  pub found-none : (blocks next f : ℕ) → f ≡ freeAmong map n (upFrom next (suc (blocks - n) - next)) → f ≡ 0 → next < 2 → found map blocks next n ≡ 0
+  pub found-none : (blocks next f : ℕ) → f ≡ freeAmong map n (upFrom next (suc (blocks - n) - next)) → f ≡ 0 → next < 2
+      → found map blocks next n ≡ 0
   unfolding found
   found-none blocks next f e z h = let m : min next (suc (blocks - n)) - 1 ≡ 0 = omega arith in rw (m, append-nil) (sym e ∙ z)
 
@@ -99,4 +102,5 @@ module _ (map : List ℕ) (n : ℕ) where
   found-again blocks zero f e z h = absurd (omega arith)
   found-again blocks (suc next) f e z h =
       let m : min (suc next) (suc (blocks - n)) - 1 ≡ suc (min (suc next - 1) (blocks - n)) - 1 = omega arith in
-      among-right next (suc (blocks - n) - suc next) (upFrom 1 (min (suc next) (suc (blocks - n)) - 1)) (sym e ∙ z) ∙ ap (λ (k : ℕ). freeAmong map n (upFrom 1 k)) m
+      among-right next (suc (blocks - n) - suc next) (upFrom 1 (min (suc next) (suc (blocks - n)) - 1)) (sym e ∙ z)
+      ∙ ap (λ (k : ℕ). freeAmong map n (upFrom 1 k)) m

@@ -41,7 +41,8 @@ module _ (E : Edition) (a b : ℕ) where
   quot-is = sized (λ W U. a ≡ W * b → a / W ≡ b) (omega arith) E
 
 -- the place of a word gives its block and its word
-pub same-place : (E : Edition) (b i c j : ℕ) → i < E .blockWords → j < E .blockWords → E .blockWords * b + i ≡ E .blockWords * c + j → (b ≡ c) × (i ≡ j)
+pub same-place : (E : Edition) (b i c j : ℕ) → i < E .blockWords → j < E .blockWords → E .blockWords * b + i ≡ E .blockWords * c + j
+    → (b ≡ c) × (i ≡ j)
 same-place E b i c j = sized (λ W U. i < W → j < W → W * b + i ≡ W * c + j → (b ≡ c) × (i ≡ j)) (omega arith) E
 
 -- ---- quotients and remainders by the size of a block
@@ -86,7 +87,8 @@ module _ (E : Edition) where
   -- byte j of word k from block v on
   pub word-byte :
       (v k j : ℕ) → j < 8
-      → ((v * blockBytes E + 8 * k + j) / blockBytes E ≡ v + k / E .blockWords) × ((v * blockBytes E + 8 * k + j) % blockBytes E ≡ 8 * (k % E .blockWords) + j)
+      → ((v * blockBytes E + 8 * k + j) / blockBytes E ≡ v + k / E .blockWords)
+      × ((v * blockBytes E + 8 * k + j) % blockBytes E ≡ 8 * (k % E .blockWords) + j)
   word-byte v k j =
       sized (λ W U. j < 8 → ((v * (8 * W) + 8 * k + j) / (8 * W) ≡ v + k / W) × ((v * (8 * W) + 8 * k + j) % (8 * W) ≡ 8 * (k % W) + j)) (omega arith) E
 
@@ -103,7 +105,8 @@ module _ (E : Edition) where
   pub behind : (s k : ℕ) → s ≢ 0 → past (blockBytes E) s ≤ k → k < past (blockBytes E) s + (blockBytes E - past (blockBytes E) s)
       → (k < blockBytes E) × (s ≤ blockBytes E * ((s - 1) / blockBytes E) + k)
   behind s k =
-      sized (λ W U. s ≢ 0 → past (8 * W) s ≤ k → k < past (8 * W) s + (8 * W - past (8 * W) s) → (k < 8 * W) × (s ≤ 8 * W * ((s - 1) / (8 * W)) + k))
+      sized (λ W U. s ≢ 0 → past (8 * W) s ≤ k → k < past (8 * W) s + (8 * W - past (8 * W) s)
+      → (k < 8 * W) × (s ≤ 8 * W * ((s - 1) / (8 * W)) + k))
       (omega arith) E
 
   pub is-behind : (s v q : ℕ) → q < blockBytes E → blockBytes E * v < s → s ≤ blockBytes E * v + q

@@ -9,11 +9,18 @@ use Rattle.points.proofs.Begins.{Ready, ready, begin-refused, begin-don
 use Rattle.points.proofs.begin.begin_lent.Statement.{statement}
 use Rattle.points.proofs.begin.begin_lent.Tie as tie
 
+-- the way back: where nothing was refused, and the start
+abbrev not-refused : tie.After-take → tie.Else1
+not-refused c = c .before .before .before .before .before
+
+abbrev start : tie.Else1 → tie.Start
+start c = c .before .before .before .before .before .before
+
 passed :
-    (c : tie.Else1) → let a = c .before .before .before .before .before .before .args in
+    (c : tie.Else1) → let a = start c .args in
     Ready one (a .image .now) (a .shared) (pointOf (a .head) (a .table .now) (a .text .now)) (a .offset) (a .bytes .now)
 passed c =
-    let a = c .before .before .before .before .before .before .args in
+    let a = start c .args in
     let q = c .before .before .settle in
     ready one (a .image .now) (a .shared) (pointOf (a .head) (a .table .now) (a .text .now)) (a .offset) (a .bytes .now)
     (sym (q .ensures .refusal) ∙ c .if1 .left)
@@ -55,15 +62,18 @@ head-of-requires c κs = search needs
 returns-2 : tie.Need-returns-2
 returns-2 c =
     let taken = c .before .before in
-    let q = taken .before .before .before .before .before .before .before .settle in
-    let z = taken .before .before .before .before .before .if1 .left in
-    let r = passed (taken .before .before .before .before .before) in
-    let a = taken .before .before .before .before .before .before .before .before .before .before .before .args in
+    let e = not-refused taken in
+    let q = e .before .before .settle in
+    let z = e .if1 .left in
+    let r = passed e in
+    let a = start e .args in
     begin-done one (a .image .now) (a .shared) (pointOf (a .head) (a .table .now) (a .text .now)) (a .offset) (a .bytes .now) r _ _ _ _ _ _ _ _
     (q .ensures .tail z) (q .ensures .found z) (taken .before .before .before .catch-up .ensures (r .few) (r .sound))
-    (taken .before .before .text-of .ensures) (rw (c .before .new-write .ensures) at (c .head-of .ensures)) (taken .before .span .ensures) (taken .take .ensures)
+    (taken .before .before .text-of .ensures) (rw (c .before .new-write .ensures) at (c .head-of .ensures))
+    (taken .before .span .ensures) (taken .take .ensures)
 
 pub begin-lent-spec : {M : Type 1} → statement M
 begin-lent-spec =
     tie.close
-    (tie.spec settle-requires returns catch-up-requires text-of-requires cast-at cast-size span-requires take-requires new-write-requires head-of-requires returns-2)
+    (tie.spec settle-requires returns catch-up-requires text-of-requires cast-at cast-size span-requires take-requires new-write-requires head-of-requires
+    returns-2)

@@ -35,10 +35,17 @@ loop-less : tie.Need-loop-less Inv-loop μ-loop
 loop-less c = search needs
 
 loop-again : tie.Need-loop-again Inv-loop μ-loop
-loop-again c = let a = c .before .before .before .before .before .args in let l = c .before .before .loop in (omega arith, refl, text-next (a .text .now) (l .i) (l .bytes) (omega arith) (c .before .before .before .before .before .pre) (l .inv .2))
+loop-again c =
+    let a = c .before .before .before .before .before .args in
+    let l = c .before .before .loop in
+    (omega arith, refl, text-next (a .text .now) (l .i) (l .bytes) (omega arith) (c .before .before .before .before .before .pre) (l .inv .2))
 
 returns : tie.Need-returns Inv-loop μ-loop
-returns c = let a = c .before .before .before .before .args in let l = c .before .loop in let e : l .i ≡ length (a .text .now) = omega arith in l .inv .2 ∙ ap (paste noText 0 (a .text .now)) e ∙ text-end (a .text .now)
+returns c =
+    let a = c .before .before .before .before .args in
+    let l = c .before .loop in
+    let e : l .i ≡ length (a .text .now) = omega arith in
+    l .inv .2 ∙ ap (paste noText 0 (a .text .now)) e ∙ text-end (a .text .now)
 
 pub text-of-spec : {M : Type 1} → statement M
 text-of-spec =

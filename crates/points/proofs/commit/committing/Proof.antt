@@ -13,6 +13,10 @@ use borrow.Author.Needs.{needs}
 use Rattle.points.proofs.commit.committing.Statement.{statement}
 use Rattle.points.proofs.commit.committing.Tie as tie
 
+-- the way back, from the block that is read
+abbrev start : tie.After-block → tie.Start
+start c = c .before .before .before .before
+
 cast-slot : tie.Need-cast-slot
 cast-slot c = search needs
 
@@ -27,20 +31,21 @@ word-requires c κs = search needs
 
 commit-requires : tie.Need-commit-requires
 commit-requires c κs =
-    let pre = c .before .before .before .before .before .before .before .pre in
+    let entered = start (c .before .before .before) in
     let if1 = c .before .before .if1 in
-    let a = c .before .before .before .before .before .before .before .args in
-    let f = ready one (a .image .now) (sharedOf (a .numbers) (a .taken .now)) (a .head) (a .table .now) pre in
+    let a = entered .args in
+    let f = ready one (a .image .now) (sharedOf (a .numbers) (a .taken .now)) (a .head) (a .table .now) (entered .pre) in
     let r = f .run in
     let t = r .text in
     (((t .some-text, t .few-text, t .ends-inside), run-below f, joined-small (a .numbers .joined) (a .head .number) (omega arith) (f .joined)), if1 .taken)
 
 returns : tie.Need-returns
 returns c =
-    let block = c .before .before .before .before .block in
+    let read = c .before .before .before .before in
+    let block = read .block in
     let if1 = c .before .before .before .if1 in
     let word = c .before .before .word in
-    let a = c .before .before .before .before .before .before .before .before .args in
+    let a = start read .args in
     let m = memory one (a .image .now) in
     c .commit .ensures ∙ sym
     (slot-empty one m (sharedOf (a .numbers) (a .taken .now)) (a .head) (if1 .taken)
@@ -51,10 +56,11 @@ move-on-requires c κs = search needs
 
 returns-2 : tie.Need-returns-2
 returns-2 c =
-    let block = c .before .before .before .before .block in
+    let read = c .before .before .before .before in
+    let block = read .block in
     let if1 = c .before .before .before .if1 in
     let word = c .before .before .word in
-    let a = c .before .before .before .before .before .before .before .before .args in
+    let a = start read .args in
     let m = memory one (a .image .now) in
     c .move-on .ensures ∙ sym
     (slot-taken one m (sharedOf (a .numbers) (a .taken .now)) (a .head) (if1 .taken)
@@ -68,13 +74,14 @@ at-end-requires c κs = search needs
 
 returns-3 : tie.Need-returns-3
 returns-3 c =
-    let pre = c .before .before .before .before .before .before .before .before .pre in
-    let block = c .before .before .before .before .block in
+    let read = c .before .before .before .before in
+    let block = read .block in
     let if1 = c .before .before .before .if1 in
     let word2 = c .before .before .word2 in
-    let a = c .before .before .before .before .before .before .before .before .args in
+    let entered = start read in
+    let a = entered .args in
     let m = memory one (a .image .now) in
-    let f = ready one (a .image .now) (sharedOf (a .numbers) (a .taken .now)) (a .head) (a .table .now) pre in
+    let f = ready one (a .image .now) (sharedOf (a .numbers) (a .taken .now)) (a .head) (a .table .now) (entered .pre) in
     c .at-end .ensures m ∙ sym
     (chain-ends one m (sharedOf (a .numbers) (a .taken .now)) (a .head) (omega (arith, if1 .left, f .place .slot-high))
     (sym (word2 .ensures ∙ ap (λ (part : List ℕ). getD part 0 0) (block .ensures)) ∙ c .before .if3 .taken))
@@ -84,13 +91,14 @@ move-on-requires-2 c κs = search needs
 
 returns-4 : tie.Need-returns-4
 returns-4 c =
-    let pre = c .before .before .before .before .before .before .before .before .pre in
-    let block = c .before .before .before .before .block in
+    let read = c .before .before .before .before in
+    let block = read .block in
     let if1 = c .before .before .before .if1 in
     let word2 = c .before .before .word2 in
-    let a = c .before .before .before .before .before .before .before .before .args in
+    let entered = start read in
+    let a = entered .args in
     let m = memory one (a .image .now) in
-    let f = ready one (a .image .now) (sharedOf (a .numbers) (a .taken .now)) (a .head) (a .table .now) pre in
+    let f = ready one (a .image .now) (sharedOf (a .numbers) (a .taken .now)) (a .head) (a .table .now) (entered .pre) in
     c .move-on2 .ensures ∙ sym
     (chain-goes-on one m (sharedOf (a .numbers) (a .taken .now)) (a .head) (omega (arith, if1 .left, f .place .slot-high))
     (λ e. c .before .if3 .left (word2 .ensures ∙ ap (λ (part : List ℕ). getD part 0 0) (block .ensures) ∙ e)))

@@ -9,6 +9,13 @@ use borrow.Author.Needs.{needs}
 use Rattle.points.proofs.commit.entry_for.Statement.{statement}
 use Rattle.points.proofs.commit.entry_for.Tie as tie
 
+-- the way back, call by call
+abbrev blocks-counted : tie.After-entry → tie.After-span
+blocks-counted c = c .before .before .before .before
+
+abbrev start : tie.After-span → tie.Start
+start c = c .before .before .before
+
 span-requires : tie.Need-span-requires
 span-requires c κs = search needs
 
@@ -47,12 +54,12 @@ entry-requires c κs = search needs
 
 returns : tie.Need-returns
 returns c =
-    let args = c .before .before .before .before .before .before .before .args in
-    let span-call = c .before .before .before .before .span in
+    let spanned = blocks-counted c in
+    let args = start spanned .args in
     let w = args .head .write in
-    let p = c .before .before .before .before .before .before .before .pre in
+    let p = start spanned .pre in
     let n = span one (w .offset) (w .size) in
-    c .entry .ensures ∙ rw (span-call .ensures)
+    c .entry .ensures ∙ rw (spanned .span .ensures)
     (entry-kept one (w .offset / 512) (w .run) n (w .offset + w .size - 512 * (w .offset / 512 + n - 1)) (args .head .number)
     (lies one (w .offset) (w .size) (p .0 .0) .usedHigh) (p .2))
 

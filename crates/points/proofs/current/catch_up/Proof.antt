@@ -1,6 +1,6 @@
 -- `points::current::catch_up`: each reason is asked where the ones before it failed. Assumes nothing.
 use native.Mathlib.Omega.{arith}
-use mathlib.Core.Path.{_≡_, refl, sym, _∙_}
+use mathlib.Core.Path.{sym, _∙_}
 use Rattle.words.specs.Edition.{one}
 use Rattle.words.specs.Memory.{memory}
 use Rattle.log.specs.CatchUp.{ahead}
@@ -11,6 +11,13 @@ use Rattle.points.proofs.CaughtUp.{refused-as, look-broken, catch-up-un
 use borrow.Author.Needs.{needs}
 use Rattle.points.proofs.current.catch_up.Statement.{statement}
 use Rattle.points.proofs.current.catch_up.Tie as tie
+
+-- the way back: where the numbers fit, and the start
+abbrev fitting : tie.After-look → tie.Else1
+fitting c = c .before .before .before
+
+abbrev start : tie.Else1 → tie.Start
+start c = c .before .before .before .before
 
 unfit-requires : tie.Need-unfit-requires
 unfit-requires c κs = search needs
@@ -43,12 +50,14 @@ refused-by-requires-3 c κs = search needs
 
 returns-3 : tie.Need-returns-3
 returns-3 c =
-    let a = c .before .before .before .before .before .before .before .before .before .args in
-    let fit = sym (c .before .before .before .before .before .before .unfit .ensures) ∙ c .before .before .before .before .before .if1 .left in
+    let looked = c .before .before in
+    let e = fitting looked in
+    let a = start e .args in
+    let fit = sym (e .before .unfit .ensures) ∙ e .if1 .left in
     let walk = ahead one (memory one (a .image .now)) (a .shared .blocks) (a .head .place) in
-    let seen = look-broken one _ (a .shared .blocks) 0 0 (a .head .place) walk (c .before .before .look .ensures) in
+    let seen = look-broken one _ (a .shared .blocks) 0 0 (a .head .place) walk (looked .look .ensures) in
     refused-as _ 18 (c .refused-by3 .ensures) (omega arith)
-    (catch-up-broken one (a .image .now) (a .shared) (a .head) (a .table .now) (a .past) fit (c .before .before .before .before .if2 .left)
+    (catch-up-broken one (a .image .now) (a .shared) (a .head) (a .table .now) (a .past) fit (looked .before .before .if2 .left)
     (sym seen ∙ c .before .if3 .taken))
 
 catch-up-requires : tie.Need-catch-up-requires
@@ -57,14 +66,16 @@ catch-up-requires c κs = search needs
 returns-4 : tie.Need-returns-4
 unfolding seen
 returns-4 c =
-    let a = c .before .before .before .before .before .before .before .before .before .before .args in
-    let fit = sym (c .before .before .before .before .before .before .before .unfit .ensures) ∙ c .before .before .before .before .before .before .if1 .left in
+    let looked = c .before .before .before in
+    let e = fitting looked in
+    let a = start e .args in
+    let fit = sym (e .before .unfit .ensures) ∙ e .if1 .left in
     let walk = ahead one (memory one (a .image .now)) (a .shared .blocks) (a .head .place) in
-    let seen = look-broken one _ (a .shared .blocks) 0 0 (a .head .place) walk (c .before .before .before .look .ensures) in
+    let seen = look-broken one _ (a .shared .blocks) 0 0 (a .head .place) walk (looked .look .ensures) in
     let sound = sym seen ∙ c .before .before .if3 .left in
     let facts = shared-facts one (a .image .now) (a .shared) (fit-shared one (a .image .now) (a .shared) (a .head) (a .table .now) fit) in
     record {
-      refusal = catch-up-clear one (a .image .now) (a .shared) (a .head) (a .table .now) (a .past) fit (c .before .before .before .before .before .if2 .left)
+      refusal = catch-up-clear one (a .image .now) (a .shared) (a .head) (a .table .now) (a .past) fit (looked .before .before .if2 .left)
           sound;
       file = λ _. c .catch-up .ensures (facts .few-blocks) sound;
     }

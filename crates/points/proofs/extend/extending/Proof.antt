@@ -9,6 +9,13 @@ use borrow.Author.Needs.{needs}
 use Rattle.points.proofs.extend.extending.Statement.{statement}
 use Rattle.points.proofs.extend.extending.Tie as tie
 
+-- the way back: where all words are zero, and the start
+abbrev zeroed : tie.After-next-index → tie.Else1
+zeroed c = c .before .before
+
+abbrev start : tie.Else1 → tie.Start
+start c = c .before .before .before
+
 zero-out-requires : tie.Need-zero-out-requires
 zero-out-requires c κs = search needs
 
@@ -28,22 +35,23 @@ link-requires c κs = search needs
 
 returns-2 : tie.Need-returns-2
 returns-2 c =
-    let if1 = c .before .before .before .before .if1 in
-    let next-index = c .before .before .next-index in
-    let a = c .before .before .before .before .before .before .before .args in
+    let next = c .before .before in
+    let z = zeroed next in
+    let a = start z .args in
     let m = memory one (a .image .now) in
-    c .link .ensures ∙ sym (link-on one m (a .head) (le-ltb _ _ (if1 .left)) (is-zero _ (sym (next-index .ensures) ∙ c .before .if2 .taken)))
+    c .link .ensures ∙ sym (link-on one m (a .head) (le-ltb _ _ (z .if1 .left)) (is-zero _ (sym (next .next-index .ensures) ∙ c .before .if2 .taken)))
 
 give-back-requires : tie.Need-give-back-requires
 give-back-requires c κs = search needs
 
 returns-3 : tie.Need-returns-3
 returns-3 c =
-    let if1 = c .before .before .before .before .if1 in
-    let next-index = c .before .before .next-index in
-    let a = c .before .before .before .before .before .before .before .args in
+    let next = c .before .before in
+    let z = zeroed next in
+    let a = start z .args in
     let m = memory one (a .image .now) in
-    c .give-back .ensures ∙ sym (lost-on one m (a .head) (le-ltb _ _ (if1 .left)) (not-zero _ (λ e. c .before .if2 .left (next-index .ensures ∙ e))))
+    c .give-back .ensures
+    ∙ sym (lost-on one m (a .head) (le-ltb _ _ (z .if1 .left)) (not-zero _ (λ e. c .before .if2 .left (next .next-index .ensures ∙ e))))
 
 pub extending-spec : {M : Type 1} → statement M
 extending-spec =

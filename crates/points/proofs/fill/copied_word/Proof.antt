@@ -36,7 +36,8 @@ returns-2 c j l =
     let if1 = c .before .before .if1 in
     let a = c .before .before .before .before .before .before .args in
     let b = index .result in
-    let e : c .word .result ≡ wordAt (memory one (a .image .now)) b (a .i) = c .word .ensures ∙ ap (λ (part : List ℕ). getD part (a .i) 0) (c .before .block .ensures) in
+    let e : c .word .result ≡ wordAt (memory one (a .image .now)) b (a .i) =
+    c .word .ensures ∙ ap (λ (part : List ℕ). getD part (a .i) 0) (c .before .block .ensures) in
     rw (e, ← index .ensures) (mapped-word (memory one (a .image .now)) b (a .i) j (if1 .left) l)
 
 pub copied-word-spec : {M : Type 1} → statement M

@@ -31,7 +31,8 @@ loop-less c = omega arith
 loop-again : tie.Need-loop-again Inv-loop μ-loop
 loop-again c = let a = c .before .before .before .args in
     let l = c .before .before .loop in
-    next-byte (mixedByte (a .copied) (a .text .now) (a .lead) (a .end) (a .at)) (a .at) (l .p) (l .word) (c .mixed-byte .result) (l .inv) (omega arith) (c .mixed-byte .ensures .0) (c .mixed-byte .ensures .1)
+    next-byte (mixedByte (a .copied) (a .text .now) (a .lead) (a .end) (a .at)) (a .at) (l .p) (l .word) (c .mixed-byte .result) (l .inv) (omega arith)
+    (c .mixed-byte .ensures .0) (c .mixed-byte .ensures .1)
 
 returns : tie.Need-returns Inv-loop μ-loop
 returns c = let l = c .before .loop in

@@ -15,8 +15,10 @@ byte-requires c κs = search needs
 
 returns : tie.Need-returns
 returns c = let a = c .before .before .args in
-    let e = c .byte .ensures in
-    (e ∙ sym (mixed-before (a .copied) (a .text .now) (a .lead) (a .end) (a .at) (a .p) (c .before .if1 .taken)), omega (arith, e, byte-lt (a .copied) (a .p - a .at)))
+    let e = c .byte .ensures in (
+      e ∙ sym (mixed-before (a .copied) (a .text .now) (a .lead) (a .end) (a .at) (a .p) (c .before .if1 .taken)),
+      omega (arith, e, byte-lt (a .copied) (a .p - a .at)),
+    )
 
 sub-byte-2 : tie.Need-sub-byte-2
 sub-byte-2 c = search needs
@@ -26,8 +28,10 @@ byte-requires-2 c κs = search needs
 
 returns-2 : tie.Need-returns-2
 returns-2 c = let a = c .before .before .before .args in
-    let e = c .byte2 .ensures in
-    (e ∙ sym (mixed-after (a .copied) (a .text .now) (a .lead) (a .end) (a .at) (a .p) (c .before .if2 .taken)), omega (arith, e, byte-lt (a .copied) (a .p - a .at)))
+    let e = c .byte2 .ensures in (
+      e ∙ sym (mixed-after (a .copied) (a .text .now) (a .lead) (a .end) (a .at) (a .p) (c .before .if2 .taken)),
+      omega (arith, e, byte-lt (a .copied) (a .p - a .at)),
+    )
 
 element-copy-out-wide : tie.Need-element-copy-out-wide
 element-copy-out-wide c = search needs

@@ -9,6 +9,10 @@ use borrow.Author.Needs.{needs}
 use Rattle.points.proofs.fill.new_word.Statement.{statement}
 use Rattle.points.proofs.fill.new_word.Tie as tie
 
+-- the way back, from the word that is copied
+abbrev start : tie.After-copied-word → tie.Start
+start c = c .before .before .before .before .before
+
 cast-offset : tie.Need-cast-offset
 cast-offset c = search needs
 
@@ -41,13 +45,15 @@ add-if3 : tie.Need-add-if3
 add-if3 c = search needs
 
 returns-2 : tie.Need-returns-2
-returns-2 c = let a = c .before .before .before .before .before .before .args in
+returns-2 c =
+    let a = start (c .before) .args in
     let w = c .before .copied-word in
     sym (new-word-copied one (memory one (a .image .now)) (a .head) (a .table .now) (a .text .now) (a .k) (w .result) (w .ensures) (omega arith)
     (inl (c .if3 .taken)))
 
 returns-3 : tie.Need-returns-3
-returns-3 c = let a = c .before .before .before .before .before .before .before .args in
+returns-3 c =
+    let a = start (c .before .before) .args in
     let w = c .before .before .copied-word in
     sym (new-word-copied one (memory one (a .image .now)) (a .head) (a .table .now) (a .text .now) (a .k) (w .result) (w .ensures) (omega arith)
     (inr (c .if4 .taken)))
@@ -56,7 +62,8 @@ edge-word-requires : tie.Need-edge-word-requires
 edge-word-requires c κs = search needs
 
 returns-4 : tie.Need-returns-4
-returns-4 c = let a = c .before .before .before .before .before .before .before .before .args in
+returns-4 c =
+    let a = start (c .before .before .before) .args in
     let w = c .before .before .before .copied-word in
     c .edge-word .ensures ∙ sym (new-word one (memory one (a .image .now)) (a .head) (a .table .now) (a .text .now) (a .k) (w .result) (w .ensures))
 

@@ -84,8 +84,12 @@ returns c =
     let c2 = c3 .before .before in
     let c1 = c2 .before .before in
     let a = c1 .before .before .args in
-    eight-bytes (c1 .wide .result) (c2 .wide2 .result) (c3 .wide3 .result) (c4 .wide4 .result) (c5 .wide5 .result) (c6 .wide6 .result) (c7 .wide7 .result) (c .wide8 .result) (c1 .wide .ensures .1) (c2 .wide2 .ensures .1) (c3 .wide3 .ensures .1) (c4 .wide4 .ensures .1) (c5 .wide5 .ensures .1) (c6 .wide6 .ensures .1) (c7 .wide7 .ensures .1) (c .wide8 .ensures .1)
-    ∙ eight-of (a .text .now) (a .from) (c1 .wide .ensures .0) (c2 .wide2 .ensures .0) (c3 .wide3 .ensures .0) (c4 .wide4 .ensures .0) (c5 .wide5 .ensures .0) (c6 .wide6 .ensures .0) (c7 .wide7 .ensures .0) (c .wide8 .ensures .0)
+    eight-bytes (c1 .wide .result) (c2 .wide2 .result) (c3 .wide3 .result) (c4 .wide4 .result)
+    (c5 .wide5 .result) (c6 .wide6 .result) (c7 .wide7 .result) (c .wide8 .result)
+    (c1 .wide .ensures .1) (c2 .wide2 .ensures .1) (c3 .wide3 .ensures .1) (c4 .wide4 .ensures .1)
+    (c5 .wide5 .ensures .1) (c6 .wide6 .ensures .1) (c7 .wide7 .ensures .1) (c .wide8 .ensures .1)
+    ∙ eight-of (a .text .now) (a .from) (c1 .wide .ensures .0) (c2 .wide2 .ensures .0) (c3 .wide3 .ensures .0) (c4 .wide4 .ensures .0)
+    (c5 .wide5 .ensures .0) (c6 .wide6 .ensures .0) (c7 .wide7 .ensures .0) (c .wide8 .ensures .0)
 
 pub text-word-spec : {M : Type 1} → statement M
 text-word-spec =

@@ -8,7 +8,11 @@ use Rattle.points.proofs.Joins.{join-refused, join-done, join-small, jo
 use Rattle.points.proofs.join.join.Statement.{statement}
 use Rattle.points.proofs.join.join.Tie as tie
 
-none : (c : tie.Else1) → let a = c .before .before .before .args in joinRefusal one (a .image .now) (a .shared) (a .number) ≡ 0
+-- the way back, from where nothing was refused
+abbrev start : tie.Else1 → tie.Start
+start c = c .before .before .before
+
+none : (c : tie.Else1) → let a = start c .args in joinRefusal one (a .image .now) (a .shared) (a .number) ≡ 0
 none c = sym (c .before .join-refusal .ensures) ∙ c .if1 .left
 
 join-refusal-requires : tie.Need-join-refusal-requires
@@ -42,8 +46,9 @@ idle-at-requires-2 c κs = search needs
 
 returns-2 : tie.Need-returns-2
 returns-2 c =
-    let a = c .before .before .before .before .before .before .before .args in
-    join-done one (a .image .now) (a .shared) (a .number) (none (c .before .before .before .before)) _ _ _ _ (c .before .before .with-point .ensures)
+    let e = c .before .before .before .before in
+    let a = start e .args in
+    join-done one (a .image .now) (a .shared) (a .number) (none e) _ _ _ _ (c .before .before .with-point .ensures)
     (c .before .with-joined .ensures) (c .before .before .before .first-index .ensures) (c .idle-at2 .ensures)
 
 pub join-spec : {M : Type 1} → statement M

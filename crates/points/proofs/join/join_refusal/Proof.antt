@@ -43,12 +43,22 @@ bad-first-requires c κs = search needs
 returns-4 : tie.Need-returns-4
 unfolding joinRefusal
 returns-4 c =
-    rw (not-10 (c .before .before .before .before .before), not-12 (c .before .before .before .before), not-13 (c .before .before), sym (c .before .bad-first .ensures) ∙ c .if4 .taken)
+    rw (
+      not-10 (c .before .before .before .before .before),
+      not-12 (c .before .before .before .before),
+      not-13 (c .before .before),
+      sym (c .before .bad-first .ensures) ∙ c .if4 .taken,
+    )
 
 returns-5 : tie.Need-returns-5
 unfolding joinRefusal
 returns-5 c =
-    rw (not-10 (c .before .before .before .before .before), not-12 (c .before .before .before .before), not-13 (c .before .before), sym (c .before .bad-first .ensures) ∙ c .if4 .left)
+    rw (
+      not-10 (c .before .before .before .before .before),
+      not-12 (c .before .before .before .before),
+      not-13 (c .before .before),
+      sym (c .before .bad-first .ensures) ∙ c .if4 .left,
+    )
 
 pub join-refusal-spec : {M : Type 1} → statement M
 join-refusal-spec =

@@ -8,7 +8,14 @@ use Rattle.points.proofs.Leaves.{held-idle, held-run, held-both}
 use Rattle.points.proofs.leave.free_held.Statement.{statement}
 use Rattle.points.proofs.leave.free_held.Tie as tie
 
-busy : (c : tie.Else1) → isIdle (c .before .before .before .args .write .phase) ≡ false
+-- the way back: the run that is freed, and the start
+abbrev run-freed : tie.After-is-zeroing → tie.After-free-run
+run-freed c = c .before .before .before
+
+abbrev start : tie.Else1 → tie.Start
+start c = c .before .before .before
+
+busy : (c : tie.Else1) → isIdle (start c .args .write .phase) ≡ false
 busy c = sym (c .before .is-idle .ensures) ∙ c .if1 .left
 
 is-idle-requires : tie.Need-is-idle-requires
@@ -34,18 +41,19 @@ same-length c = search needs
 
 returns-2 : tie.Need-returns-2
 returns-2 c =
-    let f = c .before .before .before .before .before .before .before .before .before in
-    let a = f .before .before .before .before .before .args in
+    let asked = c .before .before .before .before .before .before in
+    let f = run-freed asked in
+    let a = start (f .before .before) .args in
     held-both one (a .map .now) (a .write) (busy (f .before .before)) _ (f .free-run .ensures) _
-    (sym (c .before .before .before .before .before .before .is-zeroing .ensures) ∙ c .before .before .before .before .before .if2 .taken) (c .before .before .free-block .ensures)
+    (sym (asked .is-zeroing .ensures) ∙ c .before .before .before .before .before .if2 .taken) (c .before .before .free-block .ensures)
 
 same-length-2 : tie.Need-same-length-2
 same-length-2 c = search needs
 
 returns-3 : tie.Need-returns-3
 returns-3 c =
-    let f = c .before .before .before .before in
-    let a = f .before .before .before .before .before .args in
+    let f = run-freed (c .before) in
+    let a = start (f .before .before) .args in
     held-run one (a .map .now) (a .write) (busy (f .before .before)) _ (f .free-run .ensures)
     (sym (c .before .is-zeroing .ensures) ∙ c .if2 .left)
 

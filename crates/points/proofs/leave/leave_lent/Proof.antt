@@ -9,7 +9,14 @@ use Rattle.points.proofs.RecordReasons.{fit-joined}
 use Rattle.points.proofs.leave.leave_lent.Statement.{statement}
 use Rattle.points.proofs.leave.leave_lent.Tie as tie
 
-none : (c : tie.Else1) → let a = c .before .before .before .args in unfit one (a .image .now) (a .shared) (a .head) (a .table .now) ≡ 0
+-- the way back: where the numbers fit, and the start
+abbrev fit : tie.After-with-taken → tie.Else1
+fit c = c .before .before .before .before .before
+
+abbrev start : tie.Else1 → tie.Start
+start c = c .before .before .before
+
+none : (c : tie.Else1) → let a = start c .args in unfit one (a .image .now) (a .shared) (a .head) (a .table .now) ≡ 0
 none c = sym (c .before .unfit .ensures) ∙ c .if1 .left
 
 unfit-requires : tie.Need-unfit-requires
@@ -32,19 +39,19 @@ with-taken-requires c κs = search needs
 
 without-point-requires : tie.Need-without-point-requires
 without-point-requires c κs =
-    let a = c .before .before .before .before .before .before .before .before .args in
+    let a = start (fit c) .args in
     joined-small (a .shared .joined) (a .head .number) (omega arith)
-    (fit-joined one (a .image .now) (a .shared) (a .head) (a .table .now) (none (c .before .before .before .before .before)))
+    (fit-joined one (a .image .now) (a .shared) (a .head) (a .table .now) (none (fit c)))
 
 with-joined-requires : tie.Need-with-joined-requires
 with-joined-requires c κs = search needs
 
 returns-2 : tie.Need-returns-2
 returns-2 c =
-    let a = c .before .before .before .before .before .before .before .before .before .before .args in
+    let freed = c .before .before in
+    let a = start (fit freed) .args in
     λ text. leave-done one (a .image .now) (a .shared) (pointOf (a .head) (a .table .now) text)
-    (none (c .before .before .before .before .before .before .before)) _ _ _ _ (c .before .before .before .before .free-held .ensures)
-    (c .before .before .with-taken .ensures)
+    (none (fit freed)) _ _ _ _ (freed .before .before .free-held .ensures) (freed .with-taken .ensures)
     (c .before .without-point .ensures) (c .with-joined .ensures)
 
 pub leave-lent-spec : {M : Type 1} → statement M

@@ -7,6 +7,13 @@ use borrow.Author.Needs.{needs}
 use Rattle.points.proofs.locate.find.Statement.{statement}
 use Rattle.points.proofs.locate.find.Tie as tie
 
+-- the way back: where nothing was refused, and the start
+abbrev not-refused : tie.After-wide → tie.Else1
+not-refused c = c .before .before
+
+abbrev start : tie.After-catch-up → tie.Start
+start c = c .before .before .before
+
 catch-up-requires : tie.Need-catch-up-requires
 catch-up-requires c κs = search needs
 
@@ -15,19 +22,20 @@ refused-requires c κs = search needs
 
 returns : tie.Need-returns
 returns c =
-    let a = c .before .before .before .before .before .before .args in
+    let a = start (c .before .before .before) .args in
     let ne = c .before .if1 .taken in
-    c .refused .ensures ∙ locate-early one (a .image .now) (a .shared) (a .head) (a .table .now) (a .v) _ (c .before .before .before .catch-up .ensures .refusal) ne
+    c .refused .ensures
+    ∙ locate-early one (a .image .now) (a .shared) (a .head) (a .table .now) (a .v) _ (c .before .before .before .catch-up .ensures .refusal) ne
 
 mul-wide : tie.Need-mul-wide
 mul-wide c =
-    let a = c .before .before .before .before .before .args in
+    let a = start (c .before .before) .args in
     let l = locate-inside one (a .image .now) (a .shared) (a .head) (a .table .now) (a .v) _ (c .before .before .catch-up .ensures .refusal) (c .if1 .left) in
     omega arith
 
 element-copy-out-wide : tie.Need-element-copy-out-wide
 element-copy-out-wide c =
-    let a = c .before .before .before .before .before .args in
+    let a = start (c .before .before) .args in
     let l = locate-inside one (a .image .now) (a .shared) (a .head) (a .table .now) (a .v) _ (c .before .before .catch-up .ensures .refusal) (c .if1 .left) in
     omega arith
 
@@ -39,9 +47,10 @@ refused-requires-2 c κs = search needs
 
 returns-2 : tie.Need-returns-2
 returns-2 c =
-    let a = c .before .before .before .before .before .before .before .before .before .args in
-    let caught = c .before .before .before .before .before .before .catch-up in
-    let z = c .before .before .before .before .if1 .left in
+    let inside = not-refused (c .before .before) in
+    let a = start (inside .before .before) .args in
+    let caught = inside .before .before .catch-up in
+    let z = inside .if1 .left in
     c .refused2 .ensures
     ∙ locate-unmapped one (a .image .now) (a .shared) (a .head) (a .table .now) (a .v) _ (caught .ensures .refusal) z _ (caught .ensures .file z) _
     (c .before .before .wide .ensures) (c .before .if2 .taken)
@@ -51,10 +60,12 @@ counted-requires c κs = search needs
 
 returns-3 : tie.Need-returns-3
 returns-3 c =
-    let a = c .before .before .before .before .before .before .before .before .before .args in
-    let caught = c .before .before .before .before .before .before .catch-up in
-    let z = c .before .before .before .before .if1 .left in
-    c .counted .ensures ∙ locate-found one (a .image .now) (a .shared) (a .head) (a .table .now) (a .v) _ (caught .ensures .refusal) z _ (caught .ensures .file z) _
+    let inside = not-refused (c .before .before) in
+    let a = start (inside .before .before) .args in
+    let caught = inside .before .before .catch-up in
+    let z = inside .if1 .left in
+    c .counted .ensures
+    ∙ locate-found one (a .image .now) (a .shared) (a .head) (a .table .now) (a .v) _ (caught .ensures .refusal) z _ (caught .ensures .file z) _
     (c .before .before .wide .ensures) (c .before .if2 .left)
 
 pub find-spec : {M : Type 1} → statement M

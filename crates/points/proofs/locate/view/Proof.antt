@@ -10,6 +10,10 @@ use borrow.Author.Needs.{needs}
 use Rattle.points.proofs.locate.view.Statement.{statement}
 use Rattle.points.proofs.locate.view.Tie as tie
 
+-- the way back, from the block that is located
+abbrev start : tie.After-locate-lent → tie.Start
+start c = c .before .before .before .before .before
+
 locate-lent-requires : tie.Need-locate-lent-requires
 locate-lent-requires c κs = search needs
 
@@ -22,9 +26,9 @@ part-requires c κs = search needs
 returns : tie.Need-returns
 unfolding locating
 returns c =
-    let a = c .before .before .before .before .before .before .before .args in
-    let found = c .before .before .locate-lent in
-    c .part .ensures ∙ ap (λ (r : Count). partOf (memory one (a .image .now)) (r .count)) (found .ensures)
+    let found = c .before .before in
+    let a = start found .args in
+    c .part .ensures ∙ ap (λ (r : Count). partOf (memory one (a .image .now)) (r .count)) (found .locate-lent .ensures)
     ∙ view-part one (a .image .now) (a .shared) (a .t3 .head) (a .t3 .table) (a .v)
 
 pub view-spec : {M : Type 1} → statement M

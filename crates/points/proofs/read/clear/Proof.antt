@@ -1,13 +1,8 @@
 -- `points::read::clear` meets its contract: the zeros put in and those still to come are always all of them. Assumes nothing.
-use Prim.Native.Nat.{ℕ, _+_, _*_, _-_, _/_, _%_, _≤_, _<_}
-use mathlib.Core.Path.{_≡_, refl, sym, ap, _∙_}
+use Prim.Native.Nat.{_-_}
+use mathlib.Core.Path.{refl}
 use native.Mathlib.Omega.{arith}
-use lib.ListN.{length, getD, set}
-use lib.Seq.{sets}
-use Rattle.words.specs.Logic.{listFrom}
-use Rattle.words.specs.Word.{byteOf}
-use Rattle.words.specs.Memory.{byteIn}
-use Rattle.points.proofs.Copied.{Copied, copied-none, copied-more, copied-all, word-bytes}
+use Rattle.points.proofs.Copied.{Copied, copied-none, copied-more, copied-all}
 use Rattle.points.proofs.read.clear.Statement.{statement}
 use Rattle.points.proofs.read.clear.Tie as tie
 
@@ -33,13 +28,19 @@ loop-less : tie.Need-loop-less Inv-loop μ-loop
 loop-less c = omega arith
 
 loop-again : tie.Need-loop-again Inv-loop μ-loop
-loop-again c = let a = c .before .before .args in let l = c .before .loop in copied-more (λ _. 0) (a .buffer .now) (a .at) 0 (a .n) (l .buffer) (l .k) (l .inv) _ 1 (omega arith) refl
+loop-again c =
+    let a = c .before .before .args in
+    let l = c .before .loop in
+    copied-more (λ _. 0) (a .buffer .now) (a .at) 0 (a .n) (l .buffer) (l .k) (l .inv) _ 1 (omega arith) refl
 
 same-length : tie.Need-same-length Inv-loop μ-loop
 same-length c = c .before .loop .inv .same
 
 returns : tie.Need-returns Inv-loop μ-loop
-returns c = let a = c .before .before .args in let l = c .before .loop in copied-all (λ _. 0) (a .buffer .now) (a .at) 0 (a .n) (l .buffer) (l .k) (l .inv) (omega arith)
+returns c =
+    let a = c .before .before .args in
+    let l = c .before .loop in
+    copied-all (λ _. 0) (a .buffer .now) (a .at) 0 (a .n) (l .buffer) (l .k) (l .inv) (omega arith)
 
 pub clear-spec : {M : Type 1} → statement M
 clear-spec =

@@ -1,6 +1,6 @@
 -- `points::read::copy` meets its contract: its three copies follow each other. Assumes nothing.
-use Prim.Native.Nat.{ℕ, _+_, _*_, _-_, _/_, _%_, _≤_, _<_, min}
-use mathlib.Core.Path.{_≡_, refl, sym, ap, _∙_}
+use Prim.Native.Nat.{_+_, _*_, _-_, _/_, _%_, min}
+use mathlib.Core.Path.{_≡_, ap, _∙_}
 use native.Mathlib.Omega.{arith}
 use lib.Seq.{sets}
 use Rattle.words.specs.Memory.{byteIn}
@@ -8,6 +8,16 @@ use Rattle.points.proofs.Copied.{sets-three, words-aligned}
 use borrow.Author.Needs.{needs}
 use Rattle.points.proofs.read.copy.Statement.{statement}
 use Rattle.points.proofs.read.copy.Tie as tie
+
+-- the way back, call by call
+abbrev words-copied : tie.After-slice-known4 → tie.After-copy-words
+words-copied c = c .before .before .before .before .before .before
+
+abbrev front-copied : tie.After-copy-words → tie.After-copy-bytes
+front-copied c = c .before .before .before .before
+
+abbrev start : tie.After-least → tie.Start
+start c = c .before .before .before
 
 sub-least : tie.Need-sub-least
 sub-least c = search needs
@@ -59,16 +69,19 @@ same-length c = search needs
 
 returns : tie.Need-returns
 returns c =
-    let a = c .before .before .before .before .before .before .before .before .before .before .before .before .before .before .before .args in
-    let head = c .before .before .before .before .before .before .before .before .before .before .before .before .least in
+    let middle = words-copied c in
+    let front = front-copied middle in
+    let measured = front .before .before in
+    let a = start measured .args in
+    let head = measured .least in
     let h = head .result in
     let w = (a .n - h) / 8 in
     let f = byteIn (a .part .now) in
     let l : h ≡ min ((8 - a .from % 8) % 8) (a .n) = head .ensures in
     let aligned = words-aligned f (a .from + h) w (omega arith) in
     sets-three f (a .buffer .now) _ _ _ (a .at) (a .from) h (8 * w) (a .n - h - 8 * w) (a .n) (omega arith)
-    (c .before .before .before .before .before .before .before .before .before .before .copy-bytes .ensures)
-    (c .before .before .before .before .before .before .copy-words .ensures ∙ ap (sets _ (a .at + h)) aligned)
+    (front .copy-bytes .ensures)
+    (middle .copy-words .ensures ∙ ap (sets _ (a .at + h)) aligned)
     (c .before .before .copy-bytes2 .ensures)
 
 pub copy-spec : {M : Type 1} → statement M

@@ -1,13 +1,10 @@
 -- `points::read::copy_bytes` meets its contract: the bytes put in and those still to come are always all of them. Assumes nothing.
-use Prim.Native.Nat.{ℕ, _+_, _*_, _-_, _/_, _%_, _≤_, _<_}
-use mathlib.Core.Path.{_≡_, refl, sym, ap, _∙_}
+use Prim.Native.Nat.{_+_, _-_}
+use mathlib.Core.Path.{ap}
 use native.Mathlib.Omega.{arith}
-use lib.ListN.{length, getD, set}
-use lib.Seq.{sets}
-use Rattle.words.specs.Logic.{listFrom}
-use Rattle.words.specs.Word.{byteOf}
+use lib.ListN.{set}
 use Rattle.words.specs.Memory.{byteIn}
-use Rattle.points.proofs.Copied.{Copied, copied-none, copied-more, copied-all, word-bytes}
+use Rattle.points.proofs.Copied.{Copied, copied-none, copied-more, copied-all}
 use Rattle.points.proofs.read.copy_bytes.Statement.{statement}
 use Rattle.points.proofs.read.copy_bytes.Tie as tie
 
@@ -45,13 +42,20 @@ loop-less : tie.Need-loop-less Inv-loop μ-loop
 loop-less c = omega arith
 
 loop-again : tie.Need-loop-again Inv-loop μ-loop
-loop-again c = let a = c .before .before .before .before .before .before .args in let l = c .before .before .before .loop in copied-more (byteIn (a .part .now)) (a .buffer .now) (a .at) (a .from) (a .n) (l .buffer) (l .k) (l .inv) _ 1 (omega arith) (ap (set (l .buffer) (a .at + l .k)) (c .byte .ensures))
+loop-again c =
+    let a = c .before .before .before .before .before .before .args in
+    let l = c .before .before .before .loop in
+    copied-more (byteIn (a .part .now)) (a .buffer .now) (a .at) (a .from) (a .n) (l .buffer) (l .k) (l .inv) _ 1 (omega arith)
+    (ap (set (l .buffer) (a .at + l .k)) (c .byte .ensures))
 
 same-length : tie.Need-same-length Inv-loop μ-loop
 same-length c = c .before .loop .inv .same
 
 returns : tie.Need-returns Inv-loop μ-loop
-returns c = let a = c .before .before .before .before .args in let l = c .before .loop in copied-all (byteIn (a .part .now)) (a .buffer .now) (a .at) (a .from) (a .n) (l .buffer) (l .k) (l .inv) (omega arith)
+returns c =
+    let a = c .before .before .before .before .args in
+    let l = c .before .loop in
+    copied-all (byteIn (a .part .now)) (a .buffer .now) (a .at) (a .from) (a .n) (l .buffer) (l .k) (l .inv) (omega arith)
 
 pub copy-bytes-spec : {M : Type 1} → statement M
 copy-bytes-spec =

@@ -1,11 +1,8 @@
 -- `points::read::copy_words` meets its contract: the bytes put in and those still to come are always all of them, eight more with each word. Assumes nothing.
-use Prim.Native.Nat.{ℕ, _+_, _*_, _-_, _/_, _%_, _≤_, _<_}
-use mathlib.Core.Path.{_≡_, refl, sym, ap, _∙_}
+use Prim.Native.Nat.{_+_, _*_, _-_}
+use mathlib.Core.Path.{_≡_, ap, _∙_}
 use native.Mathlib.Omega.{arith}
-use lib.ListN.{length, getD, set}
 use lib.Seq.{sets}
-use Rattle.words.specs.Logic.{listFrom}
-use Rattle.words.specs.Word.{byteOf}
 use Rattle.words.specs.Memory.{byteIn}
 use Rattle.points.proofs.Copied.{Copied, copied-none, copied-more, copied-all, word-bytes}
 use Rattle.points.proofs.read.copy_words.Statement.{statement}
@@ -16,6 +13,10 @@ Inv-loop part from buffer₀ at n k₀ buffer k = Copied (byteIn part) buffer₀
 
 abbrev μ-loop : tie.MeasureT-loop
 μ-loop part from buffer₀ at n k₀ buffer k = n - k
+
+-- where the function began, from the loop's head
+abbrev called : tie.At-loop Inv-loop μ-loop → tie.Start Inv-loop μ-loop
+called c = c .before .before .before
 
 loop-holds : tie.Need-loop-holds Inv-loop μ-loop
 loop-holds c = let a = c .before .before .args in copied-none (byteIn (a .part .now)) (a .buffer .now) (a .at) (8 * a .from) (8 * a .n)
@@ -46,8 +47,9 @@ loop-less c = omega arith
 
 loop-again : tie.Need-loop-again Inv-loop μ-loop
 loop-again c =
-    let a = c .before .before .before .before .before .before .before .before .before .args in
-    let l = c .before .before .before .before .before .before .loop in
+    let turn = c .before .before .before .before .before .before in
+    let a = called turn .args in
+    let l = turn .loop in
     let e : 8 * (l .k + 1) ≡ 8 * l .k + 8 = omega arith in
     let d : 8 * (a .from + l .k) ≡ 8 * a .from + 8 * l .k = omega arith in
     rw e
@@ -59,7 +61,7 @@ same-length c = c .before .loop .inv .same
 
 returns : tie.Need-returns Inv-loop μ-loop
 returns c =
-    let a = c .before .before .before .before .args in
+    let a = called (c .before) .args in
     let l = c .before .loop in
     copied-all (byteIn (a .part .now)) (a .buffer .now) (a .at) (8 * a .from) (8 * a .n) (l .buffer) (8 * l .k) (l .inv) (omega arith)
 

@@ -1,4 +1,4 @@
--- `points::read::fill` meets its contract: the bytes put in and those still to come are always all of them, a block's share more with each turn. Assumes nothing.
+-- `points::read::fill`: the bytes put in and those still to come are always all of them, a block's share more with each turn.
 use Prim.Native.Nat.{ℕ, _+_, _-_}
 use native.Mathlib.Omega.{arith}
 use mathlib.Core.Path.{_≡_, ap, _∙_}
@@ -20,6 +20,14 @@ Inv-loop image table offset buffer₀ n done₀ buffer done = Copied (byteFrom i
 
 abbrev μ-loop : tie.MeasureT-loop
 μ-loop image table offset buffer₀ n done₀ buffer done = n - done
+
+-- where the function began, from the loop's head
+abbrev called : tie.At-loop Inv-loop μ-loop → tie.Start Inv-loop μ-loop
+called c = c .before .before .before
+
+-- where the turn began
+abbrev begun : tie.After-least Inv-loop μ-loop → tie.At-loop Inv-loop μ-loop
+begun c = c .before .before .before .before
 
 loop-holds : tie.Need-loop-holds Inv-loop μ-loop
 loop-holds c = let a = c .before .before .args in copied-none (byteFrom (a .image .now) (a .table .now)) (a .buffer .now) 0 (a .offset) (a .n)
@@ -50,22 +58,25 @@ loop-less c = omega arith
 
 loop-again : tie.Need-loop-again Inv-loop μ-loop
 loop-again c =
-    let a = c .before .before .before .before .before .before .before .before .before .before .before .args in
-    let l = c .before .before .before .before .before .before .before .before .loop in
-    let n = c .before .before .before .before .least .result in
+    let copied = c .before .before in
+    let least = copied .before .before in
+    let turn = begun least in
+    let a = called turn .args in
+    let l = turn .loop in
+    let n = least .least .result in
     let p = a .offset + l .done in
     let f : Mapped = record { table = a .table .now; size = 0 } in
     let z : 0 + l .done ≡ l .done = omega arith in
-    let piece = file-piece one (memory one (a .image .now)) f p n _ (c .before .before .before .before .before .mapped .ensures) (omega arith) in
+    let piece = file-piece one (memory one (a .image .now)) f p n _ (least .before .mapped .ensures) (omega arith) in
     copied-more (byteFrom (a .image .now) (a .table .now)) (a .buffer .now) 0 (a .offset) (a .n) (l .buffer) (l .done) (l .inv) _ n (omega arith)
-    (rw z (c .before .before .copy-block .ensures ∙ ap (sets (l .buffer) (l .done)) piece))
+    (rw z (copied .copy-block .ensures ∙ ap (sets (l .buffer) (l .done)) piece))
 
 same-length : tie.Need-same-length Inv-loop μ-loop
 same-length c = c .before .loop .inv .same
 
 returns : tie.Need-returns Inv-loop μ-loop
 returns c =
-    let a = c .before .before .before .before .args in
+    let a = called (c .before) .args in
     let l = c .before .loop in
     copied-all (byteFrom (a .image .now) (a .table .now)) (a .buffer .now) 0 (a .offset) (a .n) (l .buffer) (l .done) (l .inv) (omega arith)
 

@@ -7,6 +7,10 @@ use borrow.Author.Needs.{needs}
 use Rattle.points.proofs.read.put_word.Statement.{statement}
 use Rattle.points.proofs.read.put_word.Tie as tie
 
+-- the way back, from the fourth byte
+abbrev start : tie.After-byte4 → tie.Start
+start c = c .before .before .before .before .before
+
 byte-requires : tie.Need-byte-requires
 byte-requires c κs = search needs
 
@@ -81,10 +85,11 @@ same-length c = search needs
 
 returns : tie.Need-returns
 returns c =
-    let a = c .before .before .before .before .before .before .before .before .before .args in
     let low = c .before .before .before .before in
+    let a = start low .args in
     rw (low .before .before .before .byte .ensures, low .before .before .byte2 .ensures, low .before .byte3 .ensures, low .byte4 .ensures)
-    (rw (c .before .before .before .byte5 .ensures, c .before .before .byte6 .ensures, c .before .byte7 .ensures, c .byte8 .ensures) (sets-eight (byteOf (a .w)) (a .buffer .now) (a .at)))
+    (rw (c .before .before .before .byte5 .ensures, c .before .before .byte6 .ensures, c .before .byte7 .ensures, c .byte8 .ensures)
+    (sets-eight (byteOf (a .w)) (a .buffer .now) (a .at)))
 
 pub put-word-spec : {M : Type 1} → statement M
 put-word-spec =

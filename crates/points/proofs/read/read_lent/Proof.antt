@@ -10,6 +10,10 @@ use Rattle.points.proofs.read.read_lent.Tie as tie
 abbrev filled : tie.After-counted → tie.After-fill
 filled c = c .before .before .before
 
+-- the way back, from the log that is read
+abbrev start : tie.After-catch-up → tie.Start
+start c = c .before .before .before .before .before
+
 catch-up-requires : tie.Need-catch-up-requires
 catch-up-requires c κs = search needs
 
@@ -18,8 +22,9 @@ refused-requires c κs = search needs
 
 returns : tie.Need-returns
 returns c =
-    let a = c .before .before .before .before .before .before .before .before .args in
-    let e = c .before .before .before .catch-up .ensures .refusal in
+    let up = c .before .before .before in
+    let a = start up .args in
+    let e = up .catch-up .ensures .refusal in
     let ne = c .before .if1 .taken in
     record {
       count = c .refused .ensures ∙ read-refused one (a .image .now) (a .shared) (a .head) (a .table .now) (a .offset) (a .buffer .now) _ e ne;
@@ -45,11 +50,14 @@ returns-2 : tie.Need-returns-2
 returns-2 c =
     let counted = filled c in
     let n = counted .before .before .before in
-    let caught = n .before .before .before .catch-up in
+    let up = n .before .before .before in
+    let caught = up .catch-up in
     let z = n .before .if1 .left in
-    let a = n .before .before .before .before .before .before .before .before .args in
+    let a = start up .args in
     record {
-      count = c .counted .ensures ∙ read-done one (a .image .now) (a .shared) (a .head) (a .table .now) (a .offset) (a .buffer .now) _ (caught .ensures .refusal) z
+      count =
+          c .counted .ensures
+          ∙ read-done one (a .image .now) (a .shared) (a .head) (a .table .now) (a .offset) (a .buffer .now) _ (caught .ensures .refusal) z
           _ (caught .ensures .file z) _ (n .left .ensures);
       bytes = read-filled one (a .image .now) (a .shared) (a .head) (a .table .now) (a .offset) (a .buffer .now) _ (caught .ensures .refusal) z _
           (caught .ensures .file z) _ (n .left .ensures) _ (counted .fill .ensures);

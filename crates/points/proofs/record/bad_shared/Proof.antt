@@ -17,7 +17,8 @@ bad-numbers-requires c κs = search needs
 returns : tie.Need-returns
 returns c =
     let a = c .before .before .before .args in
-    c .bad-numbers .ensures (a .shared .taken) ∙ ap (λ (n : Numbers). badShared one (a .image .now) (sharedOf n (a .shared .taken))) (c .before .numbers .ensures)
+    c .bad-numbers .ensures (a .shared .taken)
+    ∙ ap (λ (n : Numbers). badShared one (a .image .now) (sharedOf n (a .shared .taken))) (c .before .numbers .ensures)
 
 pub bad-shared-spec : {M : Type 1} → statement M
 bad-shared-spec = tie.close (tie.spec numbers-requires bad-numbers-requires returns)

@@ -1,4 +1,4 @@
--- `points::record::greatest` meets its contract: the invariant is that the whole table is below a number where the greatest so far and the rest are. Assumes nothing.
+-- `points::record::greatest`: the invariant is that the whole table is below a number where the greatest so far and the rest are.
 use Prim.Native.Nat.{ℕ, _+_, _-_, _≤_}
 use native.Mathlib.Omega.{arith}
 use mathlib.Core.Path.{_≡_, refl, sym, _∙_, ap}
@@ -11,7 +11,8 @@ use Rattle.points.proofs.record.greatest.Statement.{statement}
 use Rattle.points.proofs.record.greatest.Tie as tie
 
 abbrev Inv-loop : tie.InvT-loop
-Inv-loop table most₀ i₀ i-end most i = (i ≤ length table) × (i-end ≡ length table) × ((n : ℕ) → tableFits n table ≡ ltb most n && tableFits n (drop i table))
+Inv-loop table most₀ i₀ i-end most i =
+    (i ≤ length table) × (i-end ≡ length table) × ((n : ℕ) → tableFits n table ≡ ltb most n && tableFits n (drop i table))
 
 abbrev μ-loop : tie.MeasureT-loop
 μ-loop table most₀ i₀ i-end most i = length table - i
@@ -44,7 +45,8 @@ loop-again c =
       omega arith,
       refl,
       λ n. l .inv .2 n ∙ table-next n (a .table .now) (l .i) (ltb (l .most) n) (omega arith)
-          ∙ ap (λ (t : Bool). t && tableFits n (drop (l .i + 1) (a .table .now))) (sym (ap (λ (m : ℕ). ltb m n) (c .greater .ensures) ∙ below-both (l .most) (getD (a .table .now) (l .i) 0) n)),
+          ∙ ap (λ (t : Bool). t && tableFits n (drop (l .i + 1) (a .table .now)))
+          (sym (ap (λ (m : ℕ). ltb m n) (c .greater .ensures) ∙ below-both (l .most) (getD (a .table .now) (l .i) 0) n)),
     )
 
 returns : tie.Need-returns Inv-loop μ-loop

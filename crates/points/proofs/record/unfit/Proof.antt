@@ -17,7 +17,8 @@ unfit-numbers-requires c κs = search needs
 returns : tie.Need-returns
 returns c =
     let a = c .before .before .before .args in
-    c .unfit-numbers .ensures (a .shared .taken) ∙ ap (λ (n : Numbers). unfit one (a .image .now) (sharedOf n (a .shared .taken)) (a .head) (a .table .now)) (c .before .numbers .ensures)
+    c .unfit-numbers .ensures (a .shared .taken)
+    ∙ ap (λ (n : Numbers). unfit one (a .image .now) (sharedOf n (a .shared .taken)) (a .head) (a .table .now)) (c .before .numbers .ensures)
 
 pub unfit-spec : {M : Type 1} → statement M
 unfit-spec = tie.close (tie.spec numbers-requires unfit-numbers-requires returns)

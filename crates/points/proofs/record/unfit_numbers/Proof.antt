@@ -36,11 +36,13 @@ is-joined-requires c κs = search needs
 
 returns-3 : tie.Need-returns-3
 unfolding unfit
-returns-3 c taken = rw (not-10 (c .before .before .before .before) taken, not-11 (c .before .before), sym (c .before .is-joined .ensures) ∙ not-true _ (c .if3 .taken))
+returns-3 c taken =
+    rw (not-10 (c .before .before .before .before) taken, not-11 (c .before .before), sym (c .before .is-joined .ensures) ∙ not-true _ (c .if3 .taken))
 
 returns-4 : tie.Need-returns-4
 unfolding unfit
-returns-4 c taken = rw (not-10 (c .before .before .before .before) taken, not-11 (c .before .before), sym (c .before .is-joined .ensures) ∙ not-false _ (c .if3 .left))
+returns-4 c taken =
+    rw (not-10 (c .before .before .before .before) taken, not-11 (c .before .before), sym (c .before .is-joined .ensures) ∙ not-false _ (c .if3 .left))
 
 pub unfit-numbers-spec : {M : Type 1} → statement M
 unfit-numbers-spec = tie.close (tie.spec bad-numbers-requires returns fits-requires returns-2 is-joined-requires returns-3 returns-4)

@@ -6,6 +6,10 @@ use Rattle.points.proofs.Fits.{write-zeroing, write-filling}
 use Rattle.points.proofs.record.write_fits.Statement.{statement}
 use Rattle.points.proofs.record.write_fits.Tie as tie
 
+-- the way back, from the test of the run
+abbrev start : tie.After-inside → tie.Start
+start c = c .before .before .before .before .before .before
+
 span-requires : tie.Need-span-requires
 span-requires c κs = search needs
 
@@ -32,7 +36,7 @@ zeroing-fits-requires c κs = search needs
 
 returns : tie.Need-returns
 returns c =
-    let a = c .before .before .before .before .before .before .before .before .before .args in
+    let a = start (c .before .before .before) .args in
     cc (write-zeroing one (a .blocks) (a .place) (a .write) (sym (c .before .before .is-zeroing .ensures) ∙ c .before .if1 .taken))
 
 mul-result : tie.Need-mul-result
@@ -40,7 +44,7 @@ mul-result c = search needs
 
 returns-2 : tie.Need-returns-2
 returns-2 c =
-    let a = c .before .before .before .before .before .before .before .before .before .args in
+    let a = start (c .before .before .before) .args in
     cc (write-filling one (a .blocks) (a .place) (a .write) (sym (c .before .before .is-zeroing .ensures) ∙ c .before .if1 .left))
 
 pub write-fits-spec : {M : Type 1} → statement M

@@ -17,6 +17,10 @@ Inv-loop map₀ table v n at₀ left₀ map at left =
 abbrev μ-loop : tie.MeasureT-loop
 μ-loop map₀ table v n at₀ left₀ map at left = left
 
+-- where the function began, from the loop's head
+abbrev called : tie.At-loop Inv-loop μ-loop → tie.Start Inv-loop μ-loop
+called c = c .before .before
+
 loop-holds : tie.Need-loop-holds Inv-loop μ-loop
 loop-holds c = (refl, refl, refl)
 
@@ -39,16 +43,22 @@ loop-less : tie.Need-loop-less Inv-loop μ-loop
 loop-less c = omega arith
 
 loop-again : tie.Need-loop-again Inv-loop μ-loop
-loop-again c = let a = c .before .before .before .before .before .before .before .before .args in
-    let l = c .before .before .before .before .before .before .loop in
-    let f = c .before .before .free-mapped in
-    (omega arith, freed-one (a .map .now) (l .map) (f .last .0) (a .table .now) (a .n) (a .v) (l .left) (l .at) (omega arith) (l .inv .1) (f .ensures), f .kept .0 ∙ l .inv .2)
+loop-again c =
+    let turn = c .before .before .before .before .before .before in
+    let a = called turn .args in
+    let l = turn .loop in
+    let f = c .before .before .free-mapped in (
+      omega arith,
+      freed-one (a .map .now) (l .map) (f .last .0) (a .table .now) (a .n) (a .v) (l .left) (l .at) (omega arith) (l .inv .1) (f .ensures),
+      f .kept .0 ∙ l .inv .2,
+    )
 
 same-length : tie.Need-same-length Inv-loop μ-loop
 same-length c = c .before .loop .inv .2
 
 returns : tie.Need-returns Inv-loop μ-loop
-returns c = let a = c .before .before .before .args in
+returns c =
+    let a = called (c .before) .args in
     let l = c .before .loop in
     freed-all (a .map .now) (l .map) (a .table .now) (a .n) (a .v) (l .left) (l .at) (omega arith) (l .inv .1)
 

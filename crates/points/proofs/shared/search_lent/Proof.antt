@@ -17,7 +17,16 @@ search-requires : tie.Need-search-requires
 search-requires c κs = search needs
 
 cast-result : tie.Need-cast-result
-cast-result c = let a = c .before .before .before .before .args in record { fits = omega (arith, c .search .ensures, search-is (sharedOf (a .numbers) (a .taken .now)) (a .n), search-le (sharedOf (a .numbers) (a .taken .now)) (a .n)) }
+cast-result c =
+    let a = c .before .before .before .before .args in
+    record {
+      fits = omega (
+        arith,
+        c .search .ensures,
+        search-is (sharedOf (a .numbers) (a .taken .now)) (a .n),
+        search-le (sharedOf (a .numbers) (a .taken .now)) (a .n),
+      );
+    }
 
 returns : tie.Need-returns
 returns c = let a = c .before .before .before .before .args in c .search .ensures ∙ search-is (sharedOf (a .numbers) (a .taken .now)) (a .n)

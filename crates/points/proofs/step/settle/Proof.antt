@@ -8,6 +8,13 @@ use borrow.Author.Needs.{needs}
 use Rattle.points.proofs.step.settle.Statement.{statement}
 use Rattle.points.proofs.step.settle.Tie as tie
 
+-- the way back: where the numbers fit, and the start
+abbrev fit : tie.After-is-idle → tie.Else1
+fit c = c .before .before
+
+abbrev start : tie.Else1 → tie.Start
+start c = c .before .before .before
+
 unfit-numbers-requires : tie.Need-unfit-numbers-requires
 unfit-numbers-requires c κs = search needs
 
@@ -30,32 +37,32 @@ refused-requires-2 c κs = search needs
 
 returns-2 : tie.Need-returns-2
 returns-2 c =
-    let unfit = c .before .before .before .before .before .unfit-numbers in
-    let if1 = c .before .before .before .before .if1 in
-    let is-idle = c .before .before .is-idle in
-    let a = c .before .before .before .before .before .before .before .args in
+    let asked = c .before .before in
+    let e = fit asked in
+    let unfit = e .before .unfit-numbers in
+    let a = start e .args in
     c .refused2 .ensures ∙ sym
     (none-under-way one (a .image .now) (sharedOf (a .numbers) (a .taken .now)) (pointOf (a .head) (a .table .now) (a .text .now))
-    (sym (unfit .ensures (a .taken .now)) ∙ if1 .left) (sym (is-idle .ensures) ∙ c .before .if2 .taken))
+    (sym (unfit .ensures (a .taken .now)) ∙ e .if1 .left) (sym (asked .is-idle .ensures) ∙ c .before .if2 .taken))
 
 write-on-requires : tie.Need-write-on-requires
 write-on-requires c κs =
-    let unfit = c .before .before .before .before .unfit-numbers in
-    let if1 = c .before .before .before .if1 in
-    let a = c .before .before .before .before .before .before .args in
+    let e = fit (c .before) in
+    let unfit = e .before .unfit-numbers in
+    let a = start e .args in
     under-way one (a .image .now) (sharedOf (a .numbers) (a .taken .now)) (pointOf (a .head) (a .table .now) (a .text .now))
-    (sym (unfit .ensures (a .taken .now)) ∙ if1 .left) (sym (c .before .is-idle .ensures) ∙ c .if2 .left)
+    (sym (unfit .ensures (a .taken .now)) ∙ e .if1 .left) (sym (c .before .is-idle .ensures) ∙ c .if2 .left)
 
 returns-3 : tie.Need-returns-3
 returns-3 c =
-    let unfit = c .before .before .before .before .before .unfit-numbers in
-    let if1 = c .before .before .before .before .if1 in
-    let is-idle = c .before .before .is-idle in
-    let a = c .before .before .before .before .before .before .before .args in
+    let asked = c .before .before in
+    let e = fit asked in
+    let unfit = e .before .unfit-numbers in
+    let a = start e .args in
     c .write-on .ensures ∙ sym
     (goes-on one (a .image .now) (sharedOf (a .numbers) (a .taken .now)) (pointOf (a .head) (a .table .now) (a .text .now))
     (under-way one (a .image .now) (sharedOf (a .numbers) (a .taken .now)) (pointOf (a .head) (a .table .now) (a .text .now))
-    (sym (unfit .ensures (a .taken .now)) ∙ if1 .left) (sym (is-idle .ensures) ∙ c .before .if2 .left)))
+    (sym (unfit .ensures (a .taken .now)) ∙ e .if1 .left) (sym (asked .is-idle .ensures) ∙ c .before .if2 .left)))
 
 pub settle-spec : {M : Type 1} → statement M
 settle-spec =

@@ -40,7 +40,8 @@ few-joined : (c : tie.Start) → c .args .numbers .joined < 2 ^ 32
 few-joined c = omega arith
 
 -- what the plan asks for
-sound : (c : tie.After-settle) → let a = start c .args in Sound one (memory one (a .image .now)) (sharedOf (a .numbers) (a .taken .now)) (a .head) (c .settle .result)
+sound : (c : tie.After-settle)
+    → let a = start c .args in Sound one (memory one (a .image .now)) (sharedOf (a .numbers) (a .taken .now)) (a .head) (c .settle .result)
 sound c =
     let a = start c .args in
     subst (Sound one (memory one (a .image .now)) (sharedOf (a .numbers) (a .taken .now)) (a .head)) (sym (c .settle .ensures))

@@ -7,6 +7,10 @@ use borrow.Author.Needs.{needs}
 use Rattle.points.proofs.step.store.Statement.{statement}
 use Rattle.points.proofs.step.store.Tie as tie
 
+-- the way back, from the test of what to store
+abbrev start : tie.After-stores → tie.Start
+start c = c .before .before
+
 stores-requires : tie.Need-stores-requires
 stores-requires c κs = search needs
 
@@ -19,11 +23,11 @@ same-length c = search needs
 returns : tie.Need-returns
 unfolding after
 returns c =
-    let stores = c .before .before .before .before .before .stores in
+    let asked = c .before .before .before .before .before in
     let if1 = c .before .before .before .before .if1 in
     let store = c .before .before .store in
-    let a = c .before .before .before .before .before .before .before .args in
-    store .ensures ∙ rw (sym (stores .ensures) ∙ if1 .taken) (word-from-put one (a .image .now) (a .block) (a .word) (a .value))
+    let a = start asked .args in
+    store .ensures ∙ rw (sym (asked .stores .ensures) ∙ if1 .taken) (word-from-put one (a .image .now) (a .block) (a .word) (a .value))
 
 returns-2 : tie.Need-returns-2
 unfolding after

@@ -11,7 +11,8 @@ use Rattle.session.proofs.calls.fill_text.Statement.{statement}
 use Rattle.session.proofs.calls.fill_text.Tie as tie
 
 abbrev Inv-loop : tie.InvT-loop
-Inv-loop text₀ seed i₀ i-end text i = (i-end ≡ length text₀) × (i ≤ length text₀) × (length text ≡ length text₀) × (text ≡ listFrom 0 i (textByte seed) ++ drop i text₀)
+Inv-loop text₀ seed i₀ i-end text i =
+    (i-end ≡ length text₀) × (i ≤ length text₀) × (length text ≡ length text₀) × (text ≡ listFrom 0 i (textByte seed) ++ drop i text₀)
 
 abbrev μ-loop : tie.MeasureT-loop
 μ-loop text₀ seed i₀ i-end text i = length text₀ - i

@@ -9,7 +9,8 @@ use Rattle.session.proofs.digest.of_bytes.Statement.{statement}
 use Rattle.session.proofs.digest.of_bytes.Tie as tie
 
 abbrev Inv-loop : tie.InvT-loop
-Inv-loop bytes h₀ i₀ i-end h i = (i-end ≡ length bytes) × (i ≤ length bytes) × (h < 4294967291) × (digestFrom 1 bytes ≡ digestFrom h (drop i bytes))
+Inv-loop bytes h₀ i₀ i-end h i =
+    (i-end ≡ length bytes) × (i ≤ length bytes) × (h < 4294967291) × (digestFrom 1 bytes ≡ digestFrom h (drop i bytes))
 
 abbrev μ-loop : tie.MeasureT-loop
 μ-loop bytes h₀ i₀ i-end h i = length bytes - i

@@ -9,7 +9,8 @@ use Rattle.session.proofs.digest.of_numbers.Statement.{statement}
 use Rattle.session.proofs.digest.of_numbers.Tie as tie
 
 abbrev Inv-loop : tie.InvT-loop
-Inv-loop numbers h₀ i₀ i-end h i = (i-end ≡ length numbers) × (i ≤ length numbers) × (h < 4294967291) × (digestFrom 1 numbers ≡ digestFrom h (drop i numbers))
+Inv-loop numbers h₀ i₀ i-end h i =
+    (i-end ≡ length numbers) × (i ≤ length numbers) × (h < 4294967291) × (digestFrom 1 numbers ≡ digestFrom h (drop i numbers))
 
 abbrev μ-loop : tie.MeasureT-loop
 μ-loop numbers h₀ i₀ i-end h i = length numbers - i

@@ -9,7 +9,8 @@ use Rattle.session.proofs.digest.of_words.Statement.{statement}
 use Rattle.session.proofs.digest.of_words.Tie as tie
 
 abbrev Inv-loop : tie.InvT-loop
-Inv-loop words h₀ i₀ i-end h i = (i-end ≡ length words) × (i ≤ length words) × (h < 4294967291) × (digestFrom 1 (parts words) ≡ digestFrom h (parts (drop i words)))
+Inv-loop words h₀ i₀ i-end h i =
+    (i-end ≡ length words) × (i ≤ length words) × (h < 4294967291) × (digestFrom 1 (parts words) ≡ digestFrom h (parts (drop i words)))
 
 abbrev μ-loop : tie.MeasureT-loop
 μ-loop words h₀ i₀ i-end h i = length words - i

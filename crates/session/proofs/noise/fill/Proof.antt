@@ -10,7 +10,9 @@ use Rattle.session.proofs.noise.fill.Statement.{statement}
 use Rattle.session.proofs.noise.fill.Tie as tie
 
 abbrev Inv-loop : tie.InvT-loop
-Inv-loop part₀ seed x₀ i₀ i-end part x i = (i-end ≡ length part₀) × (i ≤ length part₀) × (length part ≡ length part₀) × (take i part ++ noise x (length part₀ - i) ≡ noise x₀ (length part₀))
+Inv-loop part₀ seed x₀ i₀ i-end part x i =
+    (i-end ≡ length part₀) × (i ≤ length part₀) × (length part ≡ length part₀)
+    × (take i part ++ noise x (length part₀ - i) ≡ noise x₀ (length part₀))
 
 abbrev μ-loop : tie.MeasureT-loop
 μ-loop part₀ seed x₀ i₀ i-end part x i = length part₀ - i
@@ -38,8 +40,12 @@ loop-less c = omega arith
 
 loop-again : tie.Need-loop-again Inv-loop μ-loop
 loop-again c = let l = c .before .before .loop in
-    let n = length (c .before .before .before .before .before .args .part .now) in
-    (refl, omega arith, simp length-set (l .inv .2), noise-next (l .x) n (l .i) (l .part) _ (l .inv .2) (l .inv .3) (c .scrambled .result) (omega arith) (c .scrambled .ensures))
+    let n = length (c .before .before .before .before .before .args .part .now) in (
+      refl,
+      omega arith,
+      simp length-set (l .inv .2),
+      noise-next (l .x) n (l .i) (l .part) _ (l .inv .2) (l .inv .3) (c .scrambled .result) (omega arith) (c .scrambled .ensures),
+    )
 
 same-length : tie.Need-same-length Inv-loop μ-loop
 same-length c = c .before .loop .inv .2

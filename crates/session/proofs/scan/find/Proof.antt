@@ -9,7 +9,8 @@ use Rattle.session.proofs.scan.find.Statement.{statement}
 use Rattle.session.proofs.scan.find.Tie as tie
 
 abbrev Inv-loop : tie.InvT-loop
-Inv-loop text from byte at₀ at = (from ≤ at) × (at ≤ length text) × (at + length (upTo byte (drop at text)) ≡ from + length (upTo byte (drop from text)))
+Inv-loop text from byte at₀ at =
+    (from ≤ at) × (at ≤ length text) × (at + length (upTo byte (drop at text)) ≡ from + length (upTo byte (drop from text)))
 
 abbrev μ-loop : tie.MeasureT-loop
 μ-loop text from byte at₀ at = length text - at

@@ -31,8 +31,11 @@ loop-less c = omega arith
 
 loop-again : tie.Need-loop-again Inv-loop μ-loop
 loop-again c = let l = c .before .before .before .loop in
-    let line = c .before .before .before .before .before .args .line .now in
-    (omega arith, l .inv .1 ∙ word-next line (l .at) (c .before .skip .result) (c .find .result) (c .before .skip .ensures .0) (c .find .ensures .0) (l .left) (omega arith))
+    let line = c .before .before .before .before .before .args .line .now in (
+      omega arith,
+      l .inv .1
+          ∙ word-next line (l .at) (c .before .skip .result) (c .find .result) (c .before .skip .ensures .0) (c .find .ensures .0) (l .left) (omega arith),
+    )
 
 skip-requires-2 : tie.Need-skip-requires-2 Inv-loop μ-loop
 skip-requires-2 c κs = omega arith
@@ -53,7 +56,9 @@ returns : tie.Need-returns Inv-loop μ-loop
 returns c = let l = c .before .before .before .before .loop in
     let a = c .before .before .before .before .before .before .args in
     let e : l .left ≡ 0 = omega arith in
-    sym (l .inv .1 ∙ ap (λ (n : ℕ). wordAt n (drop (l .at) (a .line .now))) e ∙ word-here (a .line .now) (l .at) (c .before .before .skip2 .result) (c .before .find2 .result) (c .before .before .skip2 .ensures .0) (c .before .find2 .ensures .0))
+    sym (l .inv .1 ∙ ap (λ (n : ℕ). wordAt n (drop (l .at) (a .line .now))) e
+    ∙ word-here (a .line .now) (l .at) (c .before .before .skip2 .result) (c .before .find2 .result) (c .before .before .skip2 .ensures .0)
+    (c .before .find2 .ensures .0))
 
 pub word-spec : {M : Type 1} → statement M
 word-spec =

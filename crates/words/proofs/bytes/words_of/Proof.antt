@@ -13,7 +13,8 @@ use Rattle.words.proofs.bytes.words_of.Statement.{statement}
 use Rattle.words.proofs.bytes.words_of.Tie as tie
 
 abbrev Inv-loop : tie.InvT-loop
-Inv-loop bytes words₀ i₀ words i = (i ≤ length bytes / 8) × (i ≤ length words₀) × (length words ≡ length words₀) × (words ≡ wordsOf bytes i ++ drop i words₀)
+Inv-loop bytes words₀ i₀ words i =
+    (i ≤ length bytes / 8) × (i ≤ length words₀) × (length words ≡ length words₀) × (words ≡ wordsOf bytes i ++ drop i words₀)
 
 abbrev μ-loop : tie.MeasureT-loop
 μ-loop bytes words₀ i₀ words i = length bytes / 8 - i
@@ -48,7 +49,9 @@ loop-again c = let a = c .before .before .before .before .before .before .args i
       omega arith,
       omega (arith, ltb-true),
       length-set (l .words) (l .i) (c .word-at .result) ∙ l .inv .2,
-      ap (λ (x : List ℕ). set x (l .i) (c .word-at .result)) (l .inv .3) ∙ ap (set (wordsOf (a .bytes .now) (l .i) ++ drop (l .i) m) (l .i)) (c .word-at .ensures ∙ ap w (sym z)) ∙ listFrom-set 0 (l .i) w m (omega (arith, ltb-true)) ∙ (rw add-one),
+      ap (λ (x : List ℕ). set x (l .i) (c .word-at .result)) (l .inv .3)
+          ∙ ap (set (wordsOf (a .bytes .now) (l .i) ++ drop (l .i) m) (l .i)) (c .word-at .ensures ∙ ap w (sym z))
+          ∙ listFrom-set 0 (l .i) w m (omega (arith, ltb-true)) ∙ (rw add-one),
     )
 
 same-length : tie.Need-same-length Inv-loop μ-loop

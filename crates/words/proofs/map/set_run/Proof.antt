@@ -1,5 +1,5 @@
 -- The run from its start on the map as it came is the run from here on the map as it is now; block by block, or to the map's end.
-use Prim.Native.Nat.{ℕ, _+_, _-_, _*_, _/_, _%_, _<_}
+use Prim.Native.Nat.{ℕ, _+_, _*_, _/_, _%_, _<_}
 use mathlib.Core.Path.{_≡_, refl, sym, ap, _∙_}
 use mathlib.Core.Logic.{⊎-elim}
 use native.Mathlib.Omega.{arith}
@@ -15,6 +15,14 @@ Inv-loop map₀ b n on k₀ j₀ left₀ map k j left = (j < 64) × (length map 
 
 abbrev μ-loop : tie.MeasureT-loop
 μ-loop map₀ b n on k₀ j₀ left₀ map k j left = left
+
+-- where the function began, from the loop's head
+abbrev called : tie.At-loop Inv-loop μ-loop → tie.Start Inv-loop μ-loop
+called c = c .before .before
+
+-- where the turn began
+abbrev begun : tie.After-set-bit-arg Inv-loop μ-loop → tie.At-loop Inv-loop μ-loop
+begun c = c .before .before .before
 
 loop-holds : tie.Need-loop-holds Inv-loop μ-loop
 loop-holds c = let a = c .before .args in
@@ -37,9 +45,12 @@ loop-less : tie.Need-loop-less Inv-loop μ-loop
 loop-less c = omega arith
 
 loop-again : tie.Need-loop-again Inv-loop μ-loop
-loop-again c = let a = c .before .before .before .before .before .before .before .before .before .args in
-    let l = c .before .before .before .before .before .before .before .loop in
-    let m = c .before .before .before .set-bit in
+loop-again c =
+    let done = c .before .before .before in
+    let turn = begun (done .before) in
+    let a = called turn .args in
+    let l = turn .loop in
+    let m = done .set-bit in
     let at : 64 * c .if2 .k + c .if2 .j ≡ 64 * l .k + l .j + 1 = ⊎-elim (λ w. omega arith) (λ w. omega arith) (c .if2 .came) in (
       ⊎-elim (λ w. omega arith) (λ w. omega arith) (c .if2 .came),
       ap length (m .ensures) ∙ length-setBlock (a .on) (l .map) (64 * l .k + l .j) ∙ l .inv .1,
@@ -50,7 +61,8 @@ same-length : tie.Need-same-length Inv-loop μ-loop
 same-length c = c .before .before .loop .inv .1
 
 returns : tie.Need-returns Inv-loop μ-loop
-returns c = let a = c .before .before .before .before .args in
+returns c =
+    let a = called (c .before .before) .args in
     let l = c .before .before .loop in
     sym (l .inv .2 ∙ setRun-past (a .on) (l .map) (64 * l .k + l .j) (l .left) (omega (arith, ltb-false)))
 
@@ -58,7 +70,8 @@ same-length-2 : tie.Need-same-length-2 Inv-loop μ-loop
 same-length-2 c = c .before .loop .inv .1
 
 returns-2 : tie.Need-returns-2 Inv-loop μ-loop
-returns-2 c = let a = c .before .before .before .args in
+returns-2 c =
+    let a = called (c .before) .args in
     let l = c .before .loop in
     sym (l .inv .2 ∙ setRun-none (a .on) (l .map) (64 * l .k + l .j) (l .left) (c .loop-test .left))
 
