@@ -52,7 +52,8 @@ phases-past = refl
 
 -- zeroing: position 64, slot 64, under 64 passed, a block from 1 to 7
 zeroing-fits : map fit (atSlot 64 (three Zeroing 64 7) ∷ atSlot 64 (three Zeroing 65 7) ∷ atSlot 63 (three Zeroing 64 7)
-    ∷ head 0 (place 1 64 64) (three Zeroing 64 7) ∷ atSlot 64 (three Zeroing 64 8) ∷ atSlot 64 (three Zeroing 64 0) ∷ []) ≡ 1 ∷ 0 ∷ 0 ∷ 0 ∷ 0 ∷ 0 ∷ []
+    ∷ head 0 (place 1 64 64) (three Zeroing 64 7) ∷ atSlot 64 (three Zeroing 64 8) ∷ atSlot 64 (three Zeroing 64 0) ∷ [])
+    ≡ 1 ∷ 0 ∷ 0 ∷ 0 ∷ 0 ∷ 0 ∷ []
 unfolding computing
 zeroing-fits = refl
 
@@ -67,7 +68,8 @@ idle-fits = refl
 -- the run from 1 on and inside, with its last block; the text has 1 to 1,024 bytes and ends by 131,072
 write-fits : map (λ w. fit (atSlot 2 w))
     (write 500 600 5 Filling 0 0 ∷ write 500 600 6 Filling 0 0 ∷ write 500 600 0 Filling 0 0 ∷ write 0 1024 6 Filling 0 0
-    ∷ write 0 1025 5 Filling 0 0 ∷ write 0 0 5 Filling 0 0 ∷ write 131071 1 7 Filling 0 0 ∷ write 131071 2 5 Filling 0 0 ∷ []) ≡ 1 ∷ 0 ∷ 0 ∷ 1 ∷ 0 ∷ 0 ∷ 1 ∷ 0 ∷ []
+    ∷ write 0 1025 5 Filling 0 0 ∷ write 0 0 5 Filling 0 0 ∷ write 131071 1 7 Filling 0 0 ∷ write 131071 2 5 Filling 0 0 ∷ [])
+    ≡ 1 ∷ 0 ∷ 0 ∷ 1 ∷ 0 ∷ 0 ∷ 1 ∷ 0 ∷ []
 unfolding computing
 write-fits = refl
 

@@ -29,7 +29,8 @@ use Rattle.points.proofs.Spans.{lies}
 use Rattle.points.proofs.Commits.{entry-for-legal}
 use Rattle.points.proofs.Leaves.{joined-small}
 use Rattle.points.proofs.StepFacts.{Ready, ready, refused-on, goes-on}
-use Rattle.points.proofs.StepCases.{on-zeroing, on-filling, fill-on, commit-on, zero-on, link-on, lost-on, empty, ended, store-on, end-on, move-on, endReasons}
+use Rattle.points.proofs.StepCases.{on-zeroing, on-filling, fill-on, commit-on, zero-on, link-on, lost-on, empty, ended}
+use Rattle.points.proofs.StepCases.{store-on, end-on, move-on, endReasons}
 use Rattle.points.proofs.StepCases.{extend-on, give-on, stop-on, go-on}
 
 -- ---- what a plan asks for
@@ -111,8 +112,10 @@ word-from-put E words b i value = rw (from-block E b i)
 -- ---- the step's answer: what the plan says of each record, with map, table and text as they are left
 
 pub carried-out :
-    (E : Edition) (m : Memory) (n : Numbers) (taken : List ℕ) (plan : Plan) (p : Point) (h : Head) (released taken′ table text : List ℕ) (next length : ℕ)
-    → released ≡ freed (plan .frees) E taken (p .head .write) (p .table) → sharedOf (withNext n next) taken′ ≡ takingOne (sharedOf n released) (plan .takes)
+    (E : Edition) (m : Memory) (n : Numbers) (taken : List ℕ) (plan : Plan) (p : Point) (h : Head)
+    (released taken′ table text : List ℕ) (next length : ℕ)
+    → released ≡ freed (plan .frees) E taken (p .head .write) (p .table)
+    → sharedOf (withNext n next) taken′ ≡ takingOne (sharedOf n released) (plan .takes)
     → record { table = table; size = length } ≡ readIn (plan .reads) E m (n .blocks) (p .head .place) (plan .value) (fileAt (p .head) (p .table))
     → text ≡ textAfter (plan .clears) (p .text) → h ≡ standing (p .head) length (plan .place) (plan .write)
     → steppedOf n (record { step = plan .step; next = next; head = h }) taken′ table text ≡ answered (carriedOut E m (sharedOf n taken) p plan)
