@@ -6,11 +6,13 @@ use mathlib.Core.Bool.{true, false, _&&_}
 use mathlib.Core.List.{List, [], _∷_}
 use lib.ListN.{length, getD}
 use lib.Dec.{leb, ltb}
-use borrow.Author.Tests.{leb-true, ltb-true, ltb-false, eqb-true, not-true, not-false}
+use borrow.Author.Tests.{leb-true, ltb-true, ltb-false, eqb-true, not-true, not-false, le-leb, lt-ltb, eq-eqb}
 use Rattle.words.specs.Edition.{Edition, fileEnd, chainMax}
 use Rattle.points.proofs.Spans.{lies}
 use Rattle.words.specs.Logic.{between, all-of}
-use Rattle.words.proofs.Logic.{and-left, and-right, every-all, any-none}
+use Rattle.words.proofs.Logic.{and-left, and-right, and-both, every-all, any-none, none-any}
+use Rattle.words.proofs.Tests.{not-of}
+use Rattle.points.proofs.Free.{Searchable}
 use Rattle.words.proofs.Choice.{choose-true, choose-false}
 use Rattle.log.specs.declared.Place.{Place}
 use Rattle.log.specs.declared.Shared.{Shared}
@@ -49,6 +51,19 @@ shared-facts E words s e =
       next-some = leb-true 1 (s .next) (and-left (leb 1 (s .next)) (ltb (s .next) (s .blocks)) n);
       next-inside = ltb-true (s .next) (s .blocks) (and-right (leb 1 (s .next)) (ltb (s .next) (s .blocks)) n);
     }
+
+-- and back
+pub shared-fits :
+    (E : Edition) (words : List ℕ) (s : Shared) → 4 ≤ s .blocks → s .blocks ≤ 1024 → E .blockWords * s .blocks ≡ length words → Searchable s
+    → badShared E words s ≡ false
+unfolding badShared
+shared-fits E words s some few whole next = none-any _ (
+  not-of _ (and-both _ _ (le-leb 4 (s .blocks) some) (le-leb (s .blocks) 1024 few)),
+  (
+    not-of _ (eq-eqb (E .blockWords * s .blocks) (length words) whole),
+    (not-of _ (and-both _ _ (le-leb 1 (s .next) (next .0)) (lt-ltb (s .next) (s .blocks) (next .1))), tt),
+  ),
+)
 
 -- ---- 16 and 17
 
