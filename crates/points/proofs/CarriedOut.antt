@@ -1,7 +1,6 @@
 -- What a step leaves that carries out the plan of each thing that it may do: answer, records and store, written out.
-use mathlib.Core.Path.{_≡_, refl, ap, _∙_}
-use mathlib.Core.List.{List}
-use mathlib.Core.Bool.{true, false}
+use mathlib.Core.Path.{_≡_, refl, ap}
+use mathlib.Core.Bool.{false}
 use mathlib.Core.Option.{none, some}
 use Prim.Native.Nat.{ℕ, zero, suc, _<_}
 use native.Mathlib.Omega.{arith}
@@ -19,7 +18,7 @@ use Rattle.points.specs.declared.Point.{Point}
 use Rattle.points.specs.declared.StepAnswer.the-variants.{Stored, Moved, Extending, Committed, Refused}
 use Rattle.points.specs.declared.plan.Plan.{Plan}
 use Rattle.points.specs.Record.{noWrite, noText, fileAt, pointOf, standing, writing, withHead, caughtUp}
-use Rattle.points.specs.Search.{search, withTaken, taking, takingOne}
+use Rattle.points.specs.Search.{withTaken, taking, takingOne}
 use Rattle.points.specs.Fill.{newWord}
 use Rattle.points.specs.Plan.{Outcome, carriedOut, readIn, freed, withoutRun, replaced, wordFrom}
 use Rattle.points.specs.Stepping.{turned, toCommit, retried, filled, refillAfter, nextSlot, entering, entryFor}

@@ -1,7 +1,6 @@
 // Committing: the entry is stored, or the log place moves on, or the chain is extended.
 ghost use mathlib.Core.Path.{_≡_};
-ghost use mathlib.Core.List.{List};
-ghost use Prim.Native.Nat.{ℕ, _+_, _≤_, _<_};
+ghost use Prim.Native.Nat.{_+_, _<_};
 ghost use Rattle.words.specs.Edition.{one};
 ghost use Rattle.words.specs.Memory.{Memory, memory};
 ghost use Rattle.points.specs.Record.{firstEdge, lastEdge};

@@ -1,6 +1,6 @@
 // What a step settles before it stores: a plan, a field for each thing that it does. Each function looks at its own field.
 ghost use mathlib.Core.Path.{_≡_};
-ghost use mathlib.Core.Bool.{true, false};
+ghost use mathlib.Core.Bool.{false};
 ghost use Prim.Native.Nat.{_<_};
 ghost use Rattle.words.specs.Edition.{one};
 ghost use Rattle.points.specs.Record.{runWords, noWrite, headOf};
