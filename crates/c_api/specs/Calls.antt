@@ -25,7 +25,7 @@ use Rattle.c_api.specs.Numbers.{SharedLent, PointLent, sharedIn, pointIn
 -- ---- opening and listing
 
 -- opening's answer, and the scratch as opening leaves it
-pub record Opens (words scratch : List ℕ) (answer : Opened) (scratch′ : List ℕ) : Type 0 where
+pub record OpensFor (words scratch : List ℕ) (answer : Opened) (scratch′ : List ℕ) : Type 0 where
   pub answers : answer ≡ openedNumbers (opened one words scratch)
   pub marks : scratch′ ≡ scratchAfter one words scratch
 
@@ -91,7 +91,7 @@ abbrev pub noCount : ℕ → Count
 noCount n = record { refused = n; count = 0 }
 
 module _ (words : List ℕ) (s : SharedLent) (p : PointLent) where
-  -- what is left where the numbers are a point's record; and, by its number, of a refusal where they are none: all as it was
+  -- the first where the numbers are a record's; else the second, given the refusal's number
   unfoldable pub ifKnown : {X : Type 0} → X → (ℕ → X) → X
   ifKnown served refused = elim (isKnown (p .head)) [ true ↦ served | false ↦ refused (unknown words (s .numbers) (s .taken)) ]
 

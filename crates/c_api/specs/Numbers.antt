@@ -83,7 +83,7 @@ pub record PointLent : Type 0 where
   pub table : List ℕ
   pub text : List ℕ
 
--- what stands behind the references of a call
+-- what a call's references hold
 abbrev pub sharedLent : RefT (List ℕ) → RefT (List ℕ) → SharedLent
 sharedLent shared taken = record { numbers = now shared; taken = now taken }
 

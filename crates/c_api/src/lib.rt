@@ -5,7 +5,7 @@ ghost use Rattle.words.specs.Edition.{one};
 ghost use Rattle.log.specs.Opening.{layoutRefusal, layout};
 ghost use Rattle.log.specs.Listing.{rowsOf};
 ghost use Rattle.c_api.specs.Numbers.{sharedLent, pointLent, textless};
-ghost use Rattle.c_api.specs.Calls.{Opens, left, stepLeft, sharedLeft, readLeft};
+ghost use Rattle.c_api.specs.Calls.{OpensFor, left, stepLeft, sharedLeft, readLeft};
 ghost use Rattle.c_api.specs.Calls.{sharedFor, joinFor, beginFor, stepFor, leaveFor, readFor, locateFor};
 use points::StepAnswer;
 
@@ -48,7 +48,7 @@ pub extern "C" fn store_lent_open(
     shared: &mut [u32; 3],
     taken: &mut [u64; 16],
 ) -> Opened
-    ensures { λ r. ⌜ Opens (now (image .entry)) (now (scratch .entry)) r (now (scratch .exit))
+    ensures { λ r. ⌜ OpensFor (now (image .entry)) (now (scratch .entry)) r (now (scratch .exit))
         × (sharedLent (shared .exit) (taken .exit) ≡ sharedFor (now (image .entry)) (now (scratch .entry))) ⌝ }
 {
     let opened = log::open::open(image, scratch);
@@ -61,7 +61,7 @@ pub extern "C" fn store_lent_open(
 
 #[no_mangle]
 pub extern "C" fn store_list(image: &[u64], scratch: &mut [u16], rows: &mut [u16; 256]) -> Opened
-    ensures { λ r. ⌜ Opens (now (image .entry)) (now (scratch .entry)) r (now (scratch .exit))
+    ensures { λ r. ⌜ OpensFor (now (image .entry)) (now (scratch .entry)) r (now (scratch .exit))
         × (now (rows .exit) ≡ rowsOf one (now (image .entry)) (now (scratch .entry))) ⌝ }
 {
     numbers::of_opened(log::list::listed(image, scratch, rows))

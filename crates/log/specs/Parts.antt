@@ -13,13 +13,9 @@ use Rattle.log.specs.declared.Place.{Place}
 use Rattle.log.specs.Chain.{firstIndex, chain, outside, badSuperblock, badIndex, endless, badLog}
 use Rattle.log.specs.Entry.{entryV, entryB, entryN, entryU}
 use Rattle.log.specs.Opening.{takenAtOpening, cleared}
-use Rattle.log.specs.Replay.{Mapped, replayOn, sharesBlock}
+use Rattle.log.specs.Replay.{sharesBlock}
 
 -- ---- catching up
-
--- entries are taken in: the table after and the length r are what replay makes of the table and the length before
-abbrev pub TakenIn : List ℕ → List ℕ → ℕ → List ℕ → ℕ → Type 0
-TakenIn entries before size after r = _≡_ {A = Mapped} (record { table = after; size = r }) (replayOn one (record { table = before; size = size }) entries)
 
 -- an entry whose fields alone allow it to be taken in
 abbrev pub Mappable : ℕ → Type 0

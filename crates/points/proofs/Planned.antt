@@ -23,8 +23,8 @@ use Rattle.points.specs.Search.{sharedOf, numbersOf, withNext, takingOne
 use Rattle.points.specs.Fill.{nextWord}
 use Rattle.points.specs.Plan.{readIn, textAfter, freed, wordFrom, answered, carriedOut}
 use Rattle.points.specs.Stepping.{commit, giveUp, extend, zeroOut, link, giveBack, moveOn, atEnd, committing, extending}
-use Rattle.points.specs.Stepping.{fill, writeOn, stepRefusal, planned}
-use Rattle.points.specs.Lent.{steppedOf, StepLeaves, Readable, InTable}
+use Rattle.points.specs.Stepping.{fill, writeOn, stepRefusal, planned, StepLeaves}
+use Rattle.points.specs.Lent.{steppedOf, Readable, InTable}
 use Rattle.points.proofs.Spans.{lies}
 use Rattle.points.proofs.Commits.{entry-for-legal}
 use Rattle.points.proofs.Leaves.{joined-small}

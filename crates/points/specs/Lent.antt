@@ -3,12 +3,12 @@ use Prim.Native.Nat.{ℕ, zero, suc, _+_, _-_, _≤_, _<_}
 use mathlib.Core.Path.{_≡_}
 use mathlib.Core.Bool.{Bool, true, false, _&&_}
 use mathlib.Core.List.{List, [], _∷_, _++_}
-use lib.ListN.{length, getD}
+use lib.ListN.{getD}
 use lib.Dec.{leb, ltb}
 use Rattle.words.specs.Edition.{Edition, one, blocksMax, fileBlocks, fileEnd}
 use Rattle.words.specs.Logic.{first, _when_}
 use Rattle.words.specs.Word.{byteOf}
-use Rattle.words.specs.Memory.{Memory, memory, blockAt, after}
+use Rattle.words.specs.Memory.{Memory, memory, blockAt}
 use Rattle.log.specs.declared.Shared.{Shared}
 use Rattle.log.specs.declared.Place.{Place}
 use Rattle.log.specs.Entry.{legal}
@@ -22,17 +22,15 @@ use Rattle.points.specs.declared.Stepped.{Stepped}
 use Rattle.points.specs.declared.LentBegun.{LentBegun}
 use Rattle.points.specs.declared.LentStepped.{LentStepped}
 use Rattle.points.specs.declared.Numbers.{Numbers}
-use Rattle.points.specs.declared.Count.{Count}
 use Rattle.points.specs.declared.plan.Reads.{Reads}
 use Rattle.points.specs.declared.plan.Reads.the-variants.{NoEntry, OwnEntry, AllAhead}
 use Rattle.points.specs.declared.plan.Frees.{Frees}
 use Rattle.points.specs.declared.plan.Frees.the-variants.{NoBlock, Run, Replaced, Zeroed}
 use Rattle.points.specs.declared.plan.Plan.{Plan}
-use Rattle.points.specs.Record.{textMax, runFirst, runBlocks, runWords, pointOf, recordReasons}
+use Rattle.points.specs.Record.{textMax, runFirst, runBlocks, runWords, pointOf, recordReasons, brokenAhead}
 use Rattle.points.specs.Search.{sharedOf, withNext}
-use Rattle.points.specs.Plan.{answered}
-use Rattle.points.specs.Stepping.{stepRefusal, stepping}
-use Rattle.points.specs.Reading.{seen, brokenAhead, reading, bufferAfter}
+use Rattle.points.specs.Stepping.{stepRefusal}
+use Rattle.points.specs.Reading.{seen}
 
 -- ---- answers: the record is the head that is answered, with the arrays as they are left
 
@@ -43,11 +41,6 @@ begunOf left table text = record { reply = left .reply; shared = left .shared; p
 abbrev pub steppedOf : Numbers → LentStepped → List ℕ → List ℕ → List ℕ → Stepped
 steppedOf n left taken table text =
     record { step = left .step; shared = sharedOf (withNext n (left .next)) taken; point = pointOf (left .head) table text }
-
--- a step's answer, and the image after it
-pub record StepLeaves (words : List ℕ) (s : Shared) (p : Point) (answer : Stepped) (image : List ℕ) : Type 0 where
-  pub answers : answer ≡ answered (stepping one words s p)
-  pub stored : image ≡ after one words (stepping one words s p .store)
 
 -- ---- plans
 
@@ -79,7 +72,7 @@ InTable Zeroed E w = Unit {0}
 
 -- the first of 10, 11, 14 and 18; and of 17 before 18 where a block is asked for that lies past the file
 unfoldable pub catchUpRefusal : Edition → List ℕ → Shared → Head → List ℕ → Bool → ℕ
-catchUpRefusal E words s h table past = first (recordReasons E words s h table ++ 17 when past ∷ brokenAhead E words s h table ∷ [])
+catchUpRefusal E words s h table past = first (recordReasons E words s h table ++ 17 when past ∷ brokenAhead E words s h ∷ [])
 
 -- the reason, 0 for none; and where there is none the table and the length that the point sees
 pub record CatchesUp (words : List ℕ) (s : Shared) (h : Head) (table : List ℕ) (past : Bool) (reason size : ℕ) (left : List ℕ) : Type 0 where
@@ -89,12 +82,6 @@ pub record CatchesUp (words : List ℕ) (s : Shared) (h : Head) (table : List �
 -- a table, where the length does not matter: bytes are found by it alone
 abbrev pub unsized : List ℕ → Mapped
 unsized table = record { table = table; size = 0 }
-
--- what reading answers, and the buffer after it
-pub record ReadLeaves (words : List ℕ) (s : Shared) (h : Head) (table : List ℕ) (offset : ℕ) (buffer : List ℕ) (answer : Count) (left : List ℕ)
-    : Type 0 where
-  pub count : answer ≡ reading one words s h table offset (length buffer)
-  pub bytes : left ≡ bufferAfter one words s h table offset buffer
 
 -- the part of the image that a logical index names: a block, and nothing for 0
 abbrev pub partOf : Memory → ℕ → List ℕ

@@ -94,6 +94,7 @@ textAfter false text = text
 abbrev pub wordFrom : Edition → ℕ → ℕ → ℕ → Store
 wordFrom E b i value = record { block = b + i / E .blockWords; word = i % E .blockWords; value = value }
 
+-- whether there is a store: of its kind no more is asked here
 abbrev pub stores : Kind → Bool
 stores NoStore = false
 stores Fill = true
@@ -117,6 +118,7 @@ pub record Outcome : Type 0 where
 abbrev pub answered : Outcome → Stepped
 answered o = record { step = o .step; shared = o .shared; point = o .point }
 
+-- what carrying out a plan leaves: blocks become free, then one is taken; an own entry that is read in is the value stored
 unfoldable pub carriedOut : Edition → Memory → Shared → Point → Plan → Outcome
 carriedOut E m s p plan =
     let h = p .head in

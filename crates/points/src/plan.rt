@@ -1,4 +1,4 @@
-// What a step settles before it stores: a plan, a field for each thing that it does. Each function looks at its own field.
+// What a step settles before it stores: a plan, a field for each thing that it does.
 ghost use mathlib.Core.Path.{_≡_};
 ghost use mathlib.Core.Bool.{false};
 ghost use Prim.Native.Nat.{_<_};

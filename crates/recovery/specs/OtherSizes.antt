@@ -15,7 +15,7 @@ use Rattle.log.specs.Chain.{log}
 use Rattle.log.specs.Opening.{numberOf, layoutRefusal, layout, openRefusal, fileOf, nobodyJoined, opened, openedFile}
 use Rattle.points.specs.declared.Head.{Head}
 use Rattle.points.specs.Record.{headOf, noPoint, noWrite, noTable, unfit}
-use Rattle.points.specs.Search.{withJoined}
+use Rattle.points.specs.Search.{sharedOf, numbersOf, withNext, withJoined}
 use Rattle.recovery.specs.World.{World, Call, join, begin, Event, world, events}
 use Rattle.recovery.specs.History.{enough, openWorld, alone, finishes}
 use Rattle.recovery.specs.Claim.{runMost, loneSteps}
@@ -110,7 +110,8 @@ headWith length slot = headOf 0 length (record { block = 1; slot = slot; passed 
 
 abbrev pub leaveReason : Edition → ℕ → ℕ → ℕ → ℕ
 leaveReason E blocks length slot =
-    unfit E (laid two 4) (withJoined (nobodyJoined blocks (3 ∷ replicate 15 0)) 1) (headWith length slot) noTable
+    let s = withJoined (nobodyJoined blocks (3 ∷ replicate 15 0)) 1 in
+    unfit E (laid two 4) (sharedOf (withNext (numbersOf s) 2) (s .taken)) (headWith length slot) noTable
 
 -- a point joins on 4 blocks and begins a write of two bytes at this offset, then one of a single byte
 abbrev pub twoOrOne : Edition → ℕ → List ℕ

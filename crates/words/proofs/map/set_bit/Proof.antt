@@ -1,4 +1,4 @@
--- The word is stored with its bit changed; past the map marking changes nothing.
+-- The word is stored with its bit changed; past the map setting changes nothing.
 use mathlib.Core.Path.{sym}
 use Prim.Native.Nat.{_+_, _*_}
 use native.Mathlib.Omega.{arith}
