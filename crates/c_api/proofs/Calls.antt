@@ -21,9 +21,9 @@ use Rattle.points.specs.declared.LentBegun.{LentBegun}
 use Rattle.points.specs.declared.LentStepped.{LentStepped}
 use Rattle.points.specs.Record.{badShared, pointOf}
 use Rattle.points.specs.Calls.{joining, beginning, leaving}
-use Rattle.points.specs.Stepping.{stepping}
+use Rattle.points.specs.Stepping.{stepping, StepLeaves}
 use Rattle.points.specs.Search.{sharedOf, withNext}
-use Rattle.points.specs.Lent.{begunOf, steppedOf, StepLeaves}
+use Rattle.points.specs.Lent.{begunOf, steppedOf}
 use Rattle.points.specs.Reading.{reading, bufferAfter, locating}
 use Rattle.c_api.specs.declared.Answer.{Answer}
 use Rattle.c_api.specs.declared.Count.{Count}
