@@ -1,7 +1,7 @@
 -- What is shown is what is answered: opening's length, and what a joined point sees caught up. FORWARD says that the entries ahead of a
 -- point take its view to the current one, which is the file that opening shows.
 use mathlib.Core.Path.{_≡_, refl, sym, ap, _∙_, subst}
-use mathlib.Core.List.{List, _∷_}
+use mathlib.Core.List.{List, [], _∷_}
 use mathlib.Core.Bool.{true}
 use Prim.Native.Nat.{ℕ, zero, suc, _+_, _-_, min}
 use native.Mathlib.Omega.{arith}
@@ -14,7 +14,7 @@ use Rattle.log.specs.declared.Reply.the-variants.{Refused}
 use Rattle.log.specs.Replay.{Mapped, fileByte, fileBytes, replayOn}
 use Rattle.log.specs.CatchUp as K
 use Rattle.log.specs.Opening.{openRefusal, opened, openedWith, noShared, fileOf, openedFile}
-use Rattle.points.specs.Record.{isJoined, fileAt}
+use Rattle.points.specs.Record.{isJoined, fileAt, brokenAhead}
 use Rattle.points.specs.Reading.{seen, readRefusal, readCount, reading, bufferAfter}
 use Rattle.recovery.specs.World as W
 use Rattle.recovery.specs.World.{world}
@@ -23,12 +23,11 @@ use Rattle.recovery.specs.History.{enough, openWorld, callsBefore, atCut
 use Rattle.recovery.specs.Claim.{Recovery, partOf, ReadsFile, Answered}
 use Rattle.words.proofs.Logic.{length-listFrom}
 use Rattle.words.proofs.Choice.{chosen-zero}
-use Rattle.words.proofs.Tests.{done, skip, none-first}
 use Rattle.log.proofs.Sound.{replay-on}
 use Rattle.recovery.proofs.Opening.Opens.{file-is}
 use Rattle.recovery.proofs.Calls.Mapping.{Tied}
 use Rattle.recovery.proofs.Calls.Begin.{ahead-is}
-use Rattle.recovery.proofs.Calls.NotRefused.{record-fits, not-broken}
+use Rattle.recovery.proofs.Calls.NotRefused.{record-passed, not-broken}
 use Rattle.recovery.proofs.Claim.{enough-long, opens-enough, same-start, bytesBefore}
 use Rattle.recovery.proofs.Demand3.{after-tied, recovery}
 
@@ -85,7 +84,7 @@ module _ {E : Edition} {L : List ℕ} (w : W.World) (bk : Book) (h : Tied E L w 
 
   read-on : readRefusal E (w .words) (w .shared) (w .newest n .head) (w .newest n .table) ≡ 0
   unfolding readRefusal
-  read-on = none-first (record-fits w bk h n j (skip (not-broken w bk h n j) done))
+  read-on = record-passed w bk h n j (brokenAhead E (w .words) (w .shared) (w .newest n .head) ∷ []) ∙ rw (not-broken w bk h n j)
 
   count-is : (offset room : ℕ) → readCount E (w .words) (w .shared) (w .newest n .head) (w .newest n .table) offset room ≡ min room (f .size - offset)
   unfolding readCount

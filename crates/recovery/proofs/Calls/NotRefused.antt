@@ -13,7 +13,7 @@ use lib.Dec.{leb, ltb}
 use borrow.Author.Tests.{lt-ltb, le-ltb, le-leb, eq-eqb}
 use Rattle.words.proofs.Sizes.{mul-le}
 use Rattle.words.specs.Edition.{Edition, fileEnd, chainMax}
-use Rattle.words.specs.Logic.{Reason, all-of, between}
+use Rattle.words.specs.Logic.{Reason, first, _when_, all-of, between}
 use Rattle.words.specs.Memory.{memory}
 use Rattle.log.specs.CatchUp.{broken, ahead}
 use Rattle.log.specs.Opening.{badEntry}
@@ -25,7 +25,7 @@ use Rattle.recovery.specs.World as W
 use Rattle.recovery.specs.Book.{Book}
 use Rattle.words.proofs.Logic.{all-every, none-any, and-both}
 use Rattle.words.proofs.Choice.{choose-true, choose-false}
-use Rattle.words.proofs.Tests.{None, done, skip, none-first, not-of, not-no}
+use Rattle.words.proofs.Tests.{not-of, not-no}
 use Rattle.points.proofs.RecordFacts.{shared-fits}
 use Rattle.recovery.proofs.Model.LogPlace.{numbered-high}
 use Rattle.recovery.proofs.Model.Walk.{walk-in, walk-slot}
@@ -166,15 +166,15 @@ module _ {E : Edition} {L : List ℕ} (w : W.World) (bk : Book) (h : Tied E L w 
       (below-all B (p .table) (pi .place .sound .inImage), tt),
     )
 
-    -- 10, 11 and 14, in front of a call's own reasons
-    pub record-fits : {rs : List Reason} → None rs → None (recordReasons E (w .words) (w .shared) (p .head) (p .table) ++ rs)
-    record-fits rest =
-        let y : not (isJoined (w .shared) (p .head .number)) ≡ false = rw (h .numbers n j, j) in
-        skip shared-ok (skip (not-of _ all-fits) (skip y rest))
+    -- 10, 11 and 14: what comes after them in a call's list decides
+    pub record-passed : (rs : List Reason) → first (recordReasons E (w .words) (w .shared) (p .head) (p .table) ++ rs) ≡ first rs
+    record-passed rs =
+        let joined : not (isJoined (w .shared) (p .head .number)) ≡ false = rw (h .numbers n j, j) in
+        rw (shared-ok, not-of _ all-fits, joined)
 
     pub step-on : isIdle (p .head .write .phase) ≡ false → stepRefusal E (w .words) (w .shared) (p .head) (p .table) ≡ 0
     unfolding stepRefusal
-    step-on busyPhase = none-first (record-fits (skip busyPhase done))
+    step-on busyPhase = record-passed (15 when isIdle (p .head .write .phase) ∷ []) ∙ rw busyPhase
 
     -- 18
     pub not-broken : broken E B (ahead E (memory E (w .words)) B (p .head .place)) ≡ false
