@@ -2,8 +2,8 @@
 -- invariant says of 10, 11, 14 and 18 (Calls.NotRefused); a step's plan by the ways that it may go.
 use mathlib.Core.Path.{_≡_, refl, sym, ap, _∙_, subst}
 use mathlib.Core.List.{List, [], _∷_, _++_}
-use mathlib.Core.Bool.{Bool, true, false, _||_, not}
-use Prim.Native.Nat.{ℕ, zero, suc}
+use mathlib.Core.Bool.{Bool, true, false, not}
+use Prim.Native.Nat.{ℕ}
 use lib.ListN.{length, getD}
 use lib.Dec.{leb, ltb, eqb}
 use borrow.Author.Tests.{eqb-true}
@@ -11,34 +11,24 @@ use Rattle.words.specs.Edition.{Edition, fileBlocks}
 use Rattle.words.specs.Logic.{Reason, first, _when_, isZero}
 use Rattle.words.specs.Memory.{Memory, memory}
 use Rattle.log.specs.declared.Shared.{Shared}
-use Rattle.log.specs.declared.Reply.{Reply}
-use Rattle.log.specs.declared.Reply.the-variants.{Done, Refused}
-use Rattle.log.specs.Chain.{nextIndex}
 use Rattle.log.specs.CatchUp.{ahead, broken}
-use Rattle.log.specs.Opening.{numberOf}
-use Rattle.points.specs.declared.Head.{Head}
 use Rattle.points.specs.declared.Point.{Point}
-use Rattle.points.specs.declared.Joined.{Joined}
-use Rattle.points.specs.declared.Begun.{Begun}
-use Rattle.points.specs.declared.Left.{Left}
 use Rattle.points.specs.declared.plan.Plan.{Plan}
-use Rattle.points.specs.Record.{isJoined, isIdle, isZeroing, badShared, badText, pastEnd, span, runWords, recordReasons, brokenAhead, unfit}
+use Rattle.points.specs.Record.{isJoined, isIdle, badShared, badText, pastEnd, span, recordReasons, brokenAhead, unfit}
 use Rattle.points.specs.Search.{search}
-use Rattle.points.specs.Fill.{nextWord}
-use Rattle.points.specs.Calls.{badFirst, joining, joinRefusal, beginning, beginRefusal, leaving}
-use Rattle.points.specs.Plan.{carriedOut}
-use Rattle.points.specs.Stepping.{planned, stepping, stepRefusal, writeOn, committing, extending, atEnd, commit, giveUp, extend, zeroOut, link, giveBack, fill}
+use Rattle.points.specs.Calls.{badFirst, joinRefusal, beginRefusal}
+use Rattle.points.specs.Stepping.{endsWrite, planned, stepRefusal, writeOn, fill, commit, zeroOut, link, giveBack, extend, giveUp}
 use Rattle.points.specs.Reading.{seen, locateRefusal}
-use Rattle.points.proofs.StepCases.{on-zeroing, on-filling, zero-on, link-on, lost-on, fill-on, commit-on, store-on, end-on, move-on, extend-on, give-on}
-use Rattle.points.proofs.StepCases.{go-on, empty, ended, endReasons}
+use Rattle.points.proofs.StepCases.{each-plan}
 use Rattle.points.proofs.StepFacts.{goes-on, refused-on}
 use Rattle.recovery.specs.World as W
-use Rattle.recovery.specs.World.{Call, join, begin, step, leave, handed, serve, world}
+use Rattle.recovery.specs.World.{Call, join, begin, step, leave, serve}
 use Rattle.recovery.specs.Book.{Book}
 use Rattle.recovery.specs.History.{callsBefore, refusal, stepRefused, isFault, byJoined}
 use Rattle.recovery.specs.Claim.{NoFault}
-use Rattle.words.proofs.Tests.{first-is, not-of}
+use Rattle.words.proofs.Tests.{no-true}
 use Rattle.recovery.proofs.Opening.Opens.{first-some, first-inside}
+use Rattle.recovery.proofs.Replies.{number-back, join-replies, begin-replies, leave-replies, step-answers}
 use Rattle.recovery.proofs.Calls.Mapping.{Tied, handed-newest}
 use Rattle.recovery.proofs.Calls.NotRefused.{shared-ok, record-passed, step-on, not-broken}
 use Rattle.recovery.proofs.Claim.{opens-enough, same-start, bytesBefore}
@@ -60,74 +50,32 @@ safe-first (r ∷ rs) (other e s) = go (r .holds) refl (safe-first rs s)
     go true x ih = rw x e
     go false x ih = rw x ih
 
--- a call that goes by its refusal's number answers that number
-answers : {A : Type 0} (reply : A → Reply) (n : ℕ) (x : A) (y : ℕ → A) → reply x ≡ Done → ((k : ℕ) → reply (y k) ≡ Refused (suc k))
-    → numberOf (reply (elim n [ zero ↦ x | suc k ↦ y k ])) ≡ n
-answers reply zero x y a b = ap numberOf a
-answers reply (suc n) x y a b = ap numberOf (b n)
-
-module _ (E : Edition) (I : List ℕ) (s : Shared) where
-  join-answers : (n : ℕ) → numberOf (joining E I s n .reply) ≡ joinRefusal E I s n
-  unfolding joining
-  join-answers n = answers (λ (j : Joined). j .reply) (joinRefusal E I s n) _ _ refl (λ k. refl)
-
-  module _ (p : Point) where
-    begin-answers : (o : ℕ) (text : List ℕ) → numberOf (beginning E I s p o text .reply) ≡ beginRefusal E I s (p .head) (p .table) o (length text)
-    unfolding beginning
-    begin-answers o text = answers (λ (b : Begun). b .reply) (beginRefusal E I s (p .head) (p .table) o (length text)) _ _ refl (λ k. refl)
-
-    leave-answers : numberOf (leaving E I s p .reply) ≡ unfit E I s (p .head) (p .table)
-    unfolding leaving
-    leave-answers = answers (λ (l : Left). l .reply) (unfit E I s (p .head) (p .table)) _ _ refl (λ k. refl)
-
-    step-answers : stepping E I s p .step ≡ planned E I s p .step
-    unfolding stepping carriedOut
-    step-answers = refl
-
 -- ---- a step's plan
 
 abbrev SafePlan : Plan → Type 0
 SafePlan plan = isFault (stepRefused (plan .step)) ≡ false
 
-not-fault : (k : ℕ) → eqb k 20 || eqb k 21 ≡ true → isFault k ≡ false
+not-fault : (k : ℕ) → endsWrite k ≡ true → isFault k ≡ false
 not-fault k e = go (eqb k 20) refl
   where
     go : (b : Bool) → eqb k 20 ≡ b → isFault k ≡ false
     go true x = rw (eqb-true k 20 x)
     go false x = let y : eqb k 21 ≡ true = rw x at e in rw (eqb-true k 21 y)
 
-module _ (E : Edition) (m : Memory) (s : Shared) (p : Point) (sound : broken E (s .blocks) (ahead E m (s .blocks) (p .head .place)) ≡ false) where
-  abbrev h : Head
-  h = p .head
-
-  extending-safe : SafePlan (extending E m h)
-  extending-safe = go (ltb (h .write .position) (E .blockWords)) (isZero (nextIndex m (h .place .block))) refl refl
-    where
-      go : (a b : Bool) → ltb (h .write .position) (E .blockWords) ≡ a → isZero (nextIndex m (h .place .block)) ≡ b → SafePlan (extending E m h)
-      go true b e f = subst SafePlan (sym (zero-on E m h e)) (unfold zeroOut in refl)
-      go false true e f = subst SafePlan (sym (link-on E m h e f)) (unfold link in refl)
-      go false false e f = subst SafePlan (sym (lost-on E m h e f)) (unfold giveBack in refl)
-
-  end-safe : (k : ℕ) → first (endReasons E m h s) ≡ k → SafePlan (atEnd E m h s)
-  end-safe zero e = subst SafePlan (sym (extend-on E m h s e)) (unfold extend in refl)
-  end-safe (suc k) e = subst SafePlan (sym (give-on E m h s k e))
-      (unfold giveUp in (not-fault (suc k) (first-is (λ i. eqb i 20 || eqb i 21) (endReasons E m h s) refl k e)))
-
-  committing-safe : SafePlan (committing E m h s)
-  committing-safe = go (empty E m h) (ended E m h) refl refl
-    where
-      go : (a b : Bool) → empty E m h ≡ a → ended E m h ≡ b → SafePlan (committing E m h s)
-      go true b e f = subst SafePlan (sym (store-on E m h s e)) (unfold commit in refl)
-      go false true e f = subst SafePlan (sym (end-on E m h s e f)) (end-safe (first (endReasons E m h s)) refl)
-      go false false e f = subst SafePlan (sym (move-on E m h s e f ∙ go-on E m h (s .blocks) sound)) refl
-
-  write-safe : SafePlan (writeOn E m s p)
-  write-safe = go (isZeroing (h .write .phase)) (ltb (nextWord E (h .write)) (runWords E (h .write))) refl refl
-    where
-      go : (a b : Bool) → isZeroing (h .write .phase) ≡ a → ltb (nextWord E (h .write)) (runWords E (h .write)) ≡ b → SafePlan (writeOn E m s p)
-      go true b e f = subst SafePlan (sym (on-zeroing E m s p e)) extending-safe
-      go false true e f = subst SafePlan (sym (on-filling E m s p e ∙ fill-on E m s p f)) (unfold fill in refl)
-      go false false e f = subst SafePlan (sym (on-filling E m s p e ∙ commit-on E m s p f)) committing-safe
+write-safe : (E : Edition) (m : Memory) (s : Shared) (p : Point) → broken E (s .blocks) (ahead E m (s .blocks) (p .head .place)) ≡ false
+    → SafePlan (writeOn E m s p)
+unfolding fill commit zeroOut link giveBack extend giveUp
+write-safe E m s p sound = each-plan E m s p SafePlan (record {
+  fills = λ k. refl;
+  commits = refl;
+  zeroes = refl;
+  links = refl;
+  gives-back = refl;
+  extends = λ b. refl;
+  gives-up = not-fault;
+  stops = λ e. absurd (no-true e sound);
+  moves = refl;
+})
 
 -- ---- the calls
 
@@ -183,10 +131,20 @@ module _ {E : Edition} {L : List ℕ} (w : W.World) (bk : Book) (h : Tied E L w 
 
   pub call-safe : (c : Call) → byJoined w c ≡ true → isFault (refusal (serve E w c .event)) ≡ false
   unfolding serve
-  call-safe (join n) j = rw (join-answers E I s n) (join-safe n)
-  call-safe (begin n q o text) j = rw (handed-newest w n q j, begin-answers E I s (w .newest n) o text) (begin-safe n j o (length text))
+  call-safe (join n) j = rw (join-replies E I s n, number-back (joinRefusal E I s n)) (join-safe n)
+  call-safe (begin n q o text) j = rw (
+    handed-newest w n q j,
+    begin-replies E I s (w .newest n) o text,
+    number-back (beginRefusal E I s (w .newest n .head) (w .newest n .table) o (length text)),
+  )
+      (begin-safe n j o (length text))
   call-safe (step n q) j = rw (handed-newest w n q j, step-answers E I s (w .newest n)) (plan-safe n j)
-  call-safe (leave n q) j = rw (handed-newest w n q j, leave-answers E I s (w .newest n)) (leave-safe n j)
+  call-safe (leave n q) j = rw (
+    handed-newest w n q j,
+    leave-replies E I s (w .newest n),
+    number-back (unfit E I s (w .newest n .head) (w .newest n .table)),
+  )
+      (leave-safe n j)
 
 pub no-fault : (E : Edition) → NoFault E
 unfolding NoFault

@@ -1,20 +1,26 @@
--- A call that answers what its definition says leaves what `serve` says. Assumes nothing.
+-- A call that answers what its definition says leaves what `serve` says; a read shows the book's file (Answered). Assumes nothing.
 use Prim.Native.Nat.{ℕ}
-use mathlib.Core.Path.{_≡_}
+use mathlib.Core.Path.{_≡_, _∙_}
 use mathlib.Core.List.{List}
+use lib.ListN.{length}
 use Rattle.words.specs.Edition.{one}
 use Rattle.words.specs.Memory.{after}
 use Rattle.log.specs.declared.Shared.{Shared}
+use Rattle.points.specs.declared.Head.{Head}
 use Rattle.points.specs.declared.Point.{Point}
+use Rattle.points.specs.declared.Count.{Count}
 use Rattle.points.specs.declared.Joined.{Joined}
 use Rattle.points.specs.declared.Begun.{Begun}
 use Rattle.points.specs.declared.Stepped.{Stepped}
 use Rattle.points.specs.declared.Left.{Left}
 use Rattle.points.specs.Calls.{joining, beginning, leaving}
-use Rattle.points.specs.Plan.{answered}
+use Rattle.points.specs.Plan as plan
 use Rattle.points.specs.Stepping.{stepping}
+use Rattle.points.specs.Reading.{ReadLeaves}
 use Rattle.recovery.specs.World.{serve}
-use Rattle.recovery.specs.Served.{JoinServed, BeginServed, StepServed, LeaveServed}
+use Rattle.recovery.specs.Claim.{Answered}
+use Rattle.recovery.specs.Served.{JoinServed, BeginServed, StepServed, LeaveServed, ReadServed}
+use Rattle.recovery.proofs.Answered.{answered}
 
 module _ (words : List ℕ) (s : Shared) where
   pub join-served : (n : ℕ) (r : Joined) → r ≡ joining one words s n → JoinServed one words s n r
@@ -26,7 +32,7 @@ module _ (words : List ℕ) (s : Shared) where
   unfolding BeginServed serve
   begin-served p offset text r e w n q h = rw (e, h .record-is, h .image, h .shared)
 
-  pub step-served : (p : Point) (r : Stepped) (stored : List ℕ) → r ≡ answered (stepping one words s p)
+  pub step-served : (p : Point) (r : Stepped) (stored : List ℕ) → r ≡ plan.answered (stepping one words s p)
       → stored ≡ after one words (stepping one words s p .store) → StepServed one words s p r stored
   unfolding StepServed serve
   step-served p r stored e f w n q h = rw (e, f, h .record-is, h .image, h .shared)
@@ -34,3 +40,12 @@ module _ (words : List ℕ) (s : Shared) where
   pub leave-served : (p : Point) (r : Left) → r ≡ leaving one words s p → LeaveServed one words s p r
   unfolding LeaveServed serve
   leave-served p r e w n q h = rw (e, h .record-is, h .image, h .shared)
+
+  pub read-served : (head : Head) (table : List ℕ) (offset : ℕ) (buffer : List ℕ) (r : Count) (filled : List ℕ)
+      → ReadLeaves words s head table offset buffer r filled → ReadServed one words s head table offset buffer r filled
+  unfolding ReadServed Answered
+  read-served head table offset buffer r filled e h n at =
+      let f = answered one h .1 n (at .isIn) in
+      let g = rw (at .image, at .shared, at .head-is, at .table-is) at (f .counts offset (length buffer)) in
+      let k = rw (at .image, at .shared, at .head-is, at .table-is) at (f .fills offset buffer) in
+      (e .count ∙ g, e .bytes ∙ k)

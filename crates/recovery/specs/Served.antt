@@ -1,16 +1,25 @@
 -- The calls of the code are the calls of the list: what a call leaves is what `serve` says of it, in every world that has the image and the
--- shared record that it was lent and in which the point hands in the record that it was given. So the claims hold of the code.
+-- shared record that it was lent and in which the point hands in the record that it was given. So the claims hold of the code. A read, which is no call of
+-- the list, shows the book's file.
 use Prim.Native.Nat.{ℕ}
 use mathlib.Core.Path.{_≡_}
-use mathlib.Core.List.{List}
+use mathlib.Core.Bool.{true}
+use mathlib.Core.List.{List, _++_}
+use lib.ListN.{length, drop}
 use Rattle.words.specs.Edition.{Edition}
+use Rattle.log.specs.declared.Reply.the-variants.{Done}
 use Rattle.log.specs.declared.Shared.{Shared}
+use Rattle.points.specs.declared.Head.{Head}
 use Rattle.points.specs.declared.Point.{Point}
+use Rattle.points.specs.declared.Count.{Count}
 use Rattle.points.specs.declared.Joined.{Joined}
 use Rattle.points.specs.declared.Begun.{Begun}
 use Rattle.points.specs.declared.Stepped.{Stepped}
 use Rattle.points.specs.declared.Left.{Left}
+use Rattle.points.specs.Record.{isJoined}
 use Rattle.recovery.specs.World.{World, join, begin, step, leave, joined, begun, stepped, left, handed, withNewest, joinedAs, serve}
+use Rattle.recovery.specs.History.{History, atCut, bookFile}
+use Rattle.recovery.specs.Claim.{partOf}
 
 -- a world in which this point hands in this record, and which has this image and this shared record
 pub record HandsIn (w : World) (words : List ℕ) (s : Shared) (n : ℕ) (given handedIn : Point) : Type 0 where
@@ -50,3 +59,18 @@ LeaveServed E words s p r =
       event = left n (r .reply);
       world = record { words = words; shared = r .shared; newest = w .newest };
     }
+
+-- a history at whose cut image and shared record are these, and in which point n is joined, with a newest record of this head and this table
+pub record StandsAt {E : Edition} (h : History E) (words : List ℕ) (s : Shared) (n : ℕ) (head : Head) (table : List ℕ) : Type 0 where
+  pub image : atCut h .words ≡ words
+  pub shared : atCut h .shared ≡ s
+  pub isIn : isJoined (atCut h .shared) n ≡ true
+  pub head-is : atCut h .newest n .head ≡ head
+  pub table-is : atCut h .newest n .table ≡ table
+
+-- it is not refused, answers how many bytes of the book's file it found, and has left them at the buffer's front
+unfoldable pub ReadServed : Edition → List ℕ → Shared → Head → List ℕ → ℕ → List ℕ → Count → List ℕ → Type 0
+ReadServed E words s head table offset buffer r filled =
+    (h : History E) (n : ℕ) → StandsAt h words s n head table
+    → let part = partOf (bookFile h) offset (length buffer) in
+    (r ≡ record { reply = Done; count = length part }) × (filled ≡ part ++ drop (length part) buffer)

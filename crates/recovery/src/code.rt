@@ -1,8 +1,10 @@
-// The four calls of `points`, each with what it leaves in a list of calls as its contract: the calls of the claims are the code's.
+// The four calls of `points`, each with what it leaves in a list of calls as its contract: the calls of the claims are the code's. And reading, with what it
+// shows of the book.
 ghost use Rattle.words.specs.Edition.{one};
-ghost use Rattle.recovery.specs.Served.{JoinServed, BeginServed, StepServed, LeaveServed};
+ghost use Rattle.recovery.specs.Served.{JoinServed, BeginServed, StepServed, LeaveServed, ReadServed};
 use log::Shared;
 use points::Begun;
+use points::Count;
 use points::Joined;
 use points::Left;
 use points::Point;
@@ -30,4 +32,10 @@ pub fn leave(image: &[u64], shared: Shared, point: Point) -> Left
     ensures { λ r. ⌜ LeaveServed one (now (image .entry)) shared point r ⌝ }
 {
     points::leave::leave(image, shared, point)
+}
+
+pub fn read(image: &[u64], shared: Shared, point: Point, offset: usize, buffer: &mut [u8]) -> Count
+    ensures { λ r. ⌜ ReadServed one (now (image .entry)) shared (point .head) (point .table) offset (now (buffer .entry)) r (now (buffer .exit)) ⌝ }
+{
+    points::read::read(image, shared, point, offset, buffer)
 }

@@ -1,0 +1,71 @@
+-- The calls for C are the calls of the list: what a call leaves, its numbers read back, is what `serve` says of it, and a read shows the book's file
+-- (recovery/specs/Served). Asked of numbers that are a record's (`isKnown`); and what a call leaves are such numbers, so that the next call may be handed them.
+use Prim.Native.Nat.{ℕ, zero, suc}
+use mathlib.Core.Path.{_≡_}
+use mathlib.Core.Bool.{true}
+use mathlib.Core.List.{List}
+use Rattle.words.specs.Edition.{one}
+use Rattle.log.specs.Opening.{replyOf}
+use Rattle.points.specs.declared.StepAnswer.{StepAnswer}
+use Rattle.points.specs.declared.StepAnswer.the-variants.{Stored, Moved, Extending, Committed, Refused}
+use Rattle.points.specs.declared.Joined.{Joined}
+use Rattle.points.specs.declared.Begun.{Begun}
+use Rattle.points.specs.declared.Stepped.{Stepped}
+use Rattle.points.specs.declared.Left.{Left}
+use Rattle.points.specs.declared.Count as counted
+use Rattle.points.specs.Record.{pointOf}
+use Rattle.recovery.specs.Served.{JoinServed, BeginServed, StepServed, LeaveServed, ReadServed}
+use Rattle.c_api.specs.declared.Count.{Count}
+use Rattle.c_api.specs.Numbers.{SharedLent, PointLent, sharedIn, pointIn, headFrom, isKnown}
+use Rattle.c_api.specs.Calls.{PointLeft, StepLeft, SharedLeft, ReadLeft}
+
+-- ---- answers, read back from their numbers
+
+-- which answer of a step this is, by its number; a number that is none's reads as a refusal
+abbrev pub answerOf : ℕ → ℕ → StepAnswer
+answerOf zero value = Refused value
+answerOf (suc zero) value = Stored
+answerOf (suc (suc zero)) value = Moved
+answerOf (suc (suc (suc zero))) value = Extending
+answerOf (suc (suc (suc (suc zero)))) value = Committed value
+answerOf (suc (suc (suc (suc (suc n))))) value = Refused value
+
+abbrev pub joinedFrom : PointLeft → Joined
+joinedFrom l = record { reply = replyOf (l .refused); shared = sharedIn (l .shared); point = pointIn (l .point) }
+
+abbrev pub begunFrom : PointLeft → Begun
+begunFrom l = record { reply = replyOf (l .refused); shared = sharedIn (l .shared); point = pointIn (l .point) }
+
+abbrev pub steppedFrom : StepLeft → Stepped
+steppedFrom l = record { step = answerOf (l .answer .kind) (l .answer .value); shared = sharedIn (l .shared); point = pointIn (l .point) }
+
+abbrev pub leftFrom : SharedLeft → Left
+leftFrom l = record { reply = replyOf (l .refused); shared = sharedIn (l .shared) }
+
+abbrev pub countFrom : Count → counted.Count
+countFrom c = record { reply = replyOf (c .refused); count = c .count }
+
+-- ---- the calls
+
+module _ (words : List ℕ) (s : SharedLent) where
+  unfoldable pub JoinServedFor : ℕ → PointLeft → Type 0
+  JoinServedFor number l = (isKnown (l .point .head) ≡ true) × JoinServed one words (sharedIn s) number (joinedFrom l)
+
+  module _ (p : PointLent) where
+    unfoldable pub BeginServedFor : ℕ → List ℕ → PointLeft → Type 0
+    BeginServedFor offset bytes l =
+        isKnown (p .head) ≡ true → (isKnown (l .point .head) ≡ true) × BeginServed one words (sharedIn s) (pointIn p) offset bytes (begunFrom l)
+
+    unfoldable pub StepServedFor : StepLeft → Type 0
+    StepServedFor l =
+        isKnown (p .head) ≡ true → (isKnown (l .point .head) ≡ true) × StepServed one words (sharedIn s) (pointIn p) (steppedFrom l) (l .image)
+
+    -- leaving and reading are lent no text: the record's may be any
+    unfoldable pub LeaveServedFor : SharedLeft → Type 0
+    LeaveServedFor l =
+        isKnown (p .head) ≡ true → (text : List ℕ) → LeaveServed one words (sharedIn s) (pointOf (headFrom (p .head)) (p .table) text) (leftFrom l)
+
+    unfoldable pub ReadServedFor : ℕ → List ℕ → ReadLeft → Type 0
+    ReadServedFor offset buffer l =
+        isKnown (p .head) ≡ true
+        → ReadServed one words (sharedIn s) (headFrom (p .head)) (p .table) offset buffer (countFrom (l .answer)) (l .buffer)

@@ -1,0 +1,79 @@
+// The calls for C, each with what it leaves in a list of calls as its contract: the claims of `recovery` hold of what C calls. Nothing here runs.
+ghost use Rattle.c_api.specs.Numbers.{sharedLent, pointLent, textless};
+ghost use Rattle.c_api.specs.Calls.{left, stepLeft, sharedLeft, readLeft};
+ghost use Rattle.c_served.specs.Served.{JoinServedFor, BeginServedFor, StepServedFor, LeaveServedFor, ReadServedFor};
+use c_api::Answer;
+use c_api::Count;
+
+pub fn join(
+    image: &[u64],
+    shared: &mut [u32; 3],
+    taken: &mut [u64; 16],
+    number: u32,
+    head: &mut [u32; 12],
+    table: &mut [u16; 256],
+    text: &mut [u8; 1024],
+) -> u32
+    ensures { λ r. ⌜ JoinServedFor (now (image .entry)) (sharedLent (shared .entry) (taken .entry)) number
+        (left r (sharedLent (shared .exit) (taken .exit)) (pointLent (head .exit) (table .exit) (text .exit))) ⌝ }
+{
+    c_api::store_lent_join(image, shared, taken, number, head, table, text)
+}
+
+pub fn begin(
+    image: &[u64],
+    shared: &mut [u32; 3],
+    taken: &mut [u64; 16],
+    head: &mut [u32; 12],
+    table: &mut [u16; 256],
+    text: &mut [u8; 1024],
+    offset: usize,
+    bytes: &[u8],
+) -> u32
+    ensures { λ r. ⌜ BeginServedFor (now (image .entry)) (sharedLent (shared .entry) (taken .entry)) (pointLent (head .entry) (table .entry) (text .entry))
+        offset (now (bytes .entry)) (left r (sharedLent (shared .exit) (taken .exit)) (pointLent (head .exit) (table .exit) (text .exit))) ⌝ }
+{
+    c_api::store_lent_begin(image, shared, taken, head, table, text, offset, bytes)
+}
+
+pub fn step(
+    image: &mut [u64],
+    shared: &mut [u32; 3],
+    taken: &mut [u64; 16],
+    head: &mut [u32; 12],
+    table: &mut [u16; 256],
+    text: &mut [u8; 1024],
+) -> Answer
+    ensures { λ r. ⌜ StepServedFor (now (image .entry)) (sharedLent (shared .entry) (taken .entry)) (pointLent (head .entry) (table .entry) (text .entry))
+        (stepLeft r (now (image .exit)) (sharedLent (shared .exit) (taken .exit)) (pointLent (head .exit) (table .exit) (text .exit))) ⌝ }
+{
+    c_api::store_lent_step(image, shared, taken, head, table, text)
+}
+
+pub fn leave(
+    image: &[u64],
+    shared: &mut [u32; 3],
+    taken: &mut [u64; 16],
+    head: &[u32; 12],
+    table: &[u16; 256],
+) -> u32
+    ensures { λ r. ⌜ LeaveServedFor (now (image .entry)) (sharedLent (shared .entry) (taken .entry)) (textless (head .entry) (table .entry))
+        (sharedLeft r (sharedLent (shared .exit) (taken .exit))) ⌝ }
+{
+    c_api::store_lent_leave(image, shared, taken, head, table)
+}
+
+pub fn read(
+    image: &[u64],
+    shared: &[u32; 3],
+    taken: &[u64; 16],
+    head: &[u32; 12],
+    table: &[u16; 256],
+    offset: usize,
+    buffer: &mut [u8],
+) -> Count
+    ensures { λ r. ⌜ ReadServedFor (now (image .entry)) (sharedLent (shared .entry) (taken .entry)) (textless (head .entry) (table .entry))
+        offset (now (buffer .entry)) (readLeft r (now (buffer .exit))) ⌝ }
+{
+    c_api::store_lent_read(image, shared, taken, head, table, offset, buffer)
+}
