@@ -1,0 +1,31 @@
+-- Nothing is lost in numbers: what is read back from those of an answer or a record is that answer, that record. Assumes nothing.
+use Prim.Native.Nat.{ℕ}
+use mathlib.Core.Path.{_≡_, refl, ap}
+use Rattle.log.specs.declared.Shared.{Shared}
+use Rattle.log.specs.declared.Reply.{Reply}
+use Rattle.log.specs.Opening.{replyOf, numberOf}
+use Rattle.points.specs.declared.StepAnswer.{StepAnswer}
+use Rattle.points.specs.declared.StepAnswer.the-variants.{Stored, Moved, Extending, Committed, Refused}
+use Rattle.points.specs.declared.Point.{Point}
+use Rattle.points.specs.Stepping.{stepKind, stepValue}
+use Rattle.recovery.proofs.Replies.{number-back}
+use Rattle.c_api.specs.Numbers.{sharedIn, lendShared, pointIn, lendPoint}
+use Rattle.c_api.proofs.Heads.{head-back}
+use Rattle.c_served.specs.Served.{answerOf}
+
+pub answer-back : (a : StepAnswer) → answerOf (stepKind a) (stepValue a) ≡ a
+answer-back Stored = refl
+answer-back Moved = refl
+answer-back Extending = refl
+answer-back (Committed retries) = refl
+answer-back (Refused n) = refl
+
+-- a reply that goes by a refusal's number
+pub reply-back : (r : Reply) (n : ℕ) → r ≡ replyOf n → replyOf (numberOf r) ≡ r
+reply-back r n e = rw e (ap replyOf (number-back n))
+
+pub shared-back : (s : Shared) → sharedIn (lendShared s) ≡ s
+shared-back s = refl
+
+pub point-back : (p : Point) → pointIn (lendPoint p) ≡ p
+point-back p = rw (head-back (p .head))

@@ -1,0 +1,78 @@
+-- Each call for C leaves, its numbers read back, what `serve` says; a read shows the book's file. By the definitions of c_api, which are those of `points` in
+-- numbers (Back), and by recovery's Served. Assumes nothing.
+use Prim.Native.Nat.{ℕ}
+use mathlib.Core.Path.{_≡_, refl, _∙_}
+use mathlib.Core.Bool.{true}
+use mathlib.Core.List.{List}
+use lib.ListN.{length}
+use Rattle.words.specs.Edition.{one}
+use Rattle.words.specs.Memory.{after}
+use Rattle.words.proofs.Choice.{choose-true}
+use Rattle.log.specs.Opening.{numberOf}
+use Rattle.points.specs.Record.{pointOf, unfit}
+use Rattle.points.specs.Calls.{joinRefusal, joining, beginRefusal, beginning, leaving}
+use Rattle.points.specs.Plan.{answered}
+use Rattle.points.specs.Stepping.{stepping}
+use Rattle.points.specs.Reading.{readRefusal, reading}
+use Rattle.recovery.proofs.Replies.{join-replies, begin-replies, leave-replies}
+use Rattle.recovery.proofs.Served.{join-served, begin-served, step-served, leave-served, read-served}
+use Rattle.c_api.specs.Numbers.{SharedLent, PointLent, sharedIn, pointIn, lendShared, lendPoint, headFrom, isKnown, answerNumbers, countNumbers}
+use Rattle.c_api.specs.Calls.{PointLeft, StepLeft, SharedLeft, ReadLeft, pointLeft, stepLeft, sharedLeft, ifKnown, joinFor, beginFor, stepFor, leaveFor, readFor}
+use Rattle.c_served.specs.Served.{joinedFrom, begunFrom, steppedFrom, leftFrom, countFrom}
+use Rattle.c_served.specs.Served.{JoinServedFor, BeginServedFor, StepServedFor, LeaveServedFor, ReadServedFor}
+use Rattle.c_served.proofs.Back.{answer-back, reply-back, point-back}
+use Rattle.c_served.proofs.Known.{join-known, begin-known, step-known}
+
+module _ (words : List ℕ) (s : SharedLent) where
+  pub join-for : (number : ℕ) (l : PointLeft) → l ≡ joinFor words s number → JoinServedFor words s number l
+  unfolding JoinServedFor
+  join-for number l e =
+      let j = joining one words (sharedIn s) number in
+      let why = joinRefusal one words (sharedIn s) number in
+      let back : joinedFrom (joinFor words s number) ≡ j = rw (reply-back (j .reply) why (join-replies one words (sharedIn s) number), point-back (j .point)) in
+      rw e (join-known one words (sharedIn s) number, join-served words (sharedIn s) number _ back)
+
+  -- the numbers are a record's
+  module _ (p : PointLent) where
+    is-known : {X : Type 0} (served : X) (refused : ℕ → X) → isKnown (p .head) ≡ true → ifKnown words s p served refused ≡ served
+    unfolding ifKnown
+    is-known served refused known = choose-true (isKnown (p .head)) _ _ known
+
+    pub begin-for : (offset : ℕ) (bytes : List ℕ) (l : PointLeft) → l ≡ beginFor words s p offset bytes → BeginServedFor words s p offset bytes l
+    unfolding BeginServedFor
+    begin-for offset bytes l e known =
+        let b = beginning one words (sharedIn s) (pointIn p) offset bytes in
+        let served = pointLeft (b .reply) (b .shared) (b .point) in
+        let why = beginRefusal one words (sharedIn s) (headFrom (p .head)) (p .table) offset (length bytes) in
+        let back : begunFrom served ≡ b = rw (reply-back (b .reply) why (begin-replies one words (sharedIn s) (pointIn p) offset bytes), point-back (b .point)) in
+        rw (e ∙ is-known _ _ known) (
+          begin-known one words (sharedIn s) (p .head) (p .table) (p .text) known offset bytes,
+          begin-served words (sharedIn s) (pointIn p) offset bytes _ back,
+        )
+
+    pub step-for : (l : StepLeft) → l ≡ stepFor words s p → StepServedFor words s p l
+    unfolding StepServedFor
+    step-for l e known =
+        let o = stepping one words (sharedIn s) (pointIn p) in
+        let served = stepLeft (answerNumbers (o .step)) (after one words (o .store)) (lendShared (o .shared)) (lendPoint (o .point)) in
+        let back : steppedFrom served ≡ answered o = rw (answer-back (o .step), point-back (o .point)) in
+        rw (e ∙ is-known _ _ known) (
+          step-known one words (sharedIn s) (p .head) (p .table) (p .text) known,
+          step-served words (sharedIn s) (pointIn p) _ _ back refl,
+        )
+
+    pub leave-for : (l : SharedLeft) → l ≡ leaveFor words s p → LeaveServedFor words s p l
+    unfolding LeaveServedFor leaving
+    leave-for l e known text =
+        let x = leaving one words (sharedIn s) (pointIn p) in
+        let back : leftFrom (sharedLeft (numberOf (x .reply)) (lendShared (x .shared))) ≡ x =
+        rw (reply-back (x .reply) (unfit one words (sharedIn s) (headFrom (p .head)) (p .table)) (leave-replies one words (sharedIn s) (pointIn p))) in
+        rw (e ∙ is-known _ _ known) (leave-served words (sharedIn s) (pointOf (headFrom (p .head)) (p .table) text) _ back)
+
+    pub read-for : (offset : ℕ) (buffer : List ℕ) (l : ReadLeft) → l ≡ readFor words s p offset buffer → ReadServedFor words s p offset buffer l
+    unfolding ReadServedFor reading
+    read-for offset buffer l e known =
+        let r = reading one words (sharedIn s) (headFrom (p .head)) (p .table) offset (length buffer) in
+        let back : countFrom (countNumbers r) ≡ r = rw (reply-back (r .reply) (readRefusal one words (sharedIn s) (headFrom (p .head)) (p .table)) refl) in
+        rw (e ∙ is-known _ _ known)
+        (read-served words (sharedIn s) (headFrom (p .head)) (p .table) offset buffer _ _ (record { count = back; bytes = refl }))

@@ -1,0 +1,17 @@
+-- `c_served::begin` meets its contract: what the call for C leaves is what c_api's definition says (Served). Assumes nothing.
+use borrow.Author.Needs.{needs}
+use Rattle.c_api.specs.Numbers.{sharedLent, pointLent}
+use Rattle.c_served.proofs.Served.{begin-for}
+use Rattle.c_served.proofs.begin.Statement.{statement}
+use Rattle.c_served.proofs.begin.Tie as tie
+
+store-lent-begin-requires : tie.Need-store-lent-begin-requires
+store-lent-begin-requires c κs = search needs
+
+returns : tie.Need-returns
+returns c =
+    let a = c .before .before .before .before .before .before .before .before .args in
+    begin-for (a .image .now) (sharedLent (a .shared) (a .taken)) (pointLent (a .head) (a .table) (a .text)) (a .offset) (a .bytes .now) _ (c .store-lent-begin .ensures)
+
+pub begin-spec : {M : Type 1} → statement M
+begin-spec = tie.close (tie.spec store-lent-begin-requires returns)

@@ -1,0 +1,17 @@
+-- `c_served::join` meets its contract: what the call for C leaves is what c_api's definition says (Served). Assumes nothing.
+use borrow.Author.Needs.{needs}
+use Rattle.c_api.specs.Numbers.{sharedLent}
+use Rattle.c_served.proofs.Served.{join-for}
+use Rattle.c_served.proofs.join.Statement.{statement}
+use Rattle.c_served.proofs.join.Tie as tie
+
+store-lent-join-requires : tie.Need-store-lent-join-requires
+store-lent-join-requires c κs = search needs
+
+returns : tie.Need-returns
+returns c =
+    let a = c .before .before .before .before .before .before .before .args in
+    join-for (a .image .now) (sharedLent (a .shared) (a .taken)) (a .number) _ (c .store-lent-join .ensures)
+
+pub join-spec : {M : Type 1} → statement M
+join-spec = tie.close (tie.spec store-lent-join-requires returns)

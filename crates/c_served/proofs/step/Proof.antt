@@ -1,0 +1,20 @@
+-- `c_served::step` meets its contract: what the call for C leaves is what c_api's definition says (Served). Assumes nothing.
+use borrow.Author.Needs.{needs}
+use Rattle.c_api.specs.Numbers.{sharedLent, pointLent}
+use Rattle.c_served.proofs.Served.{step-for}
+use Rattle.c_served.proofs.step.Statement.{statement}
+use Rattle.c_served.proofs.step.Tie as tie
+
+store-lent-step-requires : tie.Need-store-lent-step-requires
+store-lent-step-requires c κs = search needs
+
+same-length : tie.Need-same-length
+same-length c = search needs
+
+returns : tie.Need-returns
+returns c =
+    let a = c .before .before .before .before .before .before .before .before .before .before .args in
+    step-for (a .image .now) (sharedLent (a .shared) (a .taken)) (pointLent (a .head) (a .table) (a .text)) _ (c .before .before .store-lent-step .ensures)
+
+pub step-spec : {M : Type 1} → statement M
+step-spec = tie.close (tie.spec store-lent-step-requires same-length returns)
