@@ -1,0 +1,172 @@
+#define _GNU_SOURCE
+#include "calls.h"
+
+#include <sys/mman.h>
+#include <unistd.h>
+
+uint64_t *image;
+size_t words;
+store_shared shared;
+store_point points[POINTS];
+
+static size_t shift_now;
+static int memory;
+static uint64_t state;
+static uint16_t scratch[STORE_SCRATCH + 8], rows[STORE_VIRTUAL_BLOCKS];
+static uint8_t text[TEXT_BYTES], buffer[ROOM];
+
+uint64_t any(void)
+{
+    state ^= state << 13;
+    state ^= state >> 7;
+    state ^= state << 17;
+    return state;
+}
+
+size_t below(size_t limit)
+{
+    return (size_t)((any() >> 11) % limit);
+}
+
+void seed_with(uint64_t seed)
+{
+    state = (seed + 1) * UINT64_C(0x9E3779B97F4A7C15);
+    state += !state;
+    for (size_t i = 0; i < TEXT_BYTES; i++)
+        text[i] = (uint8_t)(any() >> 32);
+}
+
+/* Whether `bytes` of a file, or of no file, can be mapped at an address. */
+static int mapped(uint64_t address, uint64_t bytes, int flags, int file)
+{
+    void *wanted = (void *)(uintptr_t)address;
+    return mmap(wanted, bytes, PROT_READ | PROT_WRITE, flags | MAP_FIXED_NOREPLACE, file, 0) == wanted;
+}
+
+int map_memory(void)
+{
+    memory = memfd_create("image", 0);
+    return memory >= 0 && ftruncate(memory, (off_t)AREA_BYTES) == 0 && mapped(AREA, AREA_BYTES, MAP_SHARED, memory)
+        && mapped(AGAIN, AREA_BYTES, MAP_SHARED, memory) && mapped(MARKS, MARKS_BYTES, MAP_PRIVATE | MAP_ANONYMOUS | MAP_NORESERVE, -1);
+}
+
+/* Zeros come from the system, which leaves no line in the trace. */
+void lend(size_t blocks, size_t shift)
+{
+    if (ftruncate(memory, 0) != 0 || ftruncate(memory, (off_t)AREA_BYTES) != 0)
+        _exit(2);
+    shift_now = shift;
+    image = (uint64_t *)(uintptr_t)FIRST_IMAGE + shift;
+    words = STORE_BLOCK_WORDS * blocks;
+    size_t old = blocks < 12 ? words : STORE_BLOCK_WORDS * (size_t)12;
+    for (size_t w = 0; w < old; w++)
+        image[w] = ~(uint64_t)w;
+}
+
+/* Nothing that the program reads or writes moves across a mark. */
+static void mark(uint64_t address)
+{
+    __asm__ volatile("" ::: "memory");
+    *(volatile uint64_t *)(uintptr_t)address = 0;
+    __asm__ volatile("" ::: "memory");
+}
+
+static void before(enum call call)
+{
+    mark(LENT_MARK(words, shift_now));
+    mark(CALL_MARK(call));
+}
+
+static uint32_t after(enum call call, uint32_t refused)
+{
+    mark(ANSWER_MARK(call, refused <= STORE_NOT_MAPPED ? refused : ODD));
+    return refused;
+}
+
+void end_trace(void)
+{
+    mark(END_MARK);
+}
+
+uint32_t lay_out(void)
+{
+    before(LAY_OUT);
+    return after(LAY_OUT, store_lay_out(image, words));
+}
+
+uint32_t open_image(size_t places)
+{
+    before(OPEN);
+    return after(OPEN, store_open(image, words, scratch, places, &shared).refused);
+}
+
+uint32_t list(size_t places)
+{
+    before(LIST);
+    return after(LIST, store_list(image, words, scratch, places, rows).refused);
+}
+
+uint32_t join(uint32_t number, store_point *point)
+{
+    before(JOIN);
+    return after(JOIN, store_join(image, words, &shared, number, point));
+}
+
+uint32_t begin(store_point *point, size_t offset, size_t size)
+{
+    before(BEGIN);
+    return after(BEGIN, store_begin(image, words, &shared, point, offset, text, size));
+}
+
+uint32_t leave(const store_point *point)
+{
+    before(LEAVE);
+    return after(LEAVE, store_leave(image, words, &shared, point));
+}
+
+uint32_t read_file(const store_point *point, size_t offset, size_t room)
+{
+    before(READ);
+    return after(READ, store_read(image, words, &shared, point, offset, buffer, room).refused);
+}
+
+/* What a step has answered, and by what. */
+static uint32_t answer_of(store_answer answer, const store_head *head)
+{
+    int zeroing = head->phase == STORE_ZEROING;
+    switch (answer.kind) {
+    case STORE_STORED:
+        if (zeroing)
+            return head->position < STORE_BLOCK_WORDS ? ZEROED : LINKED;
+        return head->phase == STORE_FILLING ? FILLED : REFILLED;
+    case STORE_MOVED:
+        return zeroing ? LOST_LINK : CAUGHT_UP;
+    case STORE_EXTENDING:
+        return EXTENDING;
+    case STORE_COMMITTED:
+        return COMMITTED;
+    default:
+        return answer.kind == STORE_REFUSED && answer.value >= 1 && answer.value <= STORE_NOT_MAPPED ? answer.value : ODD;
+    }
+}
+
+store_answer step(store_point *point)
+{
+    store_head head = point->head;
+    before(STEP);
+    store_answer answer = store_step(image, words, &shared, point);
+    mark(ANSWER_MARK(STEP, answer_of(answer, &head)));
+    return answer;
+}
+
+uint32_t look(const store_point *point, size_t block)
+{
+    before(LOCATE);
+    store_count found = store_locate(image, words, &shared, point, block);
+    after(LOCATE, found.refused);
+    before(VIEW);
+    const uint64_t *view = store_view(image, words, &shared, point, block);
+    const uint64_t *wanted = found.refused ? (const uint64_t *)0 : image + STORE_BLOCK_WORDS * (size_t)found.count;
+    after(VIEW, view == wanted ? found.refused : ODD);
+    return found.refused;
+}
