@@ -4,6 +4,8 @@
 #include <sys/mman.h>
 #include <unistd.h>
 
+#include "stored.h"
+
 uint64_t *image;
 size_t words;
 store_shared shared;
@@ -155,6 +157,8 @@ store_answer step(store_point *point)
     store_head head = point->head;
     before(STEP);
     store_answer answer = store_step(image, words, &shared, point);
+    if (has_stored(answer))
+        mark(WORD_MARK(stored_word(answer, &head, &point->head) % AREA_WORDS));
     mark(ANSWER_MARK(STEP, answer_of(answer, &head)));
     return answer;
 }

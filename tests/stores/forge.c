@@ -1,6 +1,6 @@
 #include "runs.h"
 
-enum { SLOTS = 62, MARK_WORDS = 2 };
+enum { SLOTS = 62, FIRST_SLOT = 2 };
 static const uint64_t superblock_mark = UINT64_C(0x4D494C4B31);
 
 uint64_t entry(size_t v, size_t b, size_t count, size_t used)
@@ -21,7 +21,7 @@ static void put_log_block(size_t block, size_t next, size_t entries)
     log[0] = next;
     log[1] = 0;
     for (size_t i = 0; i < SLOTS; i++)
-        log[MARK_WORDS + i] = i < entries ? entry(i % 2, 2 + i % 2, 1, BLOCK_BYTES) : 0;
+        log[FIRST_SLOT + i] = i < entries ? entry(i % 2, 2 + i % 2, 1, BLOCK_BYTES) : 0;
 }
 
 void lend_chain(size_t blocks, size_t shift, size_t chained, size_t last)

@@ -93,7 +93,7 @@ static void alter_write(store_head *head)
 static void alter_point(store_point *point)
 {
     uint32_t *numbers = (uint32_t *)&point->head;
-    switch (below(8)) {
+    switch (below(12)) {
     case 0:
         point->table[below(256)] = (uint16_t)a_number();
         break;

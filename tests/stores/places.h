@@ -1,5 +1,5 @@
 /* What driver and watcher agree on: where the memory lies, and the marks. A mark is a store to a known address outside the image; in the
-   trace it says which image is lent, which call begins, and what the call has answered. */
+   trace it says which image is lent, which call begins, which word a step should have stored, and what the call has answered. */
 #ifndef PLACES_H
 #define PLACES_H
 
@@ -21,7 +21,8 @@
 
 #define LENT_MARK(words, shift) (MARKS + 8 * (SHIFTS * (uint64_t)(words) + (uint64_t)(shift)))
 #define CALL_MARK(call) (MARKS + MARKS_BYTES / 4 + 8 * (uint64_t)(call))
-#define ANSWER_MARK(call, answer) (MARKS + MARKS_BYTES / 2 + 8 * (ANSWERS * (uint64_t)(call) + (uint64_t)(answer)))
+#define WORD_MARK(word) (MARKS + MARKS_BYTES / 2 + 8 * (uint64_t)(word))
+#define ANSWER_MARK(call, answer) (MARKS + MARKS_BYTES / 4 * 3 + 8 * (ANSWERS * (uint64_t)(call) + (uint64_t)(answer)))
 #define END_MARK (MARKS + MARKS_BYTES - 8)
 
 enum call { LAY_OUT, OPEN, LIST, JOIN, BEGIN, STEP, LEAVE, READ, LOCATE, VIEW, CALLS };

@@ -33,7 +33,7 @@ static const struct {
 };
 
 /* The rules. The first have the numbers of the calls other than a step. */
-enum { ONE = CALLS, NONE, WIDTH, ALIGNED, INSIDE, LISTED, WHOLE, MET, RULES };
+enum { ONE = CALLS, NONE, WIDTH, ALIGNED, INSIDE, WHERE, LISTED, WHOLE, MET, RULES };
 
 static const struct {
     const char *name, *text;
@@ -52,6 +52,7 @@ static const struct {
     [WIDTH] = {"width", "a step's store is eight bytes wide"},
     [ALIGNED] = {"aligned", "a step's store is aligned to eight bytes"},
     [INSIDE] = {"inside", "a step's store lies in the image that is lent"},
+    [WHERE] = {"where", "a step's store is that of the word which its record names"},
     [LISTED] = {"listed", "each answer is one that the header lists for the call"},
     [WHOLE] = {"whole", "each call that begins ends, and the trace goes on to its end"},
     [MET] = {"met", "each call has given each of its answers"},
@@ -64,10 +65,11 @@ static struct {
 
 static long answered[CALLS][ANSWERS], stores[CALLS], widths[CALLS][WIDEST + 1];
 
-/* The call under way, CALLS for none; its number in the trace, its stores so far, and the image that it is lent. */
+/* The call under way, CALLS for none; its number in the trace, its stores so far, the last one's place if it is a word of the image, else the
+   image's end; and the image that it is lent. */
 static unsigned under_way = CALLS;
 static long number, made;
-static uint64_t image, image_bytes;
+static uint64_t last_word, image, image_bytes;
 static int has_ended;
 
 /* The answer's name: a refusal is a number. */
@@ -111,12 +113,21 @@ static void see_store(uint64_t address, uint64_t width)
             broken_by(under_way, at, width);
         return;
     }
+    int is_inside = at < image_bytes && at + width <= image_bytes;
+    last_word = width == 8 && address % 8 == 0 && is_inside ? at : image_bytes;
     if (width != 8)
         broken_by(WIDTH, at, width);
     if (address % 8 != 0)
         broken_by(ALIGNED, at, width);
-    if (at >= image_bytes || at + width > image_bytes)
+    if (!is_inside)
         broken_by(INSIDE, at, width);
+}
+
+/* The word that a step should have stored. Only a word's store is compared, and only if there is no other: else another rule is broken. */
+static void see_word(uint64_t word)
+{
+    if (made == 1 && last_word != image_bytes && last_word != 8 * word)
+        broken(WHERE, "at byte %" PRIu64 " of the image, not %" PRIu64, last_word, 8 * word);
 }
 
 static int is_listed(unsigned call, unsigned answer)
@@ -150,6 +161,10 @@ static void see_mark(uint64_t address)
     if (address >= ANSWER_MARK(0, 0) && address < ANSWER_MARK(CALLS, 0)) {
         uint64_t n = (address - ANSWER_MARK(0, 0)) / 8;
         see_answer((unsigned)(n / ANSWERS), (unsigned)(n % ANSWERS));
+        return;
+    }
+    if (address >= WORD_MARK(0) && address < WORD_MARK(AREA_WORDS)) {
+        see_word((address - WORD_MARK(0)) / 8);
         return;
     }
     if (under_way < CALLS)

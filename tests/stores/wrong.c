@@ -2,7 +2,7 @@
    the WRONG_ below. Each wrong store gives memory the value that it has or that the honest step gives it: what a call leaves and answers is the
    same as ever, so nothing that compares the memory before and after a call could find it. */
 #include "places.h"
-#include "store.h"
+#include "stored.h"
 
 /* Memory gets its own value, by one store of the type's width. */
 #define STORE_AGAIN(type, place) (*(volatile type *)(place) = *(volatile type *)(place))
@@ -23,18 +23,6 @@ typedef uint64_t uneven __attribute__((aligned(4)));
 
 __typeof__(store_lent_step) honest_store_lent_step;
 
-/* Which word a step has stored, from the point's numbers before it and after it. It is never the image's first. */
-static size_t stored_word(uint32_t kind, const store_head *before, const store_head *after)
-{
-    if (kind == STORE_COMMITTED)
-        return (size_t)STORE_BLOCK_WORDS * before->block + before->slot;
-    if (before->phase != STORE_ZEROING)
-        return (size_t)STORE_BLOCK_WORDS * before->run + after->position - 1;
-    if (before->position < STORE_BLOCK_WORDS)
-        return (size_t)STORE_BLOCK_WORDS * before->zeroing + before->position;
-    return (size_t)STORE_BLOCK_WORDS * before->block;
-}
-
 /* What a step does that has stored a word: beside its store, or in place of it where the honest step works unseen. */
 static void when_stored(uint64_t *word, uint64_t *end)
 {
@@ -48,6 +36,8 @@ static void when_stored(uint64_t *word, uint64_t *end)
     STORE_AGAIN(uint32_t, (uint32_t *)word + 1);
 #elif defined WRONG_UNALIGNED
     STORE_AGAIN(uneven, (uint32_t *)word - 1);
+#elif defined WRONG_NEIGHBOUR
+    STORE_AGAIN(uint64_t, word - 1);
 #elif defined WRONG_OUTSIDE
     STORE_AGAIN(uint64_t, end);
 #endif
@@ -71,8 +61,8 @@ store_answer store_lent_step(uint64_t *image, size_t words, uint32_t *shared, ui
     worked_on = (uint64_t *)((uintptr_t)image - (uintptr_t)AREA + (uintptr_t)AGAIN);
 #endif
     store_answer answer = honest_store_lent_step(worked_on, words, shared, taken, head, table, text);
-    if (answer.kind == STORE_STORED || answer.kind == STORE_COMMITTED)
-        when_stored(image + stored_word(answer.kind, &before, (const store_head *)head), image + words);
+    if (has_stored(answer))
+        when_stored(image + stored_word(answer, &before, (const store_head *)head), image + words);
     else
         when_not(image);
     return answer;
