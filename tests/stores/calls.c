@@ -90,6 +90,18 @@ void end_trace(void)
     mark(END_MARK);
 }
 
+static uint64_t digest_of(uint64_t sum, const void *numbers, size_t bytes)
+{
+    for (size_t i = 0; i < bytes / 4; i++)
+        sum = (sum ^ ((const uint32_t *)numbers)[i]) * UINT64_C(0x100000001B3);
+    return sum;
+}
+
+uint64_t digest(void)
+{
+    return digest_of(digest_of(digest_of(1, image, 8 * words), &shared, sizeof shared), points, sizeof points);
+}
+
 uint32_t lay_out(void)
 {
     before(LAY_OUT);

@@ -26,6 +26,9 @@ void lend(size_t blocks, size_t shift);
 /* Says in the trace that all calls have been made. */
 void end_trace(void);
 
+/* A number made of all that the calls have left in image and records. */
+uint64_t digest(void);
+
 uint32_t lay_out(void);
 uint32_t open_image(size_t places);
 uint32_t list(size_t places);

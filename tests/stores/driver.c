@@ -15,7 +15,7 @@ int main(int count, char **arguments)
 {
     int is_short = 0;
     uint64_t seed = 1;
-    size_t runs = 40;
+    size_t runs = 24;
     for (int i = 1; i < count; i++) {
         if (strcmp(arguments[i], "--short") == 0)
             is_short = 1;

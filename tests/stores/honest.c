@@ -1,4 +1,7 @@
 /* Honest runs: points that hand in each record as the last call left it. */
+#include <inttypes.h>
+#include <stdio.h>
+
 #include "runs.h"
 
 /* What a session is like: how many points, how many writes in all, how far they reach into the file, how long they are at most. */
@@ -147,8 +150,10 @@ void run_short(void)
     list(STORE_SCRATCH);
     leave(&points[0]);
     leave(&points[0]);
+    uint64_t first = digest();
     lend_chain(8, 0, 1, 62);
     start(1, 0);
     begin(&points[0], 9, 30);
     hurry(&points[0]);
+    printf("memory %" PRIx64 " %" PRIx64 "\n", first, digest());
 }

@@ -1,6 +1,8 @@
 /* Hostile runs: words of the image, fields of the records and arguments become anything, then any call is made. */
 #include "runs.h"
 
+enum { ACTS = 48 }; /* of a run */
+
 /* A number at or beside the edge of some range, or any. */
 static uint32_t a_number(void)
 {
@@ -70,21 +72,20 @@ static void alter_shared(void)
     }
 }
 
-/* A write that nobody began, with numbers that fit or nearly. */
+/* A write that nobody began. Mostly its numbers fit. */
 static void alter_write(store_head *head)
 {
     size_t blocks = words / STORE_BLOCK_WORDS;
     head->offset = (uint32_t)below(131072);
     head->size = 1 + (uint32_t)below(1024);
-    head->run = (uint32_t)below(blocks);
     head->phase = 1 + (uint32_t)below(5);
-    head->zeroing = 1 + (uint32_t)below(blocks);
+    uint32_t spanned = (head->offset + head->size - 1) / BLOCK_BYTES - head->offset / BLOCK_BYTES + 1;
+    uint32_t most = STORE_BLOCK_WORDS * (head->phase == STORE_ZEROING ? 1 : spanned);
+    head->run = (uint32_t)(below(8) ? 1 + below(blocks - spanned) : below(blocks));
+    head->zeroing = (uint32_t)(below(8) ? 1 + below(blocks - 1) : below(blocks + 1));
+    head->position = below(2) ? most : (uint32_t)below(most + 2);
     if (head->phase == STORE_ZEROING || below(4) == 0)
-        head->slot = 64;
-    if (below(2))
-        head->position = (uint32_t)below(194);
-    else
-        head->position = 64 * (head->phase == STORE_ZEROING ? 1 : (head->offset + head->size - 1) / BLOCK_BYTES - head->offset / BLOCK_BYTES + 1);
+        head->slot = STORE_BLOCK_WORDS;
     if (below(8) == 0)
         head->passed = 62 + (uint32_t)below(4);
 }
@@ -145,7 +146,7 @@ static void call_with(store_point *point)
             list(STORE_SCRATCH - below(2));
         break;
     default:
-        steps(point, 1 + below(4));
+        steps(point, 1 + below(8));
         break;
     }
 }
@@ -161,10 +162,13 @@ static void call_with_length(store_point *point)
     words = usual;
 }
 
-/* Alters something, makes some calls, and mostly puts back what was altered: else all would be refused from then on. */
+/* Alters something, makes some calls, and mostly puts back what was there: else all would be refused from then on. */
 static void act(void)
 {
-    store_point *point = &points[below(POINTS)], point_before = *point;
+    store_point *point = &points[below(POINTS)];
+    if (point->head.phase == STORE_IDLE && below(3))
+        alter_write(&point->head);
+    store_point point_before = *point;
     store_shared shared_before = shared;
     size_t place = a_place(&point->head);
     uint64_t word_before = image[place];
@@ -179,7 +183,7 @@ static void act(void)
         call_with_length(point);
     for (size_t i = 1 + below(3); i > 0; i--)
         call_with(point);
-    if (below(4)) {
+    if (below(6) || shared.blocks != shared_before.blocks) {
         *point = point_before;
         shared = shared_before;
         image[place] = word_before;
@@ -209,7 +213,7 @@ void run_hostile(size_t runs)
         for (size_t p = 0; p < POINTS; p++)
             if (below(3))
                 begin(&points[p], below(2000), 1 + below(1024));
-        for (size_t n = 0; n < 24; n++)
+        for (size_t n = 0; n < ACTS; n++)
             act();
     }
 }

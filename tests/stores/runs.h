@@ -20,7 +20,7 @@ uint32_t start(size_t count, uint32_t number);
 /* Steps until the write is done, but at most so often. Answers the last step's answer. */
 store_answer steps(store_point *point, size_t most);
 
-/* The runs. A short one makes each call, and each answer of a step once or more often. */
+/* The runs. The short one makes each call and prints what memory holds then. */
 void run_short(void);
 void run_honest(void);
 void run_directed(void);
