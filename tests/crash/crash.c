@@ -13,7 +13,7 @@
 
 #include "crash.h"
 
-static const uint64_t FOREVER = (uint64_t)1 << 62;
+static const uint64_t MINUTE = 60000000000; /* a writer that is spared fills its file in far less */
 
 static struct {
     uint32_t kills, spare;
@@ -85,8 +85,11 @@ static void one_round(void)
     session.seed = draw(&dice);
     session.burst = bursts[below(&dice, 3)];
     life_start(&life, &session, &book, records, wanted.early);
-    life_watch(&life, &session, &book, lives++ < wanted.spare ? FOREVER : random_time());
+    life_watch(&life, &session, &book, lives++ < wanted.spare ? MINUTE : random_time());
+    int in_time = life.ended || lives > wanted.spare;
     life_end(&life, &session, &book);
+    if (!in_time)
+        snprintf(life.complaint, sizeof life.complaint, "a writer that is spared has not ended after a minute");
     count_life(&life, &session, &book, records);
     int agrees = all_agrees();
     passed += agrees && life.killed;

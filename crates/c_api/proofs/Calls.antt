@@ -1,5 +1,5 @@
 -- The ways out of each call: refused where the record's numbers are none, else as the call with the record answers. Assumes nothing.
-use Prim.Native.Nat.{ℕ, zero, suc}
+use Prim.Native.Nat.{ℕ}
 use mathlib.Core.Path.{_≡_, refl, sym, _∙_, ap}
 use mathlib.Core.Bool.{Bool, true, false, not}
 use mathlib.Core.List.{List}
@@ -9,7 +9,7 @@ use Rattle.words.specs.Edition.{one}
 use Rattle.words.specs.Memory.{after}
 use Rattle.words.proofs.Choice.{choose-true, choose-false}
 use Rattle.log.specs.declared.Shared.{Shared}
-use Rattle.log.specs.Opening.{numberOf, replyOf}
+use Rattle.log.specs.Opening.{numberOf}
 use Rattle.points.specs.declared.Head.{Head}
 use Rattle.points.specs.declared.Count as counted
 use Rattle.points.specs.declared.Numbers.{Numbers}
@@ -31,10 +31,6 @@ use Rattle.c_api.specs.Numbers.{answerNumbers, countNumbers, headNumbers
 use Rattle.c_api.specs.Numbers.{SharedLent, PointLent, sharedIn, lendShared, lendPoint}
 use Rattle.c_api.specs.Calls.{StepLeft, left, pointLeft, stepLeft, sharedLeft, readLeft, unknown, ifKnown}
 use Rattle.c_api.specs.Calls.{joinFor, beginFor, stepFor, leaveFor, readFor, locateFor}
-
-pub number-back : (n : ℕ) → numberOf (replyOf n) ≡ n
-number-back zero = refl
-number-back (suc n) = refl
 
 module _ (words shared taken : List ℕ) where
   -- why a record is refused whose numbers are none

@@ -1,6 +1,7 @@
 -- Nothing is lost in numbers: what is read back from those of an answer or a record is that answer, that record. Assumes nothing.
 use Prim.Native.Nat.{ℕ}
 use mathlib.Core.Path.{_≡_, refl, ap}
+use mathlib.Core.Bool.{true}
 use Rattle.log.specs.declared.Shared.{Shared}
 use Rattle.log.specs.declared.Reply.{Reply}
 use Rattle.log.specs.Opening.{replyOf, numberOf}
@@ -8,10 +9,17 @@ use Rattle.points.specs.declared.StepAnswer.{StepAnswer}
 use Rattle.points.specs.declared.StepAnswer.the-variants.{Stored, Moved, Extending, Committed, Refused}
 use Rattle.points.specs.declared.Point.{Point}
 use Rattle.points.specs.Stepping.{stepKind, stepValue}
-use Rattle.recovery.proofs.Replies.{number-back}
+use Rattle.points.proofs.Replies.{number-back}
 use Rattle.c_api.specs.Numbers.{sharedIn, lendShared, pointIn, lendPoint}
 use Rattle.c_api.proofs.Heads.{head-back}
-use Rattle.c_served.specs.Served.{answerOf}
+use Rattle.c_served.specs.Served.{isAnswer, answerOf}
+
+pub is-answer : (a : StepAnswer) → isAnswer (stepKind a) ≡ true
+is-answer Stored = refl
+is-answer Moved = refl
+is-answer Extending = refl
+is-answer (Committed retries) = refl
+is-answer (Refused n) = refl
 
 pub answer-back : (a : StepAnswer) → answerOf (stepKind a) (stepValue a) ≡ a
 answer-back Stored = refl

@@ -21,7 +21,7 @@ use Rattle.points.specs.declared.Point.{Point}
 use Rattle.points.specs.declared.Joined.{Joined}
 use Rattle.points.specs.declared.Begun.{Begun}
 use Rattle.points.specs.declared.plan.Plan.{Plan}
-use Rattle.points.specs.Record.{phaseNumber, runFirst, runBlocks, firstEdge, lastEdge}
+use Rattle.points.specs.Record.{phaseNumber, runFirst, firstEdge}
 use Rattle.points.specs.Calls.{joining, joinRefusal, beginning, beginRefusal}
 use Rattle.points.specs.Plan.{carriedOut}
 use Rattle.points.specs.Stepping.{refill, refillAfter, stepRefusal, planned, stepping, fill, commit, zeroOut, link, giveBack, extend, giveUp}
@@ -29,7 +29,7 @@ use Rattle.points.proofs.StepCases.{each-plan}
 use Rattle.points.proofs.StepFacts.{goes-on, refused-on}
 use Rattle.c_api.specs.Numbers.{headNumbers, headFrom, isKnown}
 
--- a head whose numbers are a head's
+-- a head whose retry count is at most 65,535
 abbrev Few : Head → Type 0
 Few h = h .write .retries ≤ 65535
 

@@ -1,27 +1,47 @@
--- Each call for C leaves, its numbers read back, what `serve` says; a read shows the book's file. By the definitions of c_api, which are those of `points` in
+-- Each call for C leaves, its numbers read back, what `serve` says; reading and locating show the book's file. By the definitions of c_api, which are those of `points` in
 -- numbers (Back), and by recovery's Served. Assumes nothing.
 use Prim.Native.Nat.{ℕ}
-use mathlib.Core.Path.{_≡_, refl, _∙_}
+use mathlib.Core.Path.{_≡_, refl, sym, ap, _∙_}
 use mathlib.Core.Bool.{true}
 use mathlib.Core.List.{List}
 use lib.ListN.{length}
 use Rattle.words.specs.Edition.{one}
 use Rattle.words.specs.Memory.{after}
 use Rattle.words.proofs.Choice.{choose-true}
-use Rattle.log.specs.Opening.{numberOf}
+use Rattle.log.specs.declared.Reply.{Reply}
+use Rattle.log.specs.declared.Reply.the-variants.{Done}
+use Rattle.log.specs.Opening.{openRefusal, opened, replyOf, numberOf}
 use Rattle.points.specs.Record.{pointOf, unfit}
 use Rattle.points.specs.Calls.{joinRefusal, joining, beginRefusal, beginning, leaving}
 use Rattle.points.specs.Plan.{answered}
 use Rattle.points.specs.Stepping.{stepping}
-use Rattle.points.specs.Reading.{readRefusal, reading}
-use Rattle.recovery.proofs.Replies.{join-replies, begin-replies, leave-replies}
-use Rattle.recovery.proofs.Served.{join-served, begin-served, step-served, leave-served, read-served}
-use Rattle.c_api.specs.Numbers.{SharedLent, PointLent, sharedIn, pointIn, lendShared, lendPoint, headFrom, isKnown, answerNumbers, countNumbers}
-use Rattle.c_api.specs.Calls.{PointLeft, StepLeft, SharedLeft, ReadLeft, pointLeft, stepLeft, sharedLeft, ifKnown, joinFor, beginFor, stepFor, leaveFor, readFor}
+use Rattle.points.specs.Reading.{readRefusal, reading, locateRefusal, locating}
+use Rattle.points.proofs.Replies.{number-back, join-replies, begin-replies, leave-replies}
+use Rattle.recovery.proofs.Served.{open-served, opened-replies, join-served, begin-served, step-served, leave-served, read-served, locate-served}
+use Rattle.recovery.specs.Served.{OpenServed}
+use Rattle.c_api.specs.Numbers.{SharedLent, PointLent, sharedIn, pointIn, lendShared, lendPoint, headFrom, isKnown}
+use Rattle.c_api.specs.Numbers.{openedNumbers, answerNumbers, countNumbers}
+use Rattle.c_api.specs.declared.Opened.{Opened}
+use Rattle.c_api.specs.declared.Count.{Count}
+use Rattle.c_api.specs.Calls.{PointLeft, StepLeft, SharedLeft, ReadLeft, pointLeft, stepLeft, sharedLeft, ifKnown}
+use Rattle.c_api.specs.Calls.{sharedFor, joinFor, beginFor, stepFor, leaveFor, readFor, locateFor}
 use Rattle.c_served.specs.Served.{joinedFrom, begunFrom, steppedFrom, leftFrom, countFrom}
-use Rattle.c_served.specs.Served.{JoinServedFor, BeginServedFor, StepServedFor, LeaveServedFor, ReadServedFor}
-use Rattle.c_served.proofs.Back.{answer-back, reply-back, point-back}
+use Rattle.c_served.specs.Served.{OpenServedFor, JoinServedFor, BeginServedFor, StepServedFor, LeaveServedFor, ReadServedFor, LocateServedFor}
+use Rattle.c_served.proofs.Back.{is-answer, answer-back, reply-back, shared-back, point-back}
 use Rattle.c_served.proofs.Known.{join-known, begin-known, step-known}
+
+pub open-for :
+    (words scratch : List ℕ) (r : Opened) (s : SharedLent) → r ≡ openedNumbers (opened one words scratch) → s ≡ sharedFor words scratch
+    → OpenServedFor words scratch (r .refused) s
+unfolding OpenServedFor OpenServed
+open-for words scratch r s e f =
+    let o = opened one words scratch in
+    let served = open-served words scratch o refl in
+    (λ none. served .0 (done (o .reply) (openRefusal one words scratch) (opened-replies words scratch) (sym (ap (λ (x : Opened). x .refused) e) ∙ none)),
+      served .1 ∙ rw (f, shared-back (o .shared)))
+  where
+    done : (r : Reply) (n : ℕ) → r ≡ replyOf n → numberOf r ≡ 0 → r ≡ Done
+    done r n e z = let m : n ≡ 0 = sym (number-back n) ∙ ap numberOf (sym e) ∙ z in e ∙ ap replyOf m
 
 module _ (words : List ℕ) (s : SharedLent) where
   pub join-for : (number : ℕ) (l : PointLeft) → l ≡ joinFor words s number → JoinServedFor words s number l
@@ -58,6 +78,7 @@ module _ (words : List ℕ) (s : SharedLent) where
         let back : steppedFrom served ≡ answered o = rw (answer-back (o .step), point-back (o .point)) in
         rw (e ∙ is-known _ _ known) (
           step-known one words (sharedIn s) (p .head) (p .table) (p .text) known,
+          is-answer (o .step),
           step-served words (sharedIn s) (pointIn p) _ _ back refl,
         )
 
@@ -76,3 +97,10 @@ module _ (words : List ℕ) (s : SharedLent) where
         let back : countFrom (countNumbers r) ≡ r = rw (reply-back (r .reply) (readRefusal one words (sharedIn s) (headFrom (p .head)) (p .table)) refl) in
         rw (e ∙ is-known _ _ known)
         (read-served words (sharedIn s) (headFrom (p .head)) (p .table) offset buffer _ _ (record { count = back; bytes = refl }))
+
+    pub locate-for : (block : ℕ) (c : Count) → c ≡ locateFor words s p block → LocateServedFor words s p block c
+    unfolding LocateServedFor locating
+    locate-for block c e known =
+        let r = locating one words (sharedIn s) (headFrom (p .head)) (p .table) block in
+        let back : countFrom (countNumbers r) ≡ r = rw (reply-back (r .reply) (locateRefusal one words (sharedIn s) (headFrom (p .head)) (p .table) block) refl) in
+        rw (e ∙ is-known _ _ known) (locate-served words (sharedIn s) (headFrom (p .head)) (p .table) block _ back)

@@ -1,11 +1,13 @@
--- The calls for C are the calls of the list: what a call leaves, its numbers read back, is what `serve` says of it, and a read shows the book's file
--- (recovery/specs/Served). Asked of numbers that are a record's (`isKnown`); and what a call leaves are such numbers, so that the next call may be handed them.
+-- The calls for C are the calls of the list: what a call leaves, its numbers read back, is what `serve` says of it; opening makes the world that a list
+-- begins with; reading and locating show the book's file (recovery/specs/Served). Asked of numbers that are a record's (`isKnown`); and what a call leaves
+-- are such numbers, so that the next call may be handed them. With other numbers a call is refused and changes nothing (c_api): it is none of the list's.
 use Prim.Native.Nat.{ℕ, zero, suc}
 use mathlib.Core.Path.{_≡_}
-use mathlib.Core.Bool.{true}
+use mathlib.Core.Bool.{Bool, true}
 use mathlib.Core.List.{List}
 use Rattle.words.specs.Edition.{one}
-use Rattle.log.specs.Opening.{replyOf}
+use Rattle.words.specs.Logic.{between}
+use Rattle.log.specs.Opening.{replyOf, openRefusal}
 use Rattle.points.specs.declared.StepAnswer.{StepAnswer}
 use Rattle.points.specs.declared.StepAnswer.the-variants.{Stored, Moved, Extending, Committed, Refused}
 use Rattle.points.specs.declared.Joined.{Joined}
@@ -14,14 +16,19 @@ use Rattle.points.specs.declared.Stepped.{Stepped}
 use Rattle.points.specs.declared.Left.{Left}
 use Rattle.points.specs.declared.Count as counted
 use Rattle.points.specs.Record.{pointOf}
-use Rattle.recovery.specs.Served.{JoinServed, BeginServed, StepServed, LeaveServed, ReadServed}
+use Rattle.recovery.specs.World.{start}
+use Rattle.recovery.specs.History.{openWorld}
+use Rattle.recovery.specs.Served.{JoinServed, BeginServed, StepServed, LeaveServed, ReadServed, LocateServed}
 use Rattle.c_api.specs.declared.Count.{Count}
 use Rattle.c_api.specs.Numbers.{SharedLent, PointLent, sharedIn, pointIn, headFrom, isKnown}
 use Rattle.c_api.specs.Calls.{PointLeft, StepLeft, SharedLeft, ReadLeft}
 
 -- ---- answers, read back from their numbers
 
--- which answer of a step this is, by its number; a number that is none's reads as a refusal
+-- which answer of a step this is, by its number; a number that is none's reads as a refusal, and is not answered (`isAnswer`)
+abbrev pub isAnswer : ℕ → Bool
+isAnswer kind = between 1 kind 5
+
 abbrev pub answerOf : ℕ → ℕ → StepAnswer
 answerOf zero value = Refused value
 answerOf (suc zero) value = Stored
@@ -47,6 +54,11 @@ countFrom c = record { reply = replyOf (c .refused); count = c .count }
 
 -- ---- the calls
 
+-- the shared record that opening makes
+unfoldable pub OpenServedFor : List ℕ → List ℕ → ℕ → SharedLent → Type 0
+OpenServedFor words scratch refused s =
+    (refused ≡ 0 → openRefusal one words scratch ≡ 0) × (openWorld one words scratch ≡ start words (sharedIn s))
+
 module _ (words : List ℕ) (s : SharedLent) where
   unfoldable pub JoinServedFor : ℕ → PointLeft → Type 0
   JoinServedFor number l = (isKnown (l .point .head) ≡ true) × JoinServed one words (sharedIn s) number (joinedFrom l)
@@ -58,9 +70,11 @@ module _ (words : List ℕ) (s : SharedLent) where
 
     unfoldable pub StepServedFor : StepLeft → Type 0
     StepServedFor l =
-        isKnown (p .head) ≡ true → (isKnown (l .point .head) ≡ true) × StepServed one words (sharedIn s) (pointIn p) (steppedFrom l) (l .image)
+        isKnown (p .head) ≡ true
+        → (isKnown (l .point .head) ≡ true) × (isAnswer (l .answer .kind) ≡ true)
+        × StepServed one words (sharedIn s) (pointIn p) (steppedFrom l) (l .image)
 
-    -- leaving and reading are lent no text: the record's may be any
+    -- leaving, reading and locating are lent no text: the record's may be any
     unfoldable pub LeaveServedFor : SharedLeft → Type 0
     LeaveServedFor l =
         isKnown (p .head) ≡ true → (text : List ℕ) → LeaveServed one words (sharedIn s) (pointOf (headFrom (p .head)) (p .table) text) (leftFrom l)
@@ -69,3 +83,7 @@ module _ (words : List ℕ) (s : SharedLent) where
     ReadServedFor offset buffer l =
         isKnown (p .head) ≡ true
         → ReadServed one words (sharedIn s) (headFrom (p .head)) (p .table) offset buffer (countFrom (l .answer)) (l .buffer)
+
+    unfoldable pub LocateServedFor : ℕ → Count → Type 0
+    LocateServedFor block c =
+        isKnown (p .head) ≡ true → LocateServed one words (sharedIn s) (headFrom (p .head)) (p .table) block (countFrom c)

@@ -1,9 +1,18 @@
-// The calls for C, each with what it leaves in a list of calls as its contract: the claims of `recovery` hold of what C calls. Nothing here runs.
+// The calls for C, each with what it leaves in a list of calls as its contract: the claims of `recovery` hold of what C calls. Opening, reading and locating
+// are beside them, as in recovery/src/code.rt. Nothing here runs.
 ghost use Rattle.c_api.specs.Numbers.{sharedLent, pointLent, textless};
 ghost use Rattle.c_api.specs.Calls.{left, stepLeft, sharedLeft, readLeft};
-ghost use Rattle.c_served.specs.Served.{JoinServedFor, BeginServedFor, StepServedFor, LeaveServedFor, ReadServedFor};
+ghost use Rattle.c_served.specs.Served.{OpenServedFor, JoinServedFor, BeginServedFor, StepServedFor};
+ghost use Rattle.c_served.specs.Served.{LeaveServedFor, ReadServedFor, LocateServedFor};
 use c_api::Answer;
 use c_api::Count;
+use c_api::Opened;
+
+pub fn open(image: &[u64], scratch: &mut [u16], shared: &mut [u32; 3], taken: &mut [u64; 16]) -> Opened
+    ensures { λ r. ⌜ OpenServedFor (now (image .entry)) (now (scratch .entry)) (r .refused) (sharedLent (shared .exit) (taken .exit)) ⌝ }
+{
+    c_api::store_lent_open(image, scratch, shared, taken)
+}
 
 pub fn join(
     image: &[u64],
@@ -76,4 +85,17 @@ pub fn read(
         offset (now (buffer .entry)) (readLeft r (now (buffer .exit))) ⌝ }
 {
     c_api::store_lent_read(image, shared, taken, head, table, offset, buffer)
+}
+
+pub fn locate(
+    image: &[u64],
+    shared: &[u32; 3],
+    taken: &[u64; 16],
+    head: &[u32; 12],
+    table: &[u16; 256],
+    block: usize,
+) -> Count
+    ensures { λ r. ⌜ LocateServedFor (now (image .entry)) (sharedLent (shared .entry) (taken .entry)) (textless (head .entry) (table .entry)) block r ⌝ }
+{
+    c_api::store_lent_locate(image, shared, taken, head, table, block)
 }

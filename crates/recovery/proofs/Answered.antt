@@ -3,28 +3,31 @@
 use mathlib.Core.Path.{_≡_, refl, sym, ap, _∙_, subst}
 use mathlib.Core.List.{List, [], _∷_}
 use mathlib.Core.Bool.{true}
-use Prim.Native.Nat.{ℕ, zero, suc, _+_, _-_, min}
+use Prim.Native.Nat.{ℕ, zero, suc, _+_, _*_, _-_, min, _<_}
 use native.Mathlib.Omega.{arith}
-use lib.ListN.{length, take, drop}
-use Rattle.words.specs.Edition.{Edition}
-use Rattle.words.specs.Logic.{listFrom}
+use lib.ListN.{length, getD, take, drop}
+use lib.Dec.{leb}
+use borrow.Author.Tests.{lt-leb}
+use Rattle.words.specs.Edition.{Edition, blockBytes, fileBlocks}
+use Rattle.words.specs.Logic.{_when_, isZero, listFrom}
 use Rattle.words.specs.Memory.{Memory, memory, blockCount}
 use Rattle.log.specs.declared.Opened.{Opened}
 use Rattle.log.specs.declared.Reply.the-variants.{Refused}
-use Rattle.log.specs.Replay.{Mapped, fileByte, fileBytes, replayOn}
+use Rattle.log.specs.Replay.{Mapped, mappedByte, fileByte, fileBytes, replayOn}
 use Rattle.log.specs.CatchUp as K
 use Rattle.log.specs.Opening.{openRefusal, opened, openedWith, noShared, fileOf, openedFile}
 use Rattle.points.specs.Record.{isJoined, fileAt, brokenAhead}
-use Rattle.points.specs.Reading.{seen, readRefusal, readCount, reading, bufferAfter}
+use Rattle.points.specs.Reading.{seen, readRefusal, readCount, reading, bufferAfter, locateRefusal, located}
 use Rattle.recovery.specs.World as W
 use Rattle.recovery.specs.World.{world}
 use Rattle.recovery.specs.Book.{Book}
 use Rattle.recovery.specs.History.{enough, openWorld, callsBefore, atCut}
 use Rattle.recovery.specs.Claim.{Recovery, partOf, ReadsFile, Answered}
-use Rattle.words.proofs.Logic.{length-listFrom}
-use Rattle.words.proofs.Choice.{chosen-zero}
+use Rattle.words.proofs.Logic.{length-listFrom, take-listFrom, drop-listFrom}
+use Rattle.words.proofs.Choice.{choose, chosen-zero, chosen-suc}
 use Rattle.log.proofs.Sound.{replay-on}
-use Rattle.recovery.proofs.Opening.Opens.{file-is}
+use Rattle.log.proofs.Shown.{byte-view}
+use Rattle.recovery.proofs.Opening.Opens.{file-is, core-file}
 use Rattle.recovery.proofs.Calls.Mapping.{Tied}
 use Rattle.recovery.proofs.Calls.Begin.{ahead-is}
 use Rattle.recovery.proofs.Calls.NotRefused.{record-passed, not-broken}
@@ -51,27 +54,12 @@ module _ {E : Edition} {L : List ℕ} (w : W.World) (bk : Book) (h : Tied E L w 
       ap (λ (r : K.Walk). replayOn E f (r .entries)) (ahead-is w bk h n j) ∙ replay-on E (pi .ahead) f ∙ pi .place .catches
       ∙ sym (file-is (h .inv .core))
 
--- ---- a part of a list that is counted out
-
-module _ (f : ℕ → ℕ) where
-  take-from : (k i n : ℕ) → take k (listFrom i n f) ≡ listFrom i (min k n) f
-  take-from zero i n = let e : min 0 n ≡ 0 = omega arith in rw e
-  take-from (suc k) i zero = let e : min (suc k) 0 ≡ 0 = omega arith in rw e
-  take-from (suc k) i (suc n) = let e : min (suc k) (suc n) ≡ suc (min k n) = omega arith in rw e (ap (λ (l : List ℕ). f i ∷ l) (take-from k (suc i) n))
-
-  drop-from : (k i n : ℕ) → drop k (listFrom i n f) ≡ listFrom (i + k) (n - k) f
-  drop-from zero i n = let a : i + 0 ≡ i = omega arith in let b : n - 0 ≡ n = omega arith in rw (a, b)
-  drop-from (suc k) i zero = let e : 0 - suc k ≡ 0 = omega arith in rw e
-  drop-from (suc k) i (suc n) =
-      let a : i + suc k ≡ suc i + k = omega arith in
-      let b : suc n - suc k ≡ n - k = omega arith in
-      rw (a, b) (drop-from k (suc i) n)
-
-  part-from : (offset room n : ℕ) → partOf (listFrom 0 n f) offset room ≡ listFrom offset (min room (n - offset)) f
-  part-from offset room n =
-      let e : 0 + offset ≡ offset = omega arith in
-      let d : drop offset (listFrom 0 n f) ≡ listFrom offset (n - offset) f = rw e at (drop-from offset 0 n) in
-      ap (take room) d ∙ take-from room offset (n - offset)
+-- a part of a file whose bytes are counted out
+part-from : (f : ℕ → ℕ) (offset room n : ℕ) → partOf (listFrom 0 n f) offset room ≡ listFrom offset (min room (n - offset)) f
+part-from f offset room n =
+    let e : 0 + offset ≡ offset = omega arith in
+    let d : drop offset (listFrom 0 n f) ≡ listFrom offset (n - offset) f = rw e at (drop-listFrom offset 0 n f) in
+    ap (take room) d ∙ take-listFrom room offset (n - offset) f
 
 -- ---- what a joined point reads
 
@@ -97,12 +85,42 @@ module _ {E : Edition} {L : List ℕ} (w : W.World) (bk : Book) (h : Tied E L w 
   part-length : (offset room : ℕ) → length (partOf (fileBytes E m f) offset room) ≡ min room (f .size - offset)
   part-length offset room = ap length (part-is offset room) ∙ length-listFrom offset (min room (f .size - offset)) (fileByte E m f)
 
+  -- of locating's reasons 22 alone decides
+  abbrev block : ℕ → ℕ
+  block v = getD (f .table) v 0
+
+  locate-by : (v : ℕ) → v < fileBlocks → locateRefusal E (w .words) (w .shared) (w .newest n .head) (w .newest n .table) v ≡ choose (isZero (block v)) 22 0
+  unfolding locateRefusal
+  locate-by v l =
+      record-passed w bk h n j (17 when leb fileBlocks v ∷ brokenAhead E (w .words) (w .shared) (w .newest n .head) ∷ 22 when isZero (block v) ∷ [])
+      ∙ rw (lt-leb fileBlocks v l, not-broken w bk h n j)
+
+  -- the block located is the one mapped, be it none
+  located-is : (v : ℕ) → v < fileBlocks → located E (w .words) (w .shared) (w .newest n .head) (w .newest n .table) v ≡ block v
+  unfolding located
+  located-is v l = go (block v) refl
+    where
+      go : (b : ℕ) → block v ≡ b → located E (w .words) (w .shared) (w .newest n .head) (w .newest n .table) v ≡ block v
+      go zero e = chosen-suc _ 21 (block v) (λ k. 0) (locate-by v l ∙ rw e) ∙ sym e
+      go (suc b) e = chosen-zero _ (block v) (λ k. 0) (locate-by v l ∙ rw e)
+
+  locates-file : (v q : ℕ) → v < fileBlocks → q < blockBytes E
+      → mappedByte m (located E (w .words) (w .shared) (w .newest n .head) (w .newest n .table) v) q ≡ getD (fileBytes E m f) (blockBytes E * v + q) 0
+  unfolding openedFile
+  locates-file v q l k =
+      let c = h .inv .core in
+      let at : f ≡ h .inv .cur = sees w bk h n j ∙ file-is c in
+      let shows : fileBytes E m f ≡ bk .file = ap (fileBytes E m) (sees w bk h n j) ∙ core-file c in
+      rw (located-is v l, shows, at) (byte-view E (w .words) (w .shared .blocks) (c .image .size) (getD (h .inv .cur .table) v 0) q k
+      ∙ sym (c .file .fileBytes v q l k))
+
   reads-seen : ReadsFile E w n (fileBytes E m f)
   unfolding reading bufferAfter
   reads-seen = record {
     sees = refl;
     counts = λ offset room. rw (read-on, count-is offset room, part-length offset room);
     fills = λ offset buffer. rw (count-is offset (length buffer), part-length offset (length buffer), part-is offset (length buffer));
+    locates = locates-file;
   }
 
   reads-file : ReadsFile E w n (openedFile E (w .words))

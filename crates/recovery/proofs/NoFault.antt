@@ -1,9 +1,9 @@
 -- No fault: a joined point's call is refused, if at all, by a reason of its own: 15 to 17, 19 to 22. Its list of reasons is gone through once, by what the
--- invariant says of 10, 11, 14 and 18 (Calls.NotRefused); a step's plan by the ways that it may go.
+-- invariant says of 10, 11, 14 and 18 (Calls.NotRefused); a step's plan by the ways that it may go. A point that is not joined meets 11 or 14.
 use mathlib.Core.Path.{_≡_, refl, sym, ap, _∙_, subst}
 use mathlib.Core.List.{List, [], _∷_, _++_}
 use mathlib.Core.Bool.{Bool, true, false, not}
-use Prim.Native.Nat.{ℕ}
+use Prim.Native.Nat.{ℕ, zero, suc}
 use lib.ListN.{length, getD}
 use lib.Dec.{leb, ltb, eqb}
 use borrow.Author.Tests.{eqb-true}
@@ -14,7 +14,7 @@ use Rattle.log.specs.declared.Shared.{Shared}
 use Rattle.log.specs.CatchUp.{ahead, broken}
 use Rattle.points.specs.declared.Point.{Point}
 use Rattle.points.specs.declared.plan.Plan.{Plan}
-use Rattle.points.specs.Record.{isJoined, isIdle, badShared, badText, pastEnd, span, recordReasons, brokenAhead, unfit}
+use Rattle.points.specs.Record.{isJoined, isIdle, fits, badShared, badText, pastEnd, span, recordReasons, brokenAhead, unfit}
 use Rattle.points.specs.Search.{search}
 use Rattle.points.specs.Calls.{badFirst, joinRefusal, beginRefusal}
 use Rattle.points.specs.Stepping.{endsWrite, planned, stepRefusal, writeOn, fill, commit, zeroOut, link, giveBack, extend, giveUp}
@@ -22,14 +22,14 @@ use Rattle.points.specs.Reading.{seen, locateRefusal}
 use Rattle.points.proofs.StepCases.{each-plan}
 use Rattle.points.proofs.StepFacts.{goes-on, refused-on}
 use Rattle.recovery.specs.World as W
-use Rattle.recovery.specs.World.{Call, join, begin, step, leave, serve}
+use Rattle.recovery.specs.World.{Call, join, begin, step, leave, handed, serve}
 use Rattle.recovery.specs.Book.{Book}
-use Rattle.recovery.specs.History.{callsBefore, refusal, stepRefused, isFault, byJoined}
+use Rattle.recovery.specs.History.{callsBefore, refusal, stepRefused, isFault, isStrange, byJoined}
 use Rattle.recovery.specs.Claim.{NoFault}
 use Rattle.words.proofs.Tests.{no-true}
 use Rattle.recovery.proofs.Opening.Opens.{first-some, first-inside}
-use Rattle.recovery.proofs.Replies.{number-back, join-replies, begin-replies, leave-replies, step-answers}
-use Rattle.recovery.proofs.Calls.Mapping.{Tied, handed-newest}
+use Rattle.points.proofs.Replies.{number-back, join-replies, begin-replies, leave-replies, step-answers}
+use Rattle.recovery.proofs.Calls.Mapping.{Tied, handed-newest, handed-number}
 use Rattle.recovery.proofs.Calls.NotRefused.{shared-ok, record-passed, step-on, not-broken}
 use Rattle.recovery.proofs.Claim.{opens-enough, same-start, bytesBefore}
 use Rattle.recovery.proofs.Demand3.{after-tied}
@@ -86,6 +86,15 @@ module _ {E : Edition} {L : List ℕ} (w : W.World) (bk : Book) (h : Tied E L w 
   abbrev s : Shared
   s = w .shared
 
+  -- the reasons of beginning and of a step behind 10, 11 and 14
+  abbrev beginOwn : Point → ℕ → ℕ → List Reason
+  beginOwn p o size =
+      15 when not (isIdle (p .head .write .phase)) ∷ 16 when badText size ∷ 17 when pastEnd E o size ∷ brokenAhead E I s (p .head)
+      ∷ 19 when isZero (search s (span E o size)) ∷ []
+
+  abbrev stepOwn : Point → List Reason
+  stepOwn p = 15 when isIdle (p .head .write .phase) ∷ []
+
   join-safe : (n : ℕ) → isFault (joinRefusal E I s n) ≡ false
   unfolding joinRefusal
   join-safe n =
@@ -103,10 +112,7 @@ module _ {E : Edition} {L : List ℕ} (w : W.World) (bk : Book) (h : Tied E L w 
 
     begin-safe : (o size : ℕ) → isFault (beginRefusal E I s (p .head) (p .table) o size) ≡ false
     unfolding beginRefusal
-    begin-safe o size = own-safe
-        (15 when not (isIdle (p .head .write .phase)) ∷ 16 when badText size ∷ 17 when pastEnd E o size ∷ brokenAhead E I s (p .head)
-        ∷ 19 when isZero (search s (span E o size)) ∷ [])
-        (other refl (other refl (other refl (fails (not-broken w bk h n j) (other refl none)))))
+    begin-safe o size = own-safe (beginOwn p o size) (other refl (other refl (other refl (fails (not-broken w bk h n j) (other refl none)))))
 
     leave-safe : isFault (unfit E I s (p .head) (p .table)) ≡ false
     unfolding unfit
@@ -120,7 +126,7 @@ module _ {E : Edition} {L : List ℕ} (w : W.World) (bk : Book) (h : Tied E L w 
 
     idle-15 : isIdle (p .head .write .phase) ≡ true → stepRefusal E I s (p .head) (p .table) ≡ 15
     unfolding stepRefusal
-    idle-15 e = record-passed w bk h n j (15 when isIdle (p .head .write .phase) ∷ []) ∙ rw e
+    idle-15 e = record-passed w bk h n j (stepOwn p) ∙ rw e
 
     plan-safe : SafePlan (planned E I s p)
     plan-safe = go (isIdle (p .head .write .phase)) refl
@@ -146,8 +152,50 @@ module _ {E : Edition} {L : List ℕ} (w : W.World) (bk : Book) (h : Tied E L w 
   )
       (leave-safe n j)
 
+  -- a point that is not joined: its record does not fit, or fits and has its number
+  module _ (n : ℕ) (q : Point) (apart : isJoined s n ≡ false) where
+    abbrev y : Point
+    y = handed w n q
+
+    turned-away : (rs : List Reason) → isStrange (first (recordReasons E I s (y .head) (y .table) ++ rs)) ≡ true
+    turned-away rs = go (fits E (s .blocks) (y .head) (y .table)) refl
+      where
+        stranger : isJoined s (y .head .number) ≡ false
+        stranger = ap (isJoined s) (handed-number w n q apart) ∙ apart
+
+        go : (b : Bool) → fits E (s .blocks) (y .head) (y .table) ≡ b → isStrange (first (recordReasons E I s (y .head) (y .table) ++ rs)) ≡ true
+        go true e = rw (shared-ok w bk h, e, stranger)
+        go false e = rw (shared-ok w bk h, e)
+
+    leave-strange : isStrange (unfit E I s (y .head) (y .table)) ≡ true
+    unfolding unfit
+    leave-strange = turned-away []
+
+    begin-strange : (o size : ℕ) → isStrange (beginRefusal E I s (y .head) (y .table) o size) ≡ true
+    unfolding beginRefusal
+    begin-strange o size = turned-away (beginOwn y o size)
+
+    refused-strange : isStrange (stepRefusal E I s (y .head) (y .table)) ≡ true
+    unfolding stepRefusal
+    refused-strange = turned-away (stepOwn y)
+
+    step-strange : isStrange (stepRefused (planned E I s y .step)) ≡ true
+    step-strange = go (stepRefusal E I s (y .head) (y .table)) refl
+      where
+        go : (k : ℕ) → stepRefusal E I s (y .head) (y .table) ≡ k → isStrange (stepRefused (planned E I s y .step)) ≡ true
+        go zero e = let z : isStrange 0 ≡ true = rw e at refused-strange in absurd (no-true z refl)
+        go (suc k) e = rw (refused-on E I s y k e) (rw e at refused-strange)
+
+  pub call-strange : (c : Call) → byJoined w c ≡ false → isStrange (refusal (serve E w c .event)) ≡ true
+  unfolding serve
+  call-strange (join n) j = absurd (no-true refl j)
+  call-strange (begin n q o text) j = rw (begin-replies E I s (handed w n q) o text, number-back (beginRefusal E I s (y n q j .head) (y n q j .table) o (length text)))
+      (begin-strange n q j o (length text))
+  call-strange (step n q) j = rw (step-answers E I s (handed w n q)) (step-strange n q j)
+  call-strange (leave n q) j = rw (leave-replies E I s (handed w n q), number-back (unfit E I s (y n q j .head) (y n q j .table))) (leave-strange n q j)
+
 pub no-fault : (E : Edition) → NoFault E
 unfolding NoFault
 no-fault E h =
     let t = after-tied E (h .words) (opens-enough h) (callsBefore h) (bytesBefore h) in
-    rw (same-start h) (call-safe _ _ t, λ p v j. locate-safe _ _ t p j v)
+    rw (same-start h) (call-safe _ _ t, call-strange _ _ t, λ p v j. locate-safe _ _ t p j v)

@@ -1,14 +1,18 @@
 -- The calls of the code are the calls of the list: what a call leaves is what `serve` says of it, in every world that has the image and the
--- shared record that it was lent and in which the point hands in the record that it was given. So the claims hold of the code. A read, which is no call of
--- the list, shows the book's file.
-use Prim.Native.Nat.{ℕ}
+-- shared record that it was lent and in which the point hands in the record that it was given. So the claims hold of the code. Opening makes the world
+-- that a list begins with; reading and locating, which are no calls of the list, show the book's file.
+use Prim.Native.Nat.{ℕ, _+_, _*_, _<_}
 use mathlib.Core.Path.{_≡_}
-use mathlib.Core.Bool.{true}
+use mathlib.Core.Bool.{true, false}
 use mathlib.Core.List.{List, _++_}
-use lib.ListN.{length, drop}
-use Rattle.words.specs.Edition.{Edition}
+use lib.ListN.{length, getD, drop}
+use Rattle.words.specs.Edition.{Edition, blockBytes, fileBlocks}
+use Rattle.words.specs.Memory.{memory}
 use Rattle.log.specs.declared.Reply.the-variants.{Done}
+use Rattle.log.specs.Replay.{mappedByte}
+use Rattle.log.specs.Opening.{openRefusal, numberOf}
 use Rattle.log.specs.declared.Shared.{Shared}
+use Rattle.log.specs.declared.Opened.{Opened}
 use Rattle.points.specs.declared.Head.{Head}
 use Rattle.points.specs.declared.Point.{Point}
 use Rattle.points.specs.declared.Count.{Count}
@@ -17,8 +21,8 @@ use Rattle.points.specs.declared.Begun.{Begun}
 use Rattle.points.specs.declared.Stepped.{Stepped}
 use Rattle.points.specs.declared.Left.{Left}
 use Rattle.points.specs.Record.{isJoined}
-use Rattle.recovery.specs.World.{World, join, begin, step, leave, joined, begun, stepped, left, handed, withNewest, joinedAs, serve}
-use Rattle.recovery.specs.History.{History, atCut, bookFile}
+use Rattle.recovery.specs.World.{World, join, begin, step, leave, joined, begun, stepped, left, handed, withNewest, joinedAs, serve, start}
+use Rattle.recovery.specs.History.{History, openWorld, atCut, bookFile, isFault}
 use Rattle.recovery.specs.Claim.{partOf}
 
 -- a world in which this point hands in this record, and which has this image and this shared record
@@ -26,6 +30,10 @@ pub record HandsIn (w : World) (words : List ℕ) (s : Shared) (n : ℕ) (given 
   pub image : w .words ≡ words
   pub shared : w .shared ≡ s
   pub record-is : handed w n given ≡ handedIn
+
+-- not refused, the image is one of a history, and this is the world at its opening
+unfoldable pub OpenServed : Edition → List ℕ → List ℕ → Opened → Type 0
+OpenServed E words scratch r = (r .reply ≡ Done → openRefusal E words scratch ≡ 0) × (openWorld E words scratch ≡ start words (r .shared))
 
 unfoldable pub JoinServed : Edition → List ℕ → Shared → ℕ → Joined → Type 0
 JoinServed E words s n r =
@@ -74,3 +82,10 @@ ReadServed E words s head table offset buffer r filled =
     (h : History E) (n : ℕ) → StandsAt h words s n head table
     → let part = partOf (bookFile h) offset (length buffer) in
     (r ≡ record { reply = Done; count = length part }) × (filled ≡ part ++ drop (length part) buffer)
+
+-- it is not refused by 10, 11, 14 or 18, and the block that it answers, 0 for none, holds the book's file there
+unfoldable pub LocateServed : Edition → List ℕ → Shared → Head → List ℕ → ℕ → Count → Type 0
+LocateServed E words s head table v r =
+    (h : History E) (n : ℕ) → StandsAt h words s n head table
+    → (isFault (numberOf (r .reply)) ≡ false)
+    × ((q : ℕ) → v < fileBlocks → q < blockBytes E → mappedByte (memory E words) (r .count) q ≡ getD (bookFile h) (blockBytes E * v + q) 0)

@@ -1,7 +1,8 @@
-// The four calls of `points`, each with what it leaves in a list of calls as its contract: the calls of the claims are the code's. And reading, with what it
-// shows of the book.
+// The four calls of `points`, each with what it leaves in a list of calls as its contract: the calls of the claims are the code's. And opening, which makes
+// the world that a list begins with; reading and locating, with what they show of the book.
 ghost use Rattle.words.specs.Edition.{one};
-ghost use Rattle.recovery.specs.Served.{JoinServed, BeginServed, StepServed, LeaveServed, ReadServed};
+ghost use Rattle.recovery.specs.Served.{OpenServed, JoinServed, BeginServed, StepServed, LeaveServed, ReadServed, LocateServed};
+use log::Opened;
 use log::Shared;
 use points::Begun;
 use points::Count;
@@ -9,6 +10,12 @@ use points::Joined;
 use points::Left;
 use points::Point;
 use points::Stepped;
+
+pub fn open(image: &[u64], scratch: &mut [u16]) -> Opened
+    ensures { λ r. ⌜ OpenServed one (now (image .entry)) (now (scratch .entry)) r ⌝ }
+{
+    log::open::open(image, scratch)
+}
 
 pub fn join(image: &[u64], shared: Shared, number: u32) -> Joined
     ensures { λ r. ⌜ JoinServed one (now (image .entry)) shared number r ⌝ }
@@ -38,4 +45,10 @@ pub fn read(image: &[u64], shared: Shared, point: Point, offset: usize, buffer: 
     ensures { λ r. ⌜ ReadServed one (now (image .entry)) shared (point .head) (point .table) offset (now (buffer .entry)) r (now (buffer .exit)) ⌝ }
 {
     points::read::read(image, shared, point, offset, buffer)
+}
+
+pub fn locate(image: &[u64], shared: Shared, point: Point, block: usize) -> Count
+    ensures { λ r. ⌜ LocateServed one (now (image .entry)) shared (point .head) (point .table) block r ⌝ }
+{
+    points::locate::locate(image, shared, point, block)
 }
