@@ -36,9 +36,10 @@ pub open-for :
 unfolding OpenServedFor OpenServed
 open-for words scratch r s e f =
     let o = opened one words scratch in
-    let served = open-served words scratch o refl in
-    (λ none. served .0 (done (o .reply) (openRefusal one words scratch) (opened-replies words scratch) (sym (ap (λ (x : Opened). x .refused) e) ∙ none)),
-      served .1 ∙ rw (f, shared-back (o .shared)))
+    let served = open-served words scratch o refl in (
+      λ none. served .0 (done (o .reply) (openRefusal one words scratch) (opened-replies words scratch) (sym (ap (λ (x : Opened). x .refused) e) ∙ none)),
+      served .1 ∙ rw (f, shared-back (o .shared)),
+    )
   where
     done : (r : Reply) (n : ℕ) → r ≡ replyOf n → numberOf r ≡ 0 → r ≡ Done
     done r n e z = let m : n ≡ 0 = sym (number-back n) ∙ ap numberOf (sym e) ∙ z in e ∙ ap replyOf m

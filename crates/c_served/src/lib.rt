@@ -8,7 +8,12 @@ use c_api::Answer;
 use c_api::Count;
 use c_api::Opened;
 
-pub fn open(image: &[u64], scratch: &mut [u16], shared: &mut [u32; 3], taken: &mut [u64; 16]) -> Opened
+pub fn open(
+    image: &[u64],
+    scratch: &mut [u16],
+    shared: &mut [u32; 3],
+    taken: &mut [u64; 16],
+) -> Opened
     ensures { λ r. ⌜ OpenServedFor (now (image .entry)) (now (scratch .entry)) (r .refused) (sharedLent (shared .exit) (taken .exit)) ⌝ }
 {
     c_api::store_lent_open(image, scratch, shared, taken)

@@ -83,8 +83,7 @@ module _ (words : List ℕ) (s : Shared) where
   unfolding LocateServed Answered NoFault locating
   locate-served head table v r e h n at =
       let f = answered one h .1 n (at .isIn) in
-      let safe = rw (at .image, at .shared, at .head-is, at .table-is) at (no-fault one h .2 n v (at .isIn)) in
-      (
+      let safe = rw (at .image, at .shared, at .head-is, at .table-is) at (no-fault one h .2 n v (at .isIn)) in (
         rw (e, number-back (locateRefusal one words s head table v)) safe,
         λ q l k. rw e (rw (at .image, at .shared, at .head-is, at .table-is) at (f .locates v q l k)),
       )
