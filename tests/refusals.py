@@ -1,8 +1,10 @@
-"""What the prover says where it refuses: shared by tests/traps/run and tests/edits/run."""
+"""What the prover says where it refuses: read by tests/traps/run and tests/edits/run."""
 import os
 import re
 
 ERROR = re.compile(r"^(\S+?):(\d+):\d+: (?:error: `([^`]+)`|`([^`]+)` is not admitted)", re.M)
+UNPROVED = re.compile(r"^fn \w+::(?:(\w+(?:::\w+)*)::)?(\w+): no proof: .*; `search` does not close", re.M)
+FIRST = re.compile(r"^(?!.*was not admitted)\S.*(?:: error: |: it is not proved that ).*(?:\n\s.*)*(?:\nnote: what antt said.*(?:\n\s.*)*)?", re.M)
 
 
 def refusals(text, base):
@@ -15,3 +17,14 @@ def refusals(text, base):
         if "was not admitted" not in line and one not in found:
             found.append(one)
     return found
+
+
+def unproved(text):
+    """The functions without a proof file for which the prover finds no proof itself: the file as seen from the crate, the name."""
+    return [("src/{}.rt".format((m.group(1) or "lib").replace("::", "/")), m.group(2)) for m in UNPROVED.finditer(text)]
+
+
+def first_words(text):
+    """All that is said of the first thing that does not hold."""
+    m = FIRST.search(text)
+    return m.group() if m else ""
