@@ -1,5 +1,5 @@
--- Each call for C leaves, its numbers read back, what `serve` says; reading and locating show the book's file. By the definitions of c_api, which are those of `points` in
--- numbers (Back), and by recovery's Served. Assumes nothing.
+-- Each call for C leaves, its numbers read back, what `serve` says; reading and locating show the book's file. By the definitions of c_api, which are
+-- those of `points` in numbers (Back), and by recovery's Served. Assumes nothing.
 use Prim.Native.Nat.{ℕ}
 use mathlib.Core.Path.{_≡_, refl, sym, ap, _∙_}
 use mathlib.Core.Bool.{true}
@@ -50,7 +50,8 @@ module _ (words : List ℕ) (s : SharedLent) where
   join-for number l e =
       let j = joining one words (sharedIn s) number in
       let why = joinRefusal one words (sharedIn s) number in
-      let back : joinedFrom (joinFor words s number) ≡ j = rw (reply-back (j .reply) why (join-replies one words (sharedIn s) number), point-back (j .point)) in
+      let back : joinedFrom (joinFor words s number) ≡ j =
+      rw (reply-back (j .reply) why (join-replies one words (sharedIn s) number), point-back (j .point)) in
       rw e (join-known one words (sharedIn s) number, join-served words (sharedIn s) number _ back)
 
   -- the numbers are a record's
@@ -65,7 +66,8 @@ module _ (words : List ℕ) (s : SharedLent) where
         let b = beginning one words (sharedIn s) (pointIn p) offset bytes in
         let served = pointLeft (b .reply) (b .shared) (b .point) in
         let why = beginRefusal one words (sharedIn s) (headFrom (p .head)) (p .table) offset (length bytes) in
-        let back : begunFrom served ≡ b = rw (reply-back (b .reply) why (begin-replies one words (sharedIn s) (pointIn p) offset bytes), point-back (b .point)) in
+        let back : begunFrom served ≡ b =
+        rw (reply-back (b .reply) why (begin-replies one words (sharedIn s) (pointIn p) offset bytes), point-back (b .point)) in
         rw (e ∙ is-known _ _ known) (
           begin-known one words (sharedIn s) (p .head) (p .table) (p .text) known offset bytes,
           begin-served words (sharedIn s) (pointIn p) offset bytes _ back,
@@ -103,5 +105,6 @@ module _ (words : List ℕ) (s : SharedLent) where
     unfolding LocateServedFor locating
     locate-for block c e known =
         let r = locating one words (sharedIn s) (headFrom (p .head)) (p .table) block in
-        let back : countFrom (countNumbers r) ≡ r = rw (reply-back (r .reply) (locateRefusal one words (sharedIn s) (headFrom (p .head)) (p .table) block) refl) in
+        let why = locateRefusal one words (sharedIn s) (headFrom (p .head)) (p .table) block in
+        let back : countFrom (countNumbers r) ≡ r = rw (reply-back (r .reply) why refl) in
         rw (e ∙ is-known _ _ known) (locate-served words (sharedIn s) (headFrom (p .head)) (p .table) block _ back)

@@ -89,7 +89,8 @@ module _ {E : Edition} {L : List ℕ} (w : W.World) (bk : Book) (h : Tied E L w 
   abbrev block : ℕ → ℕ
   block v = getD (f .table) v 0
 
-  locate-by : (v : ℕ) → v < fileBlocks → locateRefusal E (w .words) (w .shared) (w .newest n .head) (w .newest n .table) v ≡ choose (isZero (block v)) 22 0
+  locate-by : (v : ℕ) → v < fileBlocks
+      → locateRefusal E (w .words) (w .shared) (w .newest n .head) (w .newest n .table) v ≡ choose (isZero (block v)) 22 0
   unfolding locateRefusal
   locate-by v l =
       record-passed w bk h n j (17 when leb fileBlocks v ∷ brokenAhead E (w .words) (w .shared) (w .newest n .head) ∷ 22 when isZero (block v) ∷ [])
@@ -131,7 +132,8 @@ pub answered : (E : Edition) → Answered E
 unfolding Answered Recovery
 answered E h = (
   λ scratch long. let r = recovery E h scratch long in opened-length E (atCut h .words) scratch (r .0) ∙ ap length (r .1),
-  λ p j. subst (ReadsFile E (atCut h) p) (recovery E h enough enough-long .1) (at (atCut h) (ap (λ (w : W.World). world E w (callsBefore h)) (same-start h)) p j),
+  λ p j. subst (ReadsFile E (atCut h) p) (recovery E h enough enough-long .1)
+      (at (atCut h) (ap (λ (w : W.World). world E w (callsBefore h)) (same-start h)) p j),
 )
   where
     there : W.World

@@ -189,7 +189,8 @@ module _ {E : Edition} {L : List ℕ} (w : W.World) (bk : Book) (h : Tied E L w 
   pub call-strange : (c : Call) → byJoined w c ≡ false → isStrange (refusal (serve E w c .event)) ≡ true
   unfolding serve
   call-strange (join n) j = absurd (no-true refl j)
-  call-strange (begin n q o text) j = rw (begin-replies E I s (handed w n q) o text, number-back (beginRefusal E I s (y n q j .head) (y n q j .table) o (length text)))
+  call-strange (begin n q o text) j =
+      rw (begin-replies E I s (handed w n q) o text, number-back (beginRefusal E I s (y n q j .head) (y n q j .table) o (length text)))
       (begin-strange n q j o (length text))
   call-strange (step n q) j = rw (step-answers E I s (handed w n q)) (step-strange n q j)
   call-strange (leave n q) j = rw (leave-replies E I s (handed w n q), number-back (unfit E I s (y n q j .head) (y n q j .table))) (leave-strange n q j)

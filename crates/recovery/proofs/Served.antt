@@ -37,7 +37,8 @@ opened-replies words scratch = go (openRefusal one words scratch) refl
     refused n = record { reply = Refused (suc n); length = 0; entries = 0; free = 0; shared = noShared }
 
     go : (n : ℕ) → openRefusal one words scratch ≡ n → opened one words scratch .reply ≡ replyOf n
-    go zero e = ap (λ (o : Opened). o .reply) (chosen-zero (openRefusal one words scratch) (openedWith one (blockCount one words) (memory one words)) refused e)
+    go zero e =
+        ap (λ (o : Opened). o .reply) (chosen-zero (openRefusal one words scratch) (openedWith one (blockCount one words) (memory one words)) refused e)
     go (suc n) e =
         ap (λ (o : Opened). o .reply) (chosen-suc (openRefusal one words scratch) n (openedWith one (blockCount one words) (memory one words)) refused e)
 
@@ -79,7 +80,8 @@ module _ (words : List ℕ) (s : Shared) where
       let k = rw (at .image, at .shared, at .head-is, at .table-is) at (f .fills offset buffer) in
       (e .count ∙ g, e .bytes ∙ k)
 
-  pub locate-served : (head : Head) (table : List ℕ) (v : ℕ) (r : Count) → r ≡ locating one words s head table v → LocateServed one words s head table v r
+  pub locate-served : (head : Head) (table : List ℕ) (v : ℕ) (r : Count) → r ≡ locating one words s head table v
+      → LocateServed one words s head table v r
   unfolding LocateServed Answered NoFault locating
   locate-served head table v r e h n at =
       let f = answered one h .1 n (at .isIn) in

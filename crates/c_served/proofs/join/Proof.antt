@@ -5,12 +5,16 @@ use Rattle.c_served.proofs.Served.{join-for}
 use Rattle.c_served.proofs.join.Statement.{statement}
 use Rattle.c_served.proofs.join.Tie as tie
 
+-- the way back to what the call is lent
+abbrev start : tie.After-store-lent-join-arg3 → tie.Start
+start c = c .before .before .before .before
+
 store-lent-join-requires : tie.Need-store-lent-join-requires
 store-lent-join-requires c κs = search needs
 
 returns : tie.Need-returns
 returns c =
-    let a = c .before .before .before .before .before .before .before .args in
+    let a = start (c .before .before .before) .args in
     join-for (a .image .now) (sharedLent (a .shared) (a .taken)) (a .number) _ (c .store-lent-join .ensures)
 
 pub join-spec : {M : Type 1} → statement M

@@ -4,6 +4,10 @@ use Rattle.c_served.proofs.Served.{open-for}
 use Rattle.c_served.proofs.open.Statement.{statement}
 use Rattle.c_served.proofs.open.Tie as tie
 
+-- the way back to what the call is lent
+abbrev start : tie.After-store-lent-open → tie.Start
+start c = c .before .before .before .before .before .before
+
 store-lent-open-requires : tie.Need-store-lent-open-requires
 store-lent-open-requires c κs = search needs
 
@@ -12,8 +16,9 @@ same-length c = search needs
 
 returns : tie.Need-returns
 returns c =
-    let a = c .before .before .before .before .before .before .before .before .args in
-    let o = c .before .before .store-lent-open in
+    let s = c .before .before in
+    let a = start s .args in
+    let o = s .store-lent-open in
     open-for (a .image .now) (a .scratch .now) (o .result) _ (o .ensures .0 .answers) (o .ensures .1)
 
 pub open-spec : {M : Type 1} → statement M

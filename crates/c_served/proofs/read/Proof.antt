@@ -14,7 +14,8 @@ same-length c = search needs
 returns : tie.Need-returns
 returns c =
     let a = c .before .before .before .before .before .before .args in
-    read-for (a .image .now) (sharedLent (a .shared) (a .taken)) (textless (a .head) (a .table)) (a .offset) (a .buffer .now) _ (c .before .before .store-lent-read .ensures)
+    read-for (a .image .now) (sharedLent (a .shared) (a .taken)) (textless (a .head) (a .table)) (a .offset) (a .buffer .now)
+    _ (c .before .before .store-lent-read .ensures)
 
 pub read-spec : {M : Type 1} → statement M
 read-spec = tie.close (tie.spec store-lent-read-requires same-length returns)

@@ -5,6 +5,13 @@ use Rattle.c_served.proofs.Served.{step-for}
 use Rattle.c_served.proofs.step.Statement.{statement}
 use Rattle.c_served.proofs.step.Tie as tie
 
+-- the way back: to the call's arguments, and to what it is lent
+abbrev lent : tie.After-store-lent-step → tie.After-store-lent-step-arg4
+lent c = c .before .before .before
+
+abbrev start : tie.After-store-lent-step-arg4 → tie.Start
+start c = c .before .before .before .before .before
+
 store-lent-step-requires : tie.Need-store-lent-step-requires
 store-lent-step-requires c κs = search needs
 
@@ -13,8 +20,9 @@ same-length c = search needs
 
 returns : tie.Need-returns
 returns c =
-    let a = c .before .before .before .before .before .before .before .before .before .before .args in
-    step-for (a .image .now) (sharedLent (a .shared) (a .taken)) (pointLent (a .head) (a .table) (a .text)) _ (c .before .before .store-lent-step .ensures)
+    let s = c .before .before in
+    let a = start (lent s) .args in
+    step-for (a .image .now) (sharedLent (a .shared) (a .taken)) (pointLent (a .head) (a .table) (a .text)) _ (s .store-lent-step .ensures)
 
 pub step-spec : {M : Type 1} → statement M
 step-spec = tie.close (tie.spec store-lent-step-requires same-length returns)
