@@ -51,6 +51,13 @@ static void fault(const char *what, uint32_t number)
     exit(1);
 }
 
+/* A call was refused that should not have been. */
+static void turned_down(const char *what, uint32_t why)
+{
+    printf("%s: %u, %s\n", what, (unsigned)why, store_reason(why));
+    exit(1);
+}
+
 /* Reading `number` of point p. Its first byte is never 0, which tells it from an empty place. */
 static void measure(uint32_t p, uint32_t number, uint8_t text[READING])
 {
@@ -68,36 +75,24 @@ static void make_lasting(size_t word)
     arrived[word] = image[word];
 }
 
-/* Where a step stored its word, if it answered STORE_STORED or STORE_COMMITTED: from the point's numbers before the step and after it. */
-static size_t stored_word(uint32_t kind, const store_head *before, const store_head *after)
-{
-    if (kind == STORE_COMMITTED)
-        return (size_t)STORE_BLOCK_WORDS * before->block + before->slot;
-    if (before->phase != STORE_ZEROING)
-        return (size_t)STORE_BLOCK_WORDS * before->run + after->position - 1;
-    if (before->position < STORE_BLOCK_WORDS)
-        return (size_t)STORE_BLOCK_WORDS * before->zeroing + before->position;
-    return (size_t)STORE_BLOCK_WORDS * before->block;
-}
-
 /* Opens the file, after every reset; all points join. It lays out on order only, never because opening was refused. */
 static store_opened start(void)
 {
     if (new_file_wanted) {
         uint32_t refused = store_lay_out(image, words);
         if (refused != STORE_DONE)
-            fault("laying out was refused", refused);
+            turned_down("laying out was refused", refused);
         for (size_t w = 0; w < 2 * STORE_BLOCK_WORDS; w++)
             make_lasting(w);
         new_file_wanted = 0;
     }
     store_opened opened = store_open(image, words, scratch, STORE_SCRATCH, &shared);
     if (opened.refused != STORE_DONE)
-        fault("the image does not open; save it, call service", opened.refused);
+        turned_down("the image does not open; save it, call service", opened.refused);
     for (uint32_t p = 0; p < count; p++) {
         uint32_t refused = store_join(image, words, &shared, p, &points[p]);
         if (refused != STORE_DONE)
-            fault("joining was refused", refused);
+            turned_down("joining was refused", refused);
     }
     reserved = ((size_t)opened.length + READING - 1) / READING * READING;
     memset(has_place, 0, sizeof has_place);
@@ -137,7 +132,7 @@ static void refused_write(uint32_t p, uint32_t why)
     else if (no_block || why == STORE_PAST_END || why == STORE_LOG_FULL)
         recording = 0; /* the file is full */
     else
-        fault("a write was refused", why);
+        turned_down("a write was refused", why);
 }
 
 static void begin_oldest(uint32_t p)
@@ -151,11 +146,10 @@ static void begin_oldest(uint32_t p)
 
 static void step(uint32_t p)
 {
-    store_head before = points[p].head;
     store_answer answer = store_step(image, words, &shared, &points[p]);
     steps++;
-    if (answer.kind == STORE_STORED || answer.kind == STORE_COMMITTED)
-        make_lasting(stored_word(answer.kind, &before, &points[p].head));
+    if (answer.word != 0)
+        make_lasting(answer.word); /* before anything else is stored */
     if (answer.kind == STORE_COMMITTED) {
         queues[p].stored++; /* acknowledged now, and not before */
         has_place[p] = 0;
@@ -217,7 +211,7 @@ static uint32_t check_file(uint32_t length)
     for (size_t place = 0; place < length; place += READING) {
         store_count got = store_read(image, words, &shared, &points[0], place, text, READING);
         if (got.refused != STORE_DONE || got.count != READING)
-            fault("reading was refused", got.refused);
+            turned_down("reading was refused", got.refused);
         const uint64_t *block = store_view(image, words, &shared, &points[0], place / BLOCK);
         if (memcmp(block ? (const uint8_t *)block + place % BLOCK : none, text, READING) != 0)
             fault("a view shows something else at byte", (uint32_t)place);
@@ -288,6 +282,8 @@ static void run(const char *title)
 
 int main(int argc, char **argv)
 {
+    if (store_version() != STORE_VERSION)
+        fault("header and library differ; the library's version", store_version());
     if (argc > 1)
         count = (uint32_t)strtoul(argv[1], NULL, 10);
     if (count < 1 || count > STORE_POINTS)

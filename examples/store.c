@@ -1,6 +1,6 @@
 /* The controller of a milking parlour keeps the readings of three stalls in one file: a session with a loss of power in it.
 
-   Build it, once `rt staticlib c_api` has made the library:
+   Build it, once `include/build` has made the library:
      cc -std=c99 -O2 -Iinclude examples/store.c target/staticlib/libc_api.a -o store */
 
 #include <stdio.h>
@@ -21,7 +21,7 @@ static store_point points[POINTS];
 static const char *const readings[POINTS] = {"stall 0  11.2 kg  38.4 C", "stall 1   9.8 kg  38.6 C", "stall 2  12.5 kg  38.5 C"};
 static const size_t places[POINTS] = {512, 0, SIZE};
 
-/* Ends the program where something unexpected was answered. */
+/* Ends the program where something unexpected was answered, or a call was refused. */
 static void must(int holds, const char *what)
 {
     if (!holds) {
@@ -30,11 +30,15 @@ static void must(int holds, const char *what)
     }
 }
 
+static void done(uint32_t refused)
+{
+    must(refused == STORE_DONE, store_reason(refused));
+}
+
 /* Begins a write at the point's place. */
 static void begin(unsigned i, const char *text)
 {
-    uint32_t refused = store_begin(image, WORDS, &shared, &points[i], places[i], (const uint8_t *)text, strlen(text));
-    must(refused == STORE_DONE, "a beginning is refused");
+    done(store_begin(image, WORDS, &shared, &points[i], places[i], (const uint8_t *)text, strlen(text)));
 }
 
 /* Makes one step of the point's write; 1 as long as there are more to make. */
@@ -52,7 +56,7 @@ static int step(unsigned i)
         printf("point %u: committed \"%s\", retries %u\n", i, readings[i], (unsigned)answer.value);
         return 0;
     default: /* 20 and 21, a full log or image, have ended the write; after any other refusal the point leaves */
-        must(0, "a step is refused");
+        done(answer.value);
         return 0;
     }
 }
@@ -61,10 +65,10 @@ static int step(unsigned i)
 static store_opened start(void)
 {
     store_opened opened = store_open(image, WORDS, scratch, STORE_SCRATCH, &shared);
-    must(opened.refused == STORE_DONE, "the opening is refused");
+    done(opened.refused);
     printf("opened: %u bytes, %u log entries, %u blocks free\n", (unsigned)opened.length, (unsigned)opened.entries, (unsigned)opened.free);
     for (unsigned i = 0; i < POINTS; i++)
-        must(store_join(image, WORDS, &shared, i, &points[i]) == STORE_DONE, "a joining is refused");
+        done(store_join(image, WORDS, &shared, i, &points[i]));
     return opened;
 }
 
@@ -73,14 +77,15 @@ static void look(void)
 {
     uint16_t rows[STORE_VIRTUAL_BLOCKS];
     store_opened listed = store_list(image, WORDS, scratch, STORE_SCRATCH, rows);
-    must(listed.refused == STORE_DONE, "the listing is refused");
+    done(listed.refused);
     for (unsigned v = 0; v < STORE_VIRTUAL_BLOCKS; v++)
         if (rows[v] != 0)
             printf("block %u of the file is block %u of the image\n", v, (unsigned)rows[v]);
     for (unsigned i = 0; i < POINTS; i++) {
         uint8_t buffer[SIZE];
         store_count bytes = store_read(image, WORDS, &shared, &points[i], places[i], buffer, sizeof buffer);
-        must(bytes.refused == STORE_DONE && bytes.count == SIZE, "a read is refused or short");
+        done(bytes.refused);
+        must(bytes.count == SIZE, "a read is short");
         must(memcmp(buffer, readings[i], SIZE) == 0, "a read shows something else than was committed");
         printf("read: \"%.*s\"\n", SIZE, (const char *)buffer);
     }
@@ -88,7 +93,8 @@ static void look(void)
 
 int main(void)
 {
-    must(store_lay_out(image, WORDS) == STORE_DONE, "the laying out is refused");
+    must(store_version() == STORE_VERSION, "header and library differ in version");
+    done(store_lay_out(image, WORDS));
     store_opened first = start();
     must(first.length == 0 && first.entries == 0, "a file laid out is not empty");
 

@@ -1,7 +1,7 @@
 /* A session file for up to 32 points, in memory that survives loss of power eight bytes at a time.
 
-   The calls of document 01, for C and C++ on x86-64. `include/build` makes the library to link with, target/staticlib/libc_api.a;
-   docs/GUIDE.md shows how firmware uses it.
+   For C and C++ on x86-64. `include/build` makes the library to link with, target/staticlib/libc_api.a. docs/GUIDE.md shows how
+   firmware uses it; docs/RULES.md says of each call, to the last number, what it answers and leaves; docs/FORMAT.md what an image holds.
 
    What is lent. Each call is lent memory of the caller: the image, and the records beside it. It keeps no pointer, allocates
    nothing, takes no lock, and touches nothing outside what it is lent. The numbers in that memory, in image, records and arguments,
@@ -13,10 +13,9 @@
      - no other thread and no interrupt handler uses that memory while the call runs. Points share one image and one shared record, so
        one call at a time for a file; between two calls anything may happen, loss of power included.
 
-   What is answered. A refusal is the number that document 01 lists for the first fault, by name below; 0 is no refusal. A call that
-   is refused leaves image and records as they were, a write under way too, with these exceptions: STORE_LOG_FULL and
-   STORE_NO_LOG_BLOCK end the write; a refused opening makes a shared record of zeros, a refused joining a point's record of zeros.
-   Only store_lay_out and store_step write to the image, and store_step stores at most one word. */
+   What is answered. A refusal is the number of the first fault, by name below; 0 is no refusal. A call that is refused leaves image
+   and records as they were, a write under way too, with these exceptions: STORE_LOG_FULL and STORE_NO_LOG_BLOCK end the write; a
+   refused opening makes a shared record of zeros, a refused joining a point's record of zeros. Only store_lay_out and store_step write to the image, and store_step stores at most one word. */
 
 #ifndef STORE_H
 #define STORE_H
@@ -40,32 +39,67 @@ enum {
     STORE_POINTS = 32          /* points, numbered 0 to 31 */
 };
 
-/* Why a call is refused. */
+/* The version of this header: it rises when a call, a record or the image changes. A program compares it with what the library that
+   it is linked with answers, before any other call: a library of another version may take its records for something else. */
+enum { STORE_VERSION = 1 };
+uint32_t store_version(void);
+
+/* Why a call is refused; store_reason has a sentence for each. */
 enum {
     STORE_DONE = 0,
-    STORE_IMAGE_SIZE = 1,         /* no multiple of 64 words, or not 4 to 1,024 blocks */
-    STORE_SCRATCH_SHORT = 2,      /* the scratch is shorter than 1,024 numbers */
-    STORE_SUPERBLOCK_WRONG = 3,   /* a wrong mark, or a word after word 1 that is not 0 */
-    STORE_LOG_INDEX_OUTSIDE = 4,  /* the first log index is 0, or an index of the chain lies outside the image */
-    STORE_CHAIN_ENDLESS = 5,      /* the chain has not ended after 64 log blocks */
-    STORE_LOG_BLOCK_WRONG = 6,    /* word 1 not 0, an entry after an empty one, or a next index though not full */
-    STORE_ENTRY_WRONG = 7,        /* an entry breaks the entry's rules */
-    STORE_BLOCK_SHARED = 8,       /* two virtual blocks share a block, or one is a log block */
-    STORE_END_NOT_ZERO = 9,       /* a byte at or past the file's end in its last block is not 0 */
-    STORE_SHARED_UNFIT = 10,      /* the shared record's block count or next place does not fit the image */
-    STORE_RECORD_UNFIT = 11,      /* the point's record does not fit; also a phase above 5, or retries above 65,535 */
-    STORE_NUMBER_ABOVE = 12,      /* the point number is above 31 */
+    STORE_IMAGE_SIZE = 1,
+    STORE_SCRATCH_SHORT = 2,
+    STORE_SUPERBLOCK_WRONG = 3,
+    STORE_LOG_INDEX_OUTSIDE = 4,
+    STORE_CHAIN_ENDLESS = 5,
+    STORE_LOG_BLOCK_WRONG = 6,
+    STORE_ENTRY_WRONG = 7,
+    STORE_BLOCK_SHARED = 8,
+    STORE_END_NOT_ZERO = 9,
+    STORE_SHARED_UNFIT = 10,
+    STORE_RECORD_UNFIT = 11,
+    STORE_NUMBER_ABOVE = 12,
     STORE_ALREADY_JOINED = 13,
     STORE_NOT_JOINED = 14,
-    STORE_WRONG_PHASE = 15,       /* beginning with a write under way, or stepping with none */
-    STORE_TEXT_SIZE = 16,         /* the text has 0 or more than 1,024 bytes */
-    STORE_PAST_END = 17,          /* the write ends past byte 131,072; the block is above 255 */
-    STORE_LOG_BROKEN = 18,        /* an entry or an index of the log, met while catching up, is wrong */
-    STORE_NO_RUN = 19,            /* no run of so many free blocks */
-    STORE_LOG_FULL = 20,          /* 64 log blocks are full; the write is ended */
-    STORE_NO_LOG_BLOCK = 21,      /* a log block is needed and none is free; the write is ended */
-    STORE_NOT_MAPPED = 22         /* nothing is mapped there */
+    STORE_WRONG_PHASE = 15,
+    STORE_TEXT_SIZE = 16,
+    STORE_PAST_END = 17,
+    STORE_LOG_BROKEN = 18,
+    STORE_NO_RUN = 19,
+    STORE_LOG_FULL = 20,
+    STORE_NO_LOG_BLOCK = 21,
+    STORE_NOT_MAPPED = 22
 };
+
+static inline const char *store_reason(uint32_t number)
+{
+    static const char *const reasons[] = {
+        "not refused",
+        "the image is no multiple of 64 words, or not 4 to 1,024 blocks long",
+        "the scratch is shorter than 1,024 numbers",
+        "the superblock has a wrong mark, or a word after word 1 that is not 0",
+        "the first log index is 0, or an index of the log chain lies outside the image",
+        "the log chain has not ended after 64 log blocks",
+        "a log block has a word 1 that is not 0, an entry after an empty one, or a next index though it is not full",
+        "an entry of the log breaks the rules of entries",
+        "two blocks of the file share a block of the image, or one is a log block",
+        "a byte at or past the file's end in its last block is not 0",
+        "the shared record's block count or next place does not fit the image",
+        "the point's record does not fit",
+        "the point number is above 31",
+        "the point is joined already",
+        "the point is not joined",
+        "a write was begun with one under way, or a step made with none",
+        "the text has 0 or more than 1,024 bytes",
+        "the write ends past byte 131,072, or the block asked for is above 255",
+        "the log, read on, has a wrong entry or index, or more than 64 log blocks",
+        "no run of so many free blocks",
+        "64 log blocks are full; the write is ended",
+        "a log block is needed and none is free; the write is ended",
+        "nothing is mapped there",
+    };
+    return number < sizeof reasons / sizeof reasons[0] ? reasons[number] : "no number of a refusal";
+}
 
 /* What a step answers. */
 enum {
@@ -118,9 +152,11 @@ typedef struct store_opened {
     uint32_t refused, length, entries, free;
 } store_opened;
 
-/* What a step answers: one of the five, and its value, 0 for the first three. */
+/* What a step answers: one of the five; its value, 0 for the first three; and which word of the image it stored, 0 for none: a step
+   never stores word 0. Where the image is cached, image[word] is what has to be written back. */
 typedef struct store_answer {
     uint32_t kind, value;
+    size_t word;
 } store_answer;
 
 /* What reading and locating answer. */
@@ -128,8 +164,8 @@ typedef struct store_count {
     uint32_t refused, count;
 } store_count;
 
-/* The functions that the library exports, besides store_lay_out and store_list. The calls below hand them the parts of both
-   records: the three numbers of the shared record and its map; the twelve numbers of a point's record, its table and its text. */
+/* The functions that the library exports, besides store_version, store_lay_out and store_list. The calls below hand them the parts
+   of both records: the three numbers of the shared record and its map; the twelve numbers of a point's record, its table and its text. */
 store_opened store_lent_open(const uint64_t *image, size_t words, uint16_t *scratch, size_t places, uint32_t *shared,
                              uint64_t *taken);
 uint32_t store_lent_join(const uint64_t *image, size_t words, uint32_t *shared, uint64_t *taken, uint32_t number, uint32_t *head,

@@ -47,7 +47,7 @@ uint32_t start(size_t count, uint32_t number)
 
 store_answer steps(store_point *point, size_t most)
 {
-    store_answer answer = {STORE_REFUSED, 0};
+    store_answer answer = {STORE_REFUSED, 0, 0};
     for (size_t i = 0; i < most; i++) {
         answer = step(point);
         if (answer.kind == STORE_COMMITTED || answer.kind == STORE_REFUSED)

@@ -129,7 +129,7 @@ void run_honest(void)
 /* Finishes a write, but moves it on to its last two words where it begins to fill or refill: that keeps the trace short. */
 static void hurry(store_point *point)
 {
-    for (store_answer answer = {STORE_MOVED, 0}; answer.kind != STORE_COMMITTED && answer.kind != STORE_REFUSED; answer = step(point))
+    for (store_answer answer = {STORE_MOVED, 0, 0}; answer.kind != STORE_COMMITTED && answer.kind != STORE_REFUSED; answer = step(point))
         if (answer.kind == STORE_MOVED)
             point->head.position = 62;
 }

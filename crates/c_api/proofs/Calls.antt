@@ -3,10 +3,11 @@ use Prim.Native.Nat.{ℕ}
 use mathlib.Core.Path.{_≡_, refl, sym, _∙_, ap}
 use mathlib.Core.Bool.{Bool, true, false, not}
 use mathlib.Core.List.{List}
+use mathlib.Core.Option.{Option}
 use lib.ListN.{length}
 use borrow.Author.Tests.{not-true, not-false}
 use Rattle.words.specs.Edition.{one}
-use Rattle.words.specs.Memory.{after}
+use Rattle.words.specs.Memory.{Store, after}
 use Rattle.words.proofs.Choice.{choose-true, choose-false}
 use Rattle.log.specs.declared.Shared.{Shared}
 use Rattle.log.specs.Opening.{numberOf}
@@ -21,9 +22,10 @@ use Rattle.points.specs.declared.LentBegun.{LentBegun}
 use Rattle.points.specs.declared.LentStepped.{LentStepped}
 use Rattle.points.specs.Record.{badShared, pointOf}
 use Rattle.points.specs.Calls.{joining, beginning, leaving}
-use Rattle.points.specs.Stepping.{stepping, StepLeaves}
+use Rattle.points.specs.Plan.{storedAt}
+use Rattle.points.specs.Stepping.{stepping}
 use Rattle.points.specs.Search.{sharedOf, withNext}
-use Rattle.points.specs.Lent.{begunOf, steppedOf}
+use Rattle.points.specs.Lent.{StepTells, begunOf, steppedOf}
 use Rattle.points.specs.Reading.{reading, bufferAfter, locating}
 use Rattle.c_api.specs.declared.Answer.{Answer}
 use Rattle.c_api.specs.declared.Count.{Count}
@@ -77,17 +79,18 @@ module _ (words : List ℕ) (s : SharedLent) (p : PointLent) where
 
     pub step-known :
         (lead : Numbers) → lead ≡ leadFrom (s .numbers) → (y : LentStepped) (taken table text image : List ℕ)
-        → StepLeaves words (sharedOf lead (s .taken)) (pointOf h (p .table) (p .text)) (steppedOf lead y taken table text) image
-        → (a : Answer) → a ≡ answerNumbers (y .step)
+        → StepTells words (sharedOf lead (s .taken)) (pointOf h (p .table) (p .text)) (steppedOf lead y taken table text) image (y .word)
+        → (a : Answer) → a ≡ answerNumbers (y .step) (y .word)
         → (xs hs : List ℕ) → xs ≡ leadNumbers (withNext lead (y .next)) → hs ≡ headNumbers (y .head)
         → stepLeft a image (lentAs xs taken) (pointAs hs table text) ≡ stepFor words s p
     step-known lead el y taken table text image e a ea xs hs ex eh′ =
-        rw (ea, ex, eh′, e .stored) (ap left-by (e .answers) ∙ rw (el, eh) (is-known _ _))
+        rw (ea, ex, eh′, e .place, e .leaves .stored) (ap left-by (e .leaves .answers) ∙ rw (el, eh) (is-known _ _))
       where
+        store : Option Store
+        store = stepping one words (sharedOf lead (s .taken)) (pointOf h (p .table) (p .text)) .store
+
         left-by : Stepped → StepLeft
-        left-by x =
-            stepLeft (answerNumbers (x .step)) (after one words (stepping one words (sharedOf lead (s .taken)) (pointOf h (p .table) (p .text)) .store))
-            (lendShared (x .shared)) (lendPoint (x .point))
+        left-by x = stepLeft (answerNumbers (x .step) (storedAt one store)) (after one words store) (lendShared (x .shared)) (lendPoint (x .point))
 
     module _ (x : Shared) (ex : x ≡ sharedIn s) where
       pub begin-known :

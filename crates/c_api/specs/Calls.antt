@@ -14,6 +14,7 @@ use Rattle.points.specs.declared.Point.{Point}
 use Rattle.points.specs.declared.StepAnswer.the-variants.{Refused}
 use Rattle.points.specs.Record.{badShared}
 use Rattle.points.specs.Calls.{joining, beginning, leaving}
+use Rattle.points.specs.Plan.{storedAt}
 use Rattle.points.specs.Stepping.{stepping}
 use Rattle.points.specs.Reading.{reading, bufferAfter, locating}
 use Rattle.c_api.specs.declared.Opened.{Opened}
@@ -103,8 +104,9 @@ module _ (words : List ℕ) (s : SharedLent) (p : PointLent) where
   abbrev pub stepFor : StepLeft
   stepFor =
       let o = stepping one words (sharedIn s) (pointIn p) in
-      ifKnown (stepLeft (answerNumbers (o .step)) (after one words (o .store)) (lendShared (o .shared)) (lendPoint (o .point)))
-      (λ n. stepLeft (answerNumbers (Refused n)) words s p)
+      let answer = answerNumbers (o .step) (storedAt one (o .store)) in
+      ifKnown (stepLeft answer (after one words (o .store)) (lendShared (o .shared)) (lendPoint (o .point)))
+      (λ n. stepLeft (answerNumbers (Refused n) 0) words s p)
 
   abbrev pub leaveFor : SharedLeft
   leaveFor =

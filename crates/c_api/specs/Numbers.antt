@@ -20,8 +20,13 @@ use Rattle.c_api.specs.declared.Opened.{Opened}
 use Rattle.c_api.specs.declared.Answer.{Answer}
 use Rattle.c_api.specs.declared.Count.{Count}
 
-abbrev pub answerNumbers : StepAnswer → Answer
-answerNumbers step = record { kind = stepKind step; value = stepValue step }
+-- the version of the C interface and the format: it rises when either changes
+abbrev pub version : ℕ
+version = 1
+
+-- a step's answer, and which word of the image was stored, 0 for none
+abbrev pub answerNumbers : StepAnswer → ℕ → Answer
+answerNumbers step word = record { kind = stepKind step; value = stepValue step; word = word }
 
 abbrev pub openedNumbers : log.Opened → Opened
 openedNumbers o = record { refused = numberOf (o .reply); length = o .length; entries = o .entries; free = o .free }

@@ -4,7 +4,7 @@ ghost use mathlib.Core.Path.{_≡_};
 ghost use Rattle.words.specs.Edition.{one};
 ghost use Rattle.log.specs.Opening.{layoutRefusal, layout};
 ghost use Rattle.log.specs.Listing.{rowsOf};
-ghost use Rattle.c_api.specs.Numbers.{sharedLent, pointLent, textless};
+ghost use Rattle.c_api.specs.Numbers.{version, sharedLent, pointLent, textless};
 ghost use Rattle.c_api.specs.Calls.{OpensFor, left, stepLeft, sharedLeft, readLeft};
 ghost use Rattle.c_api.specs.Calls.{sharedFor, joinFor, beginFor, stepFor, leaveFor, readFor, locateFor};
 use points::StepAnswer;
@@ -18,11 +18,12 @@ pub struct Opened {
     pub free: u32,
 }
 
-// Which answer of a step it is, and its value.
+// Which answer of a step it is, its value, and which word of the image was stored, 0 for none.
 #[repr(C)]
 pub struct Answer {
     pub kind: u32,
     pub value: u32,
+    pub word: usize,
 }
 
 // What reading and locating answer.
@@ -33,6 +34,14 @@ pub struct Count {
 }
 
 pub mod numbers;
+
+// The version of the library: that of the header it is for.
+#[no_mangle]
+pub extern "C" fn store_version() -> u32
+    ensures { λ r. ⌜ r ≡ version ⌝ }
+{
+    1
+}
 
 #[no_mangle]
 pub extern "C" fn store_lay_out(image: &mut [u64]) -> u32
@@ -145,7 +154,7 @@ pub extern "C" fn store_lent_step(
         ≡ stepFor (now (image .entry)) (sharedLent (shared .entry) (taken .entry)) (pointLent (head .entry) (table .entry) (text .entry)) ⌝ }
 {
     if !numbers::is_known(head) {
-        return numbers::of_step(StepAnswer::Refused(numbers::unknown(image, shared)));
+        return numbers::of_step(StepAnswer::Refused(numbers::unknown(image, shared)), 0);
     }
     let mut lead = numbers::lead(shared);
     let stepped = points::step::step_lent(image, lead, taken, numbers::head(head), table, text);
@@ -154,7 +163,7 @@ pub extern "C" fn store_lent_step(
     lead.next = stepped.next;
     *shared = numbers::of_lead(lead);
     *head = numbers::of_head(left);
-    numbers::of_step(step)
+    numbers::of_step(step, stepped.word)
 }
 
 #[no_mangle]

@@ -50,12 +50,13 @@ fn value(step: StepAnswer) -> u32
     }
 }
 
-pub(crate) fn of_step(step: StepAnswer) -> Answer
-    ensures { λ r. ⌜ r ≡ answerNumbers step ⌝ }
+pub(crate) fn of_step(step: StepAnswer, word: usize) -> Answer
+    ensures { λ r. ⌜ r ≡ answerNumbers step word ⌝ }
 {
     Answer {
         kind: kind(step),
         value: value(step),
+        word,
     }
 }
 

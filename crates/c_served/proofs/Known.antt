@@ -85,7 +85,7 @@ module _ (E : Edition) (I : List ℕ) (s : Shared) where
         go zero e = subst FewIn (sym (goes-on E I s p e)) (each-plan E (memory E I) s p FewIn (record {
           fills = λ k. few;
           commits = omega arith;
-          zeroes = few;
+          zeroes = λ z. few;
           links = few;
           gives-back = omega arith;
           extends = λ b. few;

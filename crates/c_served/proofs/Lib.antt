@@ -2,4 +2,5 @@
 -- Served: so each call for C leaves what `serve` says.
 pub mod Back
 pub mod Known
+pub mod Told
 pub mod Served

@@ -13,9 +13,10 @@ use Rattle.log.specs.declared.Reply.the-variants.{Done}
 use Rattle.log.specs.Opening.{openRefusal, opened, replyOf, numberOf}
 use Rattle.points.specs.Record.{pointOf, unfit}
 use Rattle.points.specs.Calls.{joinRefusal, joining, beginRefusal, beginning, leaving}
-use Rattle.points.specs.Plan.{answered}
+use Rattle.points.specs.Plan.{answered, storedAt}
 use Rattle.points.specs.Stepping.{stepping}
 use Rattle.points.specs.Reading.{readRefusal, reading, locateRefusal, locating}
+use Rattle.points.proofs.StoredAt.{told-none}
 use Rattle.points.proofs.Replies.{number-back, join-replies, begin-replies, leave-replies}
 use Rattle.recovery.proofs.Served.{open-served, opened-replies, join-served, begin-served, step-served, leave-served, read-served, locate-served}
 use Rattle.recovery.specs.Served.{OpenServed}
@@ -28,6 +29,7 @@ use Rattle.c_api.specs.Calls.{sharedFor, joinFor, beginFor, stepFor, leaveFor, 
 use Rattle.c_served.specs.Served.{joinedFrom, begunFrom, steppedFrom, leftFrom, countFrom}
 use Rattle.c_served.specs.Served.{OpenServedFor, JoinServedFor, BeginServedFor, StepServedFor, LeaveServedFor, ReadServedFor, LocateServedFor}
 use Rattle.c_served.proofs.Back.{is-answer, answer-back, reply-back, shared-back, point-back}
+use Rattle.c_served.proofs.Told.{tells-store}
 use Rattle.c_served.proofs.Known.{join-known, begin-known, step-known}
 
 pub open-for :
@@ -77,11 +79,13 @@ module _ (words : List ℕ) (s : SharedLent) where
     unfolding StepServedFor
     step-for l e known =
         let o = stepping one words (sharedIn s) (pointIn p) in
-        let served = stepLeft (answerNumbers (o .step)) (after one words (o .store)) (lendShared (o .shared)) (lendPoint (o .point)) in
+        let answer = answerNumbers (o .step) (storedAt one (o .store)) in
+        let served = stepLeft answer (after one words (o .store)) (lendShared (o .shared)) (lendPoint (o .point)) in
         let back : steppedFrom served ≡ answered o = rw (answer-back (o .step), point-back (o .point)) in
         rw (e ∙ is-known _ _ known) (
           step-known one words (sharedIn s) (p .head) (p .table) (p .text) known,
           is-answer (o .step),
+          tells-store words (o .store) (told-none one words (sharedIn s) (pointIn p)),
           step-served words (sharedIn s) (pointIn p) _ _ back refl,
         )
 

@@ -5,6 +5,7 @@ use Prim.Native.Nat.{ℕ, zero, suc}
 use mathlib.Core.Path.{_≡_}
 use mathlib.Core.Bool.{Bool, true}
 use mathlib.Core.List.{List}
+use lib.ListN.{getD, set}
 use Rattle.words.specs.Edition.{one}
 use Rattle.words.specs.Logic.{between}
 use Rattle.log.specs.Opening.{replyOf, openRefusal}
@@ -52,6 +53,11 @@ leftFrom l = record { reply = replyOf (l .refused); shared = sharedIn (l .shared
 abbrev pub countFrom : Count → counted.Count
 countFrom c = record { reply = replyOf (c .refused); count = c .count }
 
+-- the word that a step tells is its one store: no other word of the image changes, and none at all where it tells 0
+pub record TellsStore (words image : List ℕ) (word : ℕ) : Type 0 where
+  pub only : image ≡ set words word (getD image word 0)
+  pub none : word ≡ 0 → image ≡ words
+
 -- ---- the calls
 
 -- the shared record that opening makes
@@ -71,7 +77,7 @@ module _ (words : List ℕ) (s : SharedLent) where
     unfoldable pub StepServedFor : StepLeft → Type 0
     StepServedFor l =
         isKnown (p .head) ≡ true
-        → (isKnown (l .point .head) ≡ true) × (isAnswer (l .answer .kind) ≡ true)
+        → (isKnown (l .point .head) ≡ true) × (isAnswer (l .answer .kind) ≡ true) × TellsStore words (l .image) (l .answer .word)
         × StepServed one words (sharedIn s) (pointIn p) (steppedFrom l) (l .image)
 
     -- leaving, reading and locating are lent no text: the record's may be any

@@ -113,14 +113,15 @@ word-from-put E words b i value = rw (from-block E b i)
 
 pub carried-out :
     (E : Edition) (m : Memory) (n : Numbers) (taken : List ℕ) (plan : Plan) (p : Point) (h : Head)
-    (released taken′ table text : List ℕ) (next length : ℕ)
+    (released taken′ table text : List ℕ) (next length word : ℕ)
     → released ≡ freed (plan .frees) E taken (p .head .write) (p .table)
     → sharedOf (withNext n next) taken′ ≡ takingOne (sharedOf n released) (plan .takes)
     → record { table = table; size = length } ≡ readIn (plan .reads) E m (n .blocks) (p .head .place) (plan .value) (fileAt (p .head) (p .table))
     → text ≡ textAfter (plan .clears) (p .text) → h ≡ standing (p .head) length (plan .place) (plan .write)
-    → steppedOf n (record { step = plan .step; next = next; head = h }) taken′ table text ≡ answered (carriedOut E m (sharedOf n taken) p plan)
+    → steppedOf n (record { step = plan .step; next = next; head = h; word = word }) taken′ table text
+    ≡ answered (carriedOut E m (sharedOf n taken) p plan)
 unfolding carriedOut
-carried-out E m n taken plan p h released taken′ table text next length r k f t e = rw (e, t, k, r) (ap left-by f)
+carried-out E m n taken plan p h released taken′ table text next length word r k f t e = rw (e, t, k, r) (ap left-by f)
   where
     left-by : Mapped → Stepped
     left-by g =

@@ -3,12 +3,13 @@ use Prim.Native.Nat.{ℕ, zero, suc, _+_, _-_, _≤_, _<_}
 use mathlib.Core.Path.{_≡_}
 use mathlib.Core.Bool.{Bool, true, false, _&&_}
 use mathlib.Core.List.{List, [], _∷_, _++_}
+use mathlib.Core.Option.{Option}
 use lib.ListN.{getD}
 use lib.Dec.{leb, ltb}
 use Rattle.words.specs.Edition.{Edition, one, blocksMax, fileBlocks, fileEnd}
 use Rattle.words.specs.Logic.{first, _when_}
 use Rattle.words.specs.Word.{byteOf}
-use Rattle.words.specs.Memory.{Memory, memory, blockAt}
+use Rattle.words.specs.Memory.{Memory, Store, memory, blockAt, after}
 use Rattle.log.specs.declared.Shared.{Shared}
 use Rattle.log.specs.declared.Place.{Place}
 use Rattle.log.specs.Entry.{legal}
@@ -29,7 +30,8 @@ use Rattle.points.specs.declared.plan.Frees.the-variants.{NoBlock, Run, 
 use Rattle.points.specs.declared.plan.Plan.{Plan}
 use Rattle.points.specs.Record.{textMax, runFirst, runBlocks, runWords, pointOf, recordReasons, brokenAhead}
 use Rattle.points.specs.Search.{sharedOf, withNext}
-use Rattle.points.specs.Stepping.{stepRefusal}
+use Rattle.points.specs.Plan.{storedAt}
+use Rattle.points.specs.Stepping.{stepRefusal, stepping, StepLeaves}
 use Rattle.points.specs.Reading.{seen}
 
 -- ---- answers: the record is the head that is answered, with the arrays as they are left
@@ -41,6 +43,16 @@ begunOf left table text = record { reply = left .reply; shared = left .shared; p
 abbrev pub steppedOf : Numbers → LentStepped → List ℕ → List ℕ → List ℕ → Stepped
 steppedOf n left taken table text =
     record { step = left .step; shared = sharedOf (withNext n (left .next)) taken; point = pointOf (left .head) table text }
+
+-- the image after a store, if there is one, and which word of it was stored
+pub record Stores (words : List ℕ) (store : Option Store) (image : List ℕ) (word : ℕ) : Type 0 where
+  pub stored : image ≡ after one words store
+  pub place : word ≡ storedAt one store
+
+-- what a step leaves, and which word of the image it stored
+pub record StepTells (words : List ℕ) (s : Shared) (p : Point) (answer : Stepped) (image : List ℕ) (word : ℕ) : Type 0 where
+  pub leaves : StepLeaves words s p answer image
+  pub place : word ≡ storedAt one (stepping one words s p .store)
 
 -- ---- plans
 

@@ -1,5 +1,5 @@
 -- A plan: what a step is to do, a field for each thing, settled before anything changes; and what carrying it out leaves.
-use Prim.Native.Nat.{ℕ, _+_, _/_, _%_}
+use Prim.Native.Nat.{ℕ, _+_, _*_, _/_, _%_}
 use mathlib.Core.Bool.{Bool, true, false}
 use mathlib.Core.List.{List}
 use mathlib.Core.Option.{Option, none, some}
@@ -104,6 +104,11 @@ stores Link = true
 
 abbrev pub storeOf : Edition → Kind → ℕ → ℕ → ℕ → Option Store
 storeOf E kind block word value = elim (stores kind) [ true ↦ some (wordFrom E block word value) | false ↦ none ]
+
+-- which word of the image is stored, counted from the image's first; 0 where none is, since no step stores into block 0
+unfoldable pub storedAt : Edition → Option Store → ℕ
+storedAt E none = 0
+storedAt E (some s) = s .block * E .blockWords + s .word
 
 -- ---- carrying it out
 

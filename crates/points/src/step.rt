@@ -3,13 +3,13 @@ ghost use mathlib.Core.Path.{_≡_};
 ghost use mathlib.Core.Bool.{true, false};
 ghost use Prim.Native.Nat.{_<_};
 ghost use Rattle.words.specs.Edition.{one};
-ghost use Rattle.words.specs.Memory.{memory, after};
+ghost use Rattle.words.specs.Memory.{memory};
 ghost use Rattle.log.specs.declared.Shared.{Shared};
 ghost use Rattle.points.specs.Record.{runWords, isZeroing, pointOf};
 ghost use Rattle.points.specs.Search.{sharedOf};
 ghost use Rattle.points.specs.Plan.{readIn, textAfter, stores, storeOf};
 ghost use Rattle.points.specs.Stepping.{fill, filling, writeOn, planned, StepLeaves};
-ghost use Rattle.points.specs.Lent.{Plans, Readable, StepsOn, TextFits, steppedOf};
+ghost use Rattle.points.specs.Lent.{Plans, Readable, StepsOn, TextFits, Stores, StepTells, steppedOf};
 use crate::Head;
 use crate::LentStepped;
 use crate::Numbers;
@@ -141,12 +141,15 @@ fn stores(kind: Kind) -> bool
 }
 
 // The one store of a step, if it has one: the image is lent on as a mutable part that begins at the plan's block, for filling at the run's first word.
-fn store(image: &mut [u64], kind: Kind, block: u32, word: u32, value: u64)
-    ensures { λ _. ⌜ now (image .exit) ≡ after one (now (image .entry)) (storeOf one kind block word value) ⌝ }
+// Answers which word of the image it was, 0 for none.
+fn store(image: &mut [u64], kind: Kind, block: u32, word: u32, value: u64) -> usize
+    ensures { λ r. ⌜ Stores (now (image .entry)) (storeOf one kind block word value) (now (image .exit)) r ⌝ }
 {
     if stores(kind) {
         words::image::store(image, block as usize, word as usize, value);
+        return block as usize * 64 + word as usize;
     }
+    0
 }
 
 // A step of a write, with the shared record's map and the record's table and text lent.
@@ -158,8 +161,8 @@ pub fn step_lent(
     table: &mut [u16; 256],
     text: &mut [u8; 1024],
 ) -> LentStepped
-    ensures { λ r. ⌜ StepLeaves (now (image .entry)) (sharedOf numbers (now (taken .entry))) (pointOf head (now (table .entry)) (now (text .entry)))
-        (steppedOf numbers r (now (taken .exit)) (now (table .exit)) (now (text .exit))) (now (image .exit)) ⌝ }
+    ensures { λ r. ⌜ StepTells (now (image .entry)) (sharedOf numbers (now (taken .entry))) (pointOf head (now (table .entry)) (now (text .entry)))
+        (steppedOf numbers r (now (taken .exit)) (now (table .exit)) (now (text .exit))) (now (image .exit)) (r .word) ⌝ }
 {
     let plan = settle(image, numbers, taken, head, table, text);
     let frees = plan.frees;
@@ -177,13 +180,14 @@ pub fn step_lent(
     );
     keep_text(text, plan.clears);
     let kind = plan.kind;
-    store(image, kind, plan.block, plan.word, plan.value);
+    let word = store(image, kind, plan.block, plan.word, plan.value);
     let left = crate::plan::head_of(head.number, length, plan.place, plan.write);
     let answer = plan.step;
     LentStepped {
         step: answer,
         next,
         head: left,
+        word,
     }
 }
 

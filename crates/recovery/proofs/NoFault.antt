@@ -68,7 +68,7 @@ unfolding fill commit zeroOut link giveBack extend giveUp
 write-safe E m s p sound = each-plan E m s p SafePlan (record {
   fills = λ k. refl;
   commits = refl;
-  zeroes = refl;
+  zeroes = λ z. refl;
   links = refl;
   gives-back = refl;
   extends = λ b. refl;

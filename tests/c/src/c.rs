@@ -51,6 +51,7 @@ pub struct Opened {
 pub struct Answer {
     pub kind: u32,
     pub value: u32,
+    pub word: usize,
 }
 
 #[repr(C)]
@@ -69,7 +70,7 @@ const _: () = {
     );
     assert!(size_of::<Head>() == 48 && align_of::<Head>() == 4 && offset_of!(Head, retries) == 44);
     assert!(size_of::<Point>() == 1_584 && offset_of!(Point, table) == 48 && offset_of!(Point, text) == 560);
-    assert!(size_of::<Opened>() == 16 && size_of::<Answer>() == 8 && size_of::<Count>() == 8);
+    assert!(size_of::<Opened>() == 16 && size_of::<Answer>() == 16 && size_of::<Count>() == 8);
 };
 
 /// What a step answers.

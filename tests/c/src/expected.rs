@@ -6,7 +6,7 @@ use second::image::lay_out as second_lay_out;
 use second::open::{open as second_open, show};
 use second::record::{self, Phase, Record};
 use second::refusal::{refuse, Refusal};
-use second::step::{step as second_step, Answer as StepAnswer};
+use second::step::{settle, step as second_step, Answer as StepAnswer};
 
 use crate::c::*;
 
@@ -148,8 +148,9 @@ pub fn begin(image: &[u64], shared: &mut Shared, point: &mut Point, offset: usiz
 pub fn step(image: &mut [u64], shared: &mut Shared, point: &mut Point) -> Answer {
     let record = match record_of(image.len(), shared, point) {
         Ok(record) => record,
-        Err(why) => return Answer { kind: REFUSED, value: number(why) },
+        Err(why) => return Answer { kind: REFUSED, value: number(why), word: 0 },
     };
+    let store = settle(image, &shared_of(shared), &record).ok().and_then(|settled| settled.store);
     let (answer, after, record) = second_step(image, &shared_of(shared), &record);
     *shared = c_shared(&after);
     *point = c_point(&record);
@@ -160,7 +161,7 @@ pub fn step(image: &mut [u64], shared: &mut Shared, point: &mut Point) -> Answer
         StepAnswer::Committed(retries) => (COMMITTED, u32::from(retries)),
         StepAnswer::Refused(why) => (REFUSED, number(why)),
     };
-    Answer { kind, value }
+    Answer { kind, value, word: store.map_or(0, |(place, _)| place) }
 }
 
 pub fn leave(image: &[u64], shared: &mut Shared, point: &Point) -> u32 {

@@ -40,9 +40,10 @@ PLACE_IS(store_opened, length, 4, 4);
 PLACE_IS(store_opened, entries, 4, 8);
 PLACE_IS(store_opened, free, 4, 12);
 
-SIZE_IS(store_answer, 8, 4);
+SIZE_IS(store_answer, 16, 8);
 PLACE_IS(store_answer, kind, 4, 0);
 PLACE_IS(store_answer, value, 4, 4);
+PLACE_IS(store_answer, word, 8, 8);
 
 SIZE_IS(store_count, 8, 4);
 PLACE_IS(store_count, refused, 4, 0);

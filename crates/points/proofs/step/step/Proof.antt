@@ -32,7 +32,7 @@ returns c =
     let n = numbered (lent s) in
     let a = n .before .before .args in
     whole-step (a .image .now) (a .shared) (a .point) (n .numbers .result) (s .step-lent .result) _ _ _ _ (c .with-map .result)
-    (n .numbers .ensures) (c .with-map .ensures) (s .step-lent .ensures)
+    (n .numbers .ensures) (c .with-map .ensures) (s .step-lent .ensures .leaves)
 
 pub step-spec : {M : Type 1} → statement M
 step-spec = tie.close (tie.spec numbers-requires step-lent-requires with-map-requires same-length returns)

@@ -7,7 +7,7 @@ use Rattle.words.specs.Memory.{memory, after}
 use Rattle.points.specs.declared.plan.Plan.{Plan}
 use Rattle.points.specs.Record.{pointOf}
 use Rattle.points.specs.Search.{sharedOf}
-use Rattle.points.specs.Plan.{answered, carriedOut}
+use Rattle.points.specs.Plan.{answered, storedAt, carriedOut}
 use Rattle.points.specs.Stepping.{stepping}
 use Rattle.points.proofs.Planned.{Sound, planned-sound, carried-out}
 use borrow.Author.Needs.{needs}
@@ -84,12 +84,18 @@ returns c =
     let p = pointOf (a .head) (a .table .now) (a .text .now) in
     let m = memory one (a .image .now) in
     let e = plan .settle .ensures in
+    let put = stored c .store in
     record {
-      answers = carried-out one m (a .numbers) (a .taken .now) (plan .settle .result) p (c .head-of .result) (map .release .last .0)
-          (block .take-one .last .1 .0) (table .read-in .last .1 .1 .1 .0) (text .keep-text .last .0) (block .take-one .result) (table .read-in .result)
-          (map .release .ensures) (block .take-one .ensures) (table .read-in .ensures) (text .keep-text .ensures) (c .head-of .ensures)
-          ∙ ap (λ (x : Plan). answered (carriedOut one m s p x)) e;
-      stored = stored c .store .ensures ∙ ap (λ (x : Plan). after one (a .image .now) (carriedOut one m s p x .store)) e;
+      leaves =
+          record {
+            answers = carried-out one m (a .numbers) (a .taken .now) (plan .settle .result) p (c .head-of .result) (map .release .last .0)
+                (block .take-one .last .1 .0) (table .read-in .last .1 .1 .1 .0) (text .keep-text .last .0) (block .take-one .result)
+                (table .read-in .result) (put .result) (map .release .ensures) (block .take-one .ensures) (table .read-in .ensures)
+                (text .keep-text .ensures) (c .head-of .ensures)
+                ∙ ap (λ (x : Plan). answered (carriedOut one m s p x)) e;
+            stored = put .ensures .stored ∙ ap (λ (x : Plan). after one (a .image .now) (carriedOut one m s p x .store)) e;
+          };
+      place = put .ensures .place ∙ ap (λ (x : Plan). storedAt one (carriedOut one m s p x .store)) e;
     }
 
 pub step-lent-spec : {M : Type 1} → statement M
