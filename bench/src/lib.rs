@@ -8,6 +8,7 @@ pub mod library;
 pub mod lmdb;
 pub mod measure;
 pub mod memory;
+pub mod page;
 #[cfg(feature = "pmemlog")]
 pub mod pmemlog;
 #[cfg(feature = "pmemobj")]
@@ -18,11 +19,16 @@ pub mod second;
 #[cfg(feature = "sqlite")]
 pub mod sqlite;
 pub mod store;
+pub mod svg;
 pub mod table;
 
 use column::Column;
+use rows::Shared;
+use std::cell::RefCell;
+use std::fs;
 use std::path::Path;
-use store::Turns;
+use std::rc::Rc;
+use store::{Store, Turns};
 
 /// The store that ratios are taken against: this library, or the second
 /// implementation where the library is not built.
@@ -31,24 +37,29 @@ pub type First = library::Library;
 #[cfg(not(feature = "library"))]
 pub type First = second::Second;
 
+/// A column that several cells use in turn.
+pub fn shared(column: impl Column + 'static) -> Shared {
+    Rc::new(RefCell::new(column))
+}
+
 /// All columns, the one that ratios are taken against first. Files are made
-/// in `folder`.
-#[allow(unused_variables)]
-pub fn columns(folder: &Path) -> Vec<Box<dyn Column>> {
+/// in `folder`, which is made if it is not there.
+pub fn columns(folder: &Path) -> Vec<Shared> {
+    fs::create_dir_all(folder).expect("a folder in a memory file system");
     vec![
         #[cfg(feature = "library")]
-        Box::new(Turns::<library::Library>::new()),
-        Box::new(Turns::<second::Second>::new()),
+        shared(Turns::of(library::Library::new(1_024))),
+        shared(Turns::of(second::Second::new(1_024))),
         #[cfg(feature = "sqlite")]
-        Box::new(sqlite::Sqlite::new(folder, sqlite::Synchronous::Full)),
+        shared(sqlite::Sqlite::new(folder, sqlite::Synchronous::Full)),
         #[cfg(feature = "sqlite")]
-        Box::new(sqlite::Sqlite::new(folder, sqlite::Synchronous::Normal)),
+        shared(sqlite::Sqlite::new(folder, sqlite::Synchronous::Normal)),
         #[cfg(feature = "lmdb")]
-        Box::new(lmdb::Lmdb::new(folder)),
+        shared(lmdb::Lmdb::new(folder)),
         #[cfg(feature = "pmemobj")]
-        Box::new(pmemobj::Pmemobj::new(folder)),
+        shared(pmemobj::Pmemobj::new(folder)),
         #[cfg(feature = "pmemlog")]
-        Box::new(pmemlog::Pmemlog::new(folder)),
-        Box::new(memory::Memory::new()),
+        shared(pmemlog::Pmemlog::new(folder)),
+        shared(memory::Memory::new()),
     ]
 }

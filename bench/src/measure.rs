@@ -1,12 +1,12 @@
-//! The clock, repetitions, quartiles.
+//! The clock, the run in which all cells take turns, quartiles.
 
 use std::time::{Duration, Instant};
 
 /// `Instant` reads CLOCK_MONOTONIC.
 pub const CLOCK: &str = "CLOCK_MONOTONIC";
-pub const REPETITIONS: usize = 15;
+pub const REPETITIONS: usize = 41;
 /// A repetition takes at least this long.
-pub const LEAST: Duration = Duration::from_millis(20);
+pub const LEAST: Duration = Duration::from_millis(10);
 
 /// Timed work: how long, and how many pieces.
 #[derive(Clone, Copy)]
@@ -22,9 +22,71 @@ pub fn timed(work: impl FnOnce()) -> Duration {
     start.elapsed()
 }
 
+/// That many calls of `piece`, timed together.
+pub fn timed_times(times: usize, mut piece: impl FnMut()) -> Option<Work> {
+    let time = timed(|| (0..times).for_each(|_| piece()));
+    Some(Work { time, pieces: times })
+}
+
+/// Where a cell's values stand in the run. Two tables that show the same work
+/// show the same place.
+#[derive(Clone, Copy, PartialEq, Eq)]
+pub struct Place(usize);
+
+/// A cell: what it does at each call, and what came out in each repetition.
+struct Cell {
+    work: Box<dyn FnMut() -> Option<Work>>,
+    values: Vec<f64>,
+}
+
+/// All cells of all tables. In each repetition all of them take turns, so that
+/// a machine that slows down slows all alike; the lower quartile counts.
+#[derive(Default)]
+pub struct Run {
+    cells: Vec<Cell>,
+}
+
+impl Run {
+    /// Another cell; its work answers None where there is no such work.
+    pub fn add(&mut self, work: impl FnMut() -> Option<Work> + 'static) -> Place {
+        self.cells.push(Cell { work: Box::new(work), values: Vec::new() });
+        Place(self.cells.len() - 1)
+    }
+
+    pub fn measure(&mut self, repetitions: usize) {
+        for repetition in 1..=repetitions {
+            eprintln!("repetition {repetition} of {repetitions}");
+            for cell in &mut self.cells {
+                cell.values.extend(nanoseconds(&mut cell.work));
+            }
+        }
+    }
+
+    /// Nanoseconds a piece, in each repetition.
+    pub fn values(&self, place: Place) -> &[f64] {
+        &self.cells[place.0].values
+    }
+
+    /// Nanoseconds a piece; None where there is no such work.
+    pub fn value(&self, place: Place) -> Option<f64> {
+        quartile(self.values(place).to_vec())
+    }
+
+    /// Nanoseconds a piece, where there is such work.
+    pub fn time(&self, place: Place) -> f64 {
+        self.value(place).expect("a cell that is measured")
+    }
+
+    /// How far the fastest repetition lies below what counts, as a part of
+    /// that; 0 of none.
+    pub fn spread(&self, place: Place) -> f64 {
+        let least = self.values(place).iter().copied().reduce(f64::min);
+        least.zip(self.value(place)).map_or(0.0, |(least, value)| (value - least) / value)
+    }
+}
+
 /// Nanoseconds a piece: `work` is repeated until its times add up to LEAST.
-/// None where there is no such work.
-pub fn nanoseconds(mut work: impl FnMut() -> Option<Work>) -> Option<f64> {
+fn nanoseconds(work: &mut dyn FnMut() -> Option<Work>) -> Option<f64> {
     let mut time = Duration::ZERO;
     let mut pieces = 0;
     while time < LEAST {
@@ -35,22 +97,9 @@ pub fn nanoseconds(mut work: impl FnMut() -> Option<Work>) -> Option<f64> {
     Some(time.as_nanos() as f64 / pieces as f64)
 }
 
-/// The lower quartile of the repetitions of `nanoseconds`.
-pub fn repeated(mut work: impl FnMut() -> Work) -> f64 {
-    let values = (0..REPETITIONS).map(|_| nanoseconds(|| Some(work())));
-    quartile(values.flatten().collect()).unwrap()
-}
-
-/// How far the least value lies below the lower quartile, as a part of that;
-/// 0 of no value.
-pub fn spread(values: Vec<f64>) -> f64 {
-    let least = values.iter().copied().reduce(f64::min);
-    least.zip(quartile(values)).map_or(0.0, |(least, quartile)| (quartile - least) / quartile)
-}
-
 /// The value that a quarter of the values lie below; None of no value. Other
 /// work on the machine makes some repetitions slower, and none faster.
-pub fn quartile(mut values: Vec<f64>) -> Option<f64> {
+fn quartile(mut values: Vec<f64>) -> Option<f64> {
     values.sort_by(f64::total_cmp);
     values.get(values.len() / 4).copied()
 }

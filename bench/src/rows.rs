@@ -1,4 +1,5 @@
-//! The rows of the tables: all columns, the same inputs.
+//! What is measured beside others: the rows of the tables, all columns with the
+//! same inputs.
 
 use crate::column::*;
 use crate::measure::*;
@@ -7,66 +8,48 @@ use crate::second::Second;
 use crate::store::Store;
 use crate::table;
 use crate::First;
+use std::cell::RefCell;
 use std::hint::black_box;
+use std::rc::Rc;
 
 pub const SIZES: [usize; 4] = [8, 64, 512, 1_024];
 pub const WRITERS: [usize; 3] = [1, 8, 32];
 pub const OPENED: [usize; 4] = [0, 100, 1_000, LOG_ENTRIES];
+/// The bytes of a write wherever nothing else is said.
+pub const SIZE: usize = 64;
 
-pub type Columns = [Box<dyn Column>];
+/// A column, which several cells use in turn.
+pub type Shared = Rc<RefCell<dyn Column>>;
+pub type Columns = [Shared];
 
-/// A row: what it measures, and a value a column, first the one that ratios
-/// are taken against.
+/// A row: what it measures, and a cell a column, first the one that ratios are
+/// taken against.
 pub struct Row {
     pub label: String,
-    pub values: Vec<Option<f64>>,
-    /// The greatest spread of a column's repetitions.
-    pub spread: f64,
+    pub places: Vec<Place>,
 }
 
 impl Row {
-    /// A row of each column's repetitions.
-    fn of(label: String, repetitions: Vec<Vec<f64>>) -> Row {
-        let spread = repetitions.iter().cloned().map(spread).fold(0.0, f64::max);
-        Row { label, values: repetitions.into_iter().map(quartile).collect(), spread }
-    }
-
-    /// The row's cells, each with its ratio.
-    pub fn cells(&self, shown: impl Fn(f64) -> String) -> Vec<String> {
-        let first = self.values[0].unwrap();
-        let cell = |value: &Option<f64>| value.map_or("–".to_string(), |v| table::with_ratio(shown(v), v, first));
-        std::iter::once(self.label.clone()).chain(self.values.iter().map(cell)).collect()
+    pub fn cells(&self, run: &Run) -> Vec<String> {
+        let values: Vec<_> = self.places.iter().map(|&place| run.value(place)).collect();
+        table::with_ratios(&self.label, &values, table::time)
     }
 }
 
-/// One row. In each repetition the columns follow each other, so that a slow
-/// moment of the machine does not fall on one of them; the lower quartile counts.
-fn measured(
-    columns: &mut Columns,
-    label: String,
-    prepare: impl Fn(&mut dyn Column),
-    work: impl Fn(&mut dyn Column) -> Option<Work>,
-) -> Row {
-    for column in columns.iter_mut() {
-        prepare(column.as_mut());
+/// A row's label: what, and how many writers if not one.
+fn label(what: String, writers: usize) -> String {
+    match writers {
+        1 => what,
+        _ => format!("{what}, {writers} taking turns"),
     }
-    let mut values = vec![Vec::new(); columns.len()];
-    for _ in 0..REPETITIONS {
-        for (column, list) in columns.iter_mut().zip(&mut values) {
-            list.extend(nanoseconds(|| work(column.as_mut())));
-        }
-    }
-    Row::of(label, values)
 }
 
-/// Committed writes: as many as a log holds, then laid out again, not timed.
-pub fn writes(columns: &mut Columns, writers: usize, size: usize) -> Row {
-    let label = match writers {
-        1 => format!("write {} B", table::grouped(size)),
-        _ => format!("write {} B, {writers} taking turns", table::grouped(size)),
-    };
-    let rounds = LOG_ENTRIES / writers;
-    measured(columns, label, |_| {}, |column| {
+/// Committed writes: that many after laying out, which is not timed.
+pub fn write(run: &mut Run, column: &Shared, writers: usize, size: usize, writes: usize) -> Place {
+    let column = column.clone();
+    let rounds = writes / writers;
+    run.add(move || {
+        let mut column = column.borrow_mut();
         let mut text = text_of(size);
         column.fresh(writers);
         let time = timed(|| column.rounds(rounds, &mut text));
@@ -74,48 +57,69 @@ pub fn writes(columns: &mut Columns, writers: usize, size: usize) -> Row {
     })
 }
 
-/// Opening with that many log entries.
-pub fn openings(columns: &mut Columns, entries: usize) -> Row {
-    let label = format!("open, {} log entries", table::grouped(entries));
-    let times = 20;
-    measured(columns, label, |column| column.keep(entries), |column| {
-        let time = column.open(times)?;
+/// The reference, which each section measures again: a write of 64 bytes by the
+/// first column, in a log that such writes fill.
+pub fn reference(run: &mut Run, columns: &Columns) -> Place {
+    write(run, &columns[0], 1, SIZE, LOG_ENTRIES)
+}
+
+/// Opening what the column keeps: so often at a time that the clock does not
+/// count, and no more.
+pub fn open(run: &mut Run, column: &Shared) -> Place {
+    let column = column.clone();
+    let once = column.borrow_mut().open(1).unwrap_or(LEAST);
+    let times = (LEAST.as_nanos() / 10 / once.as_nanos().max(1)).clamp(1, 1_000) as usize;
+    run.add(move || {
+        let time = column.borrow_mut().open(times)?;
         Some(Work { time, pieces: times })
     })
 }
 
-/// Reading 1 kB.
-pub fn reads(columns: &mut Columns) -> Row {
-    let prepare = |column: &mut dyn Column| {
+/// A row of committed writes: as many as a log holds.
+pub fn writes(run: &mut Run, columns: &Columns, writers: usize, size: usize) -> Row {
+    let label = label(format!("write {} B", table::grouped(size)), writers);
+    Row { label, places: columns.iter().map(|column| write(run, column, writers, size, LOG_ENTRIES)).collect() }
+}
+
+/// A row of openings with that many log entries, of columns that are used for
+/// nothing else.
+pub fn openings(run: &mut Run, columns: &Columns, entries: usize) -> Row {
+    let label = format!("open, {} log entries", table::grouped(entries));
+    columns.iter().for_each(|column| column.borrow_mut().keep(entries));
+    Row { label, places: columns.iter().map(|column| open(run, column)).collect() }
+}
+
+/// A row of reads of 1 kB, of columns that are used for nothing else.
+pub fn reads(run: &mut Run, columns: &Columns) -> Row {
+    let places = columns.iter().map(|column| {
         let mut text = text_of(1_024);
         let mut buffer = [0; 1_024];
-        column.fresh(1);
-        column.rounds(1, &mut text);
-        column.read(1, &mut buffer);
-        assert!(buffer[..] == text[..], "{} reads other bytes", column.name());
-    };
-    let times = 1_000;
-    measured(columns, "read 1,024 B".to_string(), prepare, |column| {
-        let mut buffer = [0; 1_024];
-        let time = timed(|| column.read(times, &mut buffer));
-        black_box(&buffer);
-        Some(Work { time, pieces: times })
-    })
+        let column = column.clone();
+        column.borrow_mut().fresh(1);
+        column.borrow_mut().rounds(1, &mut text);
+        column.borrow_mut().read(1, &mut buffer);
+        assert!(buffer[..] == text[..], "{} reads other bytes", column.borrow().name());
+        run.add(move || {
+            let times = 1_000;
+            let time = timed(|| column.borrow_mut().read(times, &mut buffer));
+            black_box(&buffer);
+            Some(Work { time, pieces: times })
+        })
+    });
+    Row { label: "read 1,024 B".to_string(), places: places.collect() }
 }
 
-/// Words stored for each byte written, over as many writes as a log holds.
-pub fn words_stored(columns: &mut Columns, writers: usize, size: usize) -> Row {
-    let label = match writers {
-        1 => format!("{} B", table::grouped(size)),
-        _ => format!("{} B, {writers} taking turns", table::grouped(size)),
-    };
+/// The cells of a row of words stored for each byte written, over as many
+/// writes as a log holds. Counted, not timed.
+pub fn words_stored(columns: &Columns, writers: usize, size: usize) -> Vec<String> {
     let written = (LOG_ENTRIES * size) as f64;
-    let values = columns.iter_mut().map(|column| {
+    let values = columns.iter().map(|column| {
+        let mut column = column.borrow_mut();
         column.fresh(writers);
         column.rounds(LOG_ENTRIES / writers, &mut text_of(size));
         column.bytes_stored().map(|bytes| bytes as f64 / 8.0 / written)
     });
-    Row { label, values: values.collect(), spread: 0.0 }
+    table::with_ratios(&label(format!("{} B", table::grouped(size)), writers), &values.collect::<Vec<_>>(), table::number)
 }
 
 /// The implementations of one step, in the order of `steps`.
@@ -127,28 +131,27 @@ pub fn step_names() -> Vec<String> {
     names.into_iter().map(String::from).collect()
 }
 
-/// One step that fills a word.
-pub fn steps() -> Row {
+/// A row of one step that fills a word.
+pub fn steps(run: &mut Run) -> Row {
     let mut first = First::begun();
     let mut second = Second::begun();
     let mut by_value = Port::new();
     let mut by_reference = Port::new();
-    let mut works: Vec<Box<dyn FnMut(usize) + '_>> = vec![
-        Box::new(|times| first.fill_block(times)),
-        Box::new(|times| by_value.fill_by_value(times)),
-        Box::new(|times| by_reference.fill_by_reference(times)),
-    ];
+    let mut places = vec![fill(run, move |times| first.fill_block(times))];
     if First::NAME != Second::NAME {
-        works.insert(1, Box::new(|times| second.fill_block(times)));
+        places.push(fill(run, move |times| second.fill_block(times)));
     }
-    let mut values = vec![Vec::new(); works.len()];
-    let times = 200;
-    for _ in 0..REPETITIONS {
-        for (work, list) in works.iter_mut().zip(&mut values) {
-            list.extend(nanoseconds(|| Some(Work { time: timed(|| work(times)), pieces: 64 * times })));
-        }
-    }
-    Row::of("one step (a fill)".to_string(), values)
+    places.push(fill(run, move |times| by_value.fill_by_value(times)));
+    places.push(fill(run, move |times| by_reference.fill_by_reference(times)));
+    Row { label: "one step (a fill)".to_string(), places }
+}
+
+/// The 64 steps that fill a block.
+fn fill(run: &mut Run, mut work: impl FnMut(usize) + 'static) -> Place {
+    run.add(move || {
+        let times = 200;
+        Some(Work { time: timed(|| work(times)), pieces: 64 * times })
+    })
 }
 
 /// The plain Rust port with its image.

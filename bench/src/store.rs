@@ -37,22 +37,28 @@ pub trait Store {
     fn read(&self, number: usize, offset: usize, buffer: &mut [u8]) -> usize;
     fn tally(&self) -> [u64; 6];
 
-    /// A store of 1,024 blocks with that many log entries, all by point 0
-    /// and at the writers' places in turn.
-    fn with_entries(entries: usize) -> Self
+    /// Laid out, and that many log entries, all by point 0 and at the writers'
+    /// places in turn: the first write has `first` bytes, the others 64.
+    fn write_entries(&mut self, entries: usize, first: usize) {
+        self.lay_out();
+        self.join(0);
+        for i in 0..entries {
+            let text = text_of(if i == 0 { first } else { 64 });
+            self.begin(0, APART * (i % MOST_WRITERS), &text);
+            let committed = self.tally()[COMMITTED];
+            while self.tally()[COMMITTED] == committed {
+                self.step(0);
+            }
+        }
+    }
+
+    /// A store of 1,024 blocks with that many log entries.
+    fn with_entries(entries: usize, first: usize) -> Self
     where
         Self: Sized,
     {
         let mut store = Self::new(1_024);
-        let text = text_of(64);
-        store.join(0);
-        for i in 0..entries {
-            store.begin(0, APART * (i % MOST_WRITERS), &text);
-            let committed = store.tally()[COMMITTED];
-            while store.tally()[COMMITTED] == committed {
-                store.step(0);
-            }
-        }
+        store.write_entries(entries, first);
         store
     }
 
@@ -85,14 +91,8 @@ pub struct Turns<S> {
 }
 
 impl<S: Store> Turns<S> {
-    pub fn new() -> Turns<S> {
-        Turns { store: S::new(1_024), points: 0 }
-    }
-}
-
-impl<S: Store> Default for Turns<S> {
-    fn default() -> Self {
-        Turns::new()
+    pub fn of(store: S) -> Turns<S> {
+        Turns { store, points: 0 }
     }
 }
 
@@ -126,7 +126,7 @@ impl<S: Store> Column for Turns<S> {
     }
 
     fn keep(&mut self, entries: usize) {
-        self.store = S::with_entries(entries);
+        self.store.write_entries(entries, 64);
         assert_eq!(self.store.open(), entries);
     }
 

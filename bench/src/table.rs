@@ -1,14 +1,16 @@
 //! Markdown tables, and numbers as they stand in them.
 
-/// A table's lines; the first column is text, the others are numbers.
-pub fn print(head: &[String], rows: &[Vec<String>]) {
-    let line = |cells: &[String]| println!("| {} |", cells.join(" | "));
-    line(head);
-    println!("|---|{}", "---:|".repeat(head.len() - 1));
-    for row in rows {
-        line(row);
-    }
-    println!();
+/// A table and the blank line after it; the first column is text, the others
+/// are numbers.
+pub fn text(head: &[String], rows: &[Vec<String>]) -> String {
+    let mut text = line(head);
+    text += &format!("|---|{}\n", "---:|".repeat(head.len() - 1));
+    rows.iter().for_each(|row| text += &line(row));
+    text + "\n"
+}
+
+fn line(cells: &[String]) -> String {
+    format!("| {} |\n", cells.join(" | "))
 }
 
 /// Three digits that count.
@@ -24,6 +26,14 @@ pub fn time(nanoseconds: f64) -> String {
         t if t < 999_500.0 => format!("{} µs", number(t / 1e3)),
         t => format!("{} ms", number(t / 1e6)),
     }
+}
+
+/// A row's cells: its label, and each value with its ratio to the first; – for
+/// none.
+pub fn with_ratios(label: &str, values: &[Option<f64>], shown: impl Fn(f64) -> String) -> Vec<String> {
+    let first = values[0].expect("a first value");
+    let cell = |value: &Option<f64>| value.map_or("–".to_string(), |v| with_ratio(shown(v), v, first));
+    std::iter::once(label.to_string()).chain(values.iter().map(cell)).collect()
 }
 
 /// A value and its ratio to the first.

@@ -33,12 +33,12 @@ impl<S: Store> Kept<S> {
                 store
             }
             "read" => {
-                let mut store = S::with_entries(0);
+                let mut store = S::with_entries(0, 64);
                 store.turns(0, 1, &text_of(1_024));
                 store
             }
-            "open" => S::with_entries(1_000),
-            _ => S::with_entries(0),
+            "open" => S::with_entries(1_000, 64),
+            _ => S::with_entries(0, 64),
         };
         let kept = ["fill", "commit", "begin"].contains(&call).then(make);
         Kept { store: make(), kept, text: text_of(512), buffer: vec![0; 1_024] }
