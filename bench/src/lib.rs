@@ -21,6 +21,8 @@ pub mod sqlite;
 pub mod store;
 pub mod svg;
 pub mod table;
+#[cfg(feature = "library")]
+pub mod written_back;
 
 use column::Column;
 use rows::Shared;

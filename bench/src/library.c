@@ -1,4 +1,6 @@
 /* The loops that call the library, as a C program writes them. Records are lent as memory of the caller; Rust sees only their sizes. */
+#include <cpuid.h>
+
 #include "store.h"
 
 size_t bench_shared_size(void) { return sizeof(store_shared); }
@@ -50,10 +52,46 @@ uint32_t bench_fill_block(uint64_t *image, size_t words, store_shared *shared, s
     return 0;
 }
 
-/* Points from first on begin, each at 4,096 times its number, then take one step each in turn until all have committed.
-   The tally counts answers by kind. 0, or 1 when a call was refused. */
-uint32_t bench_turns(uint64_t *image, size_t words, store_shared *shared, store_point *points, size_t first, size_t count,
-                     const uint8_t *text, size_t length, uint64_t tally[6])
+/* How a stored word is made lasting before the next call: not at all, or its line is written back by that instruction and fenced. */
+enum { PLAIN, CLFLUSH, CLFLUSHOPT, CLWB };
+
+/* The last of these that the processor has. */
+uint32_t bench_write_back(void)
+{
+    unsigned a, b, c, d;
+    if (!__get_cpuid_count(7, 0, &a, &b, &c, &d))
+        return CLFLUSH;
+    return b & bit_CLWB ? CLWB : b & bit_CLFLUSHOPT ? CLFLUSHOPT : CLFLUSH;
+}
+
+static inline void make_lasting(uint64_t *word, uint32_t how)
+{
+    if (how == CLWB)
+        __asm__ volatile("clwb %0" : "+m"(*word));
+    else if (how == CLFLUSHOPT)
+        __asm__ volatile("clflushopt %0" : "+m"(*word));
+    else
+        __asm__ volatile("clflush %0" : "+m"(*word));
+    __asm__ volatile("sfence" : : : "memory");
+}
+
+/* Where a step stored its word, 0 if it stored none: from the point's numbers before the step and after it. */
+static inline size_t stored_word(store_answer answer, const store_head *before, const store_head *after)
+{
+    if (answer.kind == STORE_COMMITTED)
+        return (size_t)STORE_BLOCK_WORDS * before->block + before->slot;
+    if (answer.kind != STORE_STORED)
+        return 0;
+    if (before->phase != STORE_ZEROING)
+        return (size_t)STORE_BLOCK_WORDS * before->run + after->position - 1;
+    if (before->position < STORE_BLOCK_WORDS)
+        return (size_t)STORE_BLOCK_WORDS * before->zeroing + before->position;
+    return (size_t)STORE_BLOCK_WORDS * before->block;
+}
+
+static inline __attribute__((always_inline)) uint32_t turns(uint64_t *image, size_t words, store_shared *shared, store_point *points,
+                                                            size_t first, size_t count, const uint8_t *text, size_t length,
+                                                            uint64_t tally[6], const uint32_t how)
 {
     size_t under_way = count;
     for (size_t p = first; p < first + count; p++)
@@ -63,13 +101,38 @@ uint32_t bench_turns(uint64_t *image, size_t words, store_shared *shared, store_
         for (size_t p = first; p < first + count; p++) {
             if (points[p].head.phase == 0)
                 continue;
-            uint32_t kind = store_step(image, words, shared, &points[p]).kind;
-            tally[kind]++;
-            if (kind == 5)
+            store_head before;
+            if (how != PLAIN)
+                before = points[p].head;
+            store_answer answer = store_step(image, words, shared, &points[p]);
+            if (how != PLAIN) {
+                size_t word = stored_word(answer, &before, &points[p].head);
+                if (word != 0)
+                    make_lasting(&image[word], how);
+            }
+            tally[answer.kind]++;
+            if (answer.kind == 5)
                 return 1;
-            under_way -= kind == 4;
+            under_way -= answer.kind == 4;
         }
     return 0;
+}
+
+/* Points from first on begin, each at 4,096 times its number, then take one step each in turn until all have committed.
+   The tally counts answers by kind. 0, or 1 when a call was refused. */
+uint32_t bench_turns(uint64_t *image, size_t words, store_shared *shared, store_point *points, size_t first, size_t count,
+                     const uint8_t *text, size_t length, uint64_t tally[6], uint32_t how)
+{
+    switch (how) {
+    case PLAIN:
+        return turns(image, words, shared, points, first, count, text, length, tally, PLAIN);
+    case CLWB:
+        return turns(image, words, shared, points, first, count, text, length, tally, CLWB);
+    case CLFLUSHOPT:
+        return turns(image, words, shared, points, first, count, text, length, tally, CLFLUSHOPT);
+    default:
+        return turns(image, words, shared, points, first, count, text, length, tally, CLFLUSH);
+    }
 }
 
 /* Reads: the refusal or 0, and the count of bytes. */

@@ -33,7 +33,9 @@ extern "C" {
         text: *const u8,
         length: usize,
         tally: *mut u64,
+        how: u32,
     ) -> u32;
+    fn bench_write_back() -> u32;
     fn bench_read(
         image: *const u64,
         words: usize,
@@ -54,6 +56,18 @@ pub struct Library {
     shared: Vec<u64>,
     points: Vec<u64>,
     tally: [u64; 6],
+    /// How `turns` makes stored words lasting, as `library.c` numbers it.
+    how: u32,
+}
+
+impl Library {
+    /// With each stored word's line written back and fenced, and the name of
+    /// the instruction that the processor has for it.
+    pub fn written_back(blocks: usize) -> (Library, &'static str) {
+        // SAFETY: it answers a number.
+        let how = unsafe { bench_write_back() };
+        (Library { how, ..Library::new(blocks) }, ["", "clflush", "clflushopt", "clwb"][how as usize])
+    }
 }
 
 /// Words that hold that many bytes.
@@ -78,6 +92,7 @@ impl Store for Library {
             shared: words_for(shared),
             points: words_for(32 * point),
             tally: [0; 6],
+            how: 0,
         };
         store.lay_out();
         store
@@ -139,8 +154,8 @@ impl Store for Library {
     fn turns(&mut self, first: usize, count: usize, text: &[u8]) {
         let (image, words) = (self.image.as_mut_ptr(), self.image.len());
         let (shared, points) = (self.shared.as_mut_ptr(), self.points.as_mut_ptr());
-        let tally = self.tally.as_mut_ptr();
-        accepted(unsafe { bench_turns(image, words, shared, points, first, count, text.as_ptr(), text.len(), tally) });
+        let (tally, how) = (self.tally.as_mut_ptr(), self.how);
+        accepted(unsafe { bench_turns(image, words, shared, points, first, count, text.as_ptr(), text.len(), tally, how) });
     }
 
     fn read(&self, number: usize, offset: usize, buffer: &mut [u8]) -> usize {

@@ -7,6 +7,8 @@ use crate::rows::*;
 use crate::second::Second;
 use crate::store::Store;
 use crate::table::{self, time};
+#[cfg(feature = "library")]
+use crate::written_back::WrittenBack;
 use crate::{columns, svg, First};
 use std::path::Path;
 
@@ -74,7 +76,7 @@ impl Writes {
             + &format!(
                 "The fastest repetition of a cell lies at most {:.0} % below what stands there.\n\n\
                  What this library promises holds for memory that keeps stores of eight bytes whole and in the order made: it flushes no processor cache, \
-                 libpmemobj and libpmemlog do. SQLite and LMDB sync to a memory file system, which costs a call \
+                 libpmemobj and libpmemlog do; the next section has what flushing costs here. SQLite and LMDB sync to a memory file system, which costs a call \
                  and no device; on a disk they take longer. libpmemlog appends and does not overwrite.\n\n",
                 100.0 * spread
             )
@@ -168,6 +170,8 @@ pub struct Page {
     columns: Vec<Shared>,
     references: References,
     writes: (Writes, Place),
+    #[cfg(feature = "library")]
+    written_back: (WrittenBack, Place),
     steps: (Row, Place),
     opened: (Opened, Place),
     read: (Row, Place),
@@ -185,6 +189,8 @@ impl Page {
         let writes = Writes::plan(run, &all);
         let own = writes.place(0, 1, SIZE).expect("the row of the reference");
         references.0.push(own);
+        #[cfg(feature = "library")]
+        let written_back = (WrittenBack::plan(run, &writes), references.again(run, &all));
         let steps = (steps(run), references.again(run, &all));
         let opened = (Opened::plan(run, folder), references.again(run, &all));
         let read = (reads(run, &columns_of("read")), references.again(run, &all));
@@ -195,6 +201,8 @@ impl Page {
             columns: all,
             references,
             writes: (writes, own),
+            #[cfg(feature = "library")]
+            written_back,
             steps,
             opened,
             read,
@@ -209,6 +217,10 @@ impl Page {
         let reference = |place| reference_line(run, place);
         let mut text = preface(repetitions) + &self.references.text(run);
         text += &(self.writes.0.text(run, &self.columns) + &reference(self.writes.1));
+        #[cfg(feature = "library")]
+        {
+            text += &(self.written_back.0.text(run) + &reference(self.written_back.1));
+        }
         text += &(steps_text(run, &self.steps.0) + &reference(self.steps.1));
         text += &(self.opened.0.text(run, &self.columns) + &reference(self.opened.1));
         text += "## Reading\n\n";
