@@ -75,20 +75,6 @@ static inline void make_lasting(uint64_t *word, uint32_t how)
     __asm__ volatile("sfence" : : : "memory");
 }
 
-/* Where a step stored its word, 0 if it stored none: from the point's numbers before the step and after it. */
-static inline size_t stored_word(store_answer answer, const store_head *before, const store_head *after)
-{
-    if (answer.kind == STORE_COMMITTED)
-        return (size_t)STORE_BLOCK_WORDS * before->block + before->slot;
-    if (answer.kind != STORE_STORED)
-        return 0;
-    if (before->phase != STORE_ZEROING)
-        return (size_t)STORE_BLOCK_WORDS * before->run + after->position - 1;
-    if (before->position < STORE_BLOCK_WORDS)
-        return (size_t)STORE_BLOCK_WORDS * before->zeroing + before->position;
-    return (size_t)STORE_BLOCK_WORDS * before->block;
-}
-
 static inline __attribute__((always_inline)) uint32_t turns(uint64_t *image, size_t words, store_shared *shared, store_point *points,
                                                             size_t first, size_t count, const uint8_t *text, size_t length,
                                                             uint64_t tally[6], const uint32_t how)
@@ -101,15 +87,9 @@ static inline __attribute__((always_inline)) uint32_t turns(uint64_t *image, siz
         for (size_t p = first; p < first + count; p++) {
             if (points[p].head.phase == 0)
                 continue;
-            store_head before;
-            if (how != PLAIN)
-                before = points[p].head;
             store_answer answer = store_step(image, words, shared, &points[p]);
-            if (how != PLAIN) {
-                size_t word = stored_word(answer, &before, &points[p].head);
-                if (word != 0)
-                    make_lasting(&image[word], how);
-            }
+            if (how != PLAIN && answer.word != 0)
+                make_lasting(&image[answer.word], how);
             tally[answer.kind]++;
             if (answer.kind == 5)
                 return 1;
