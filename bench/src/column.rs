@@ -36,6 +36,10 @@ pub trait Column {
     fn read(&mut self, times: usize, buffer: &mut [u8]);
 }
 
+/// Where 1 kB is read to, on a cache line of its own wherever it is put.
+#[repr(align(64))]
+pub struct Buffer(pub [u8; 1_024]);
+
 /// A text of that many bytes, none of them 0.
 pub fn text_of(size: usize) -> Vec<u8> {
     (0..size).map(|i| (i % 255) as u8 + 1).collect()

@@ -66,7 +66,7 @@ impl Points {
         };
         let head = ["points", "steps take turns", "steps a write", "Moved a write", "whole writes take turns"];
         let (first, last) = (&self.rows[0], &self.rows[self.rows.len() - 1]);
-        format!("### With the points\n\nA write of {SIZE} bytes, {} in a log.\n\n", grouped(LOG_ENTRIES))
+        format!("### With the points\n\nA write of {SIZE} bytes; 1, 8 and 32 points whose steps take turns stand also under \"Committed writes\".\n\n")
             + &table_text(&head, self.rows.iter().map(row).collect())
             + &format!(
                 "With {} points whose steps take turns a write takes {} times as long as alone and {} times as many steps, {} of them Moved; \
@@ -82,12 +82,12 @@ impl Points {
     pub fn panel(&self, run: &Run) -> Panel {
         let doublings = |row: &PointsRow| (row.points as f64).log2();
         Panel {
-            title: "With the points: a write of 64 bytes",
+            title: "With the points",
             across: "points",
             ticks: self.rows.iter().map(|row| (doublings(row), row.points.to_string())).collect(),
             series: vec![
-                series(run, "steps take turns", &self.rows, doublings, |row| Some(row.by_steps)),
-                series(run, "whole writes take turns", &self.rows, doublings, |row| Some(row.by_writes)),
+                series(run, "write 64 B, steps take turns", &self.rows, doublings, |row| Some(row.by_steps)),
+                series(run, "write 64 B, whole writes take turns", &self.rows, doublings, |row| Some(row.by_writes)),
             ],
         }
     }
@@ -178,10 +178,10 @@ impl Log {
             across: "log entries",
             ticks: (0..=4).map(|thousands| (1_000.0 * thousands as f64, grouped(1_000 * thousands))).collect(),
             series: vec![
-                series(run, "write at the tail", &self.rows, entries, |row| Some(row.write)),
-                series(run, "read at the tail", &self.rows, entries, |row| row.read),
+                series(run, "write 64 B at the tail", &self.rows, entries, |row| Some(row.write)),
+                series(run, "read 1,024 B at the tail", &self.rows, entries, |row| row.read),
                 series(run, "a newcomer joins, begins, leaves", &self.rows, entries, |row| Some(row.newcomer)),
-                series(run, "read by a newcomer", &self.rows, entries, |row| row.newcomer_read),
+                series(run, "read 1,024 B by a newcomer", &self.rows, entries, |row| row.newcomer_read),
             ],
         }
     }
@@ -229,10 +229,10 @@ fn read_by(run: &mut Run, entries: usize, point: usize) -> Place {
     if point != 0 {
         store.join(point);
     }
-    let mut buffer = [0; 1_024];
+    let mut buffer = Buffer([0; 1_024]);
     run.add(move || {
         timed_times(100, || {
-            assert_eq!(store.read(point, 0, black_box(&mut buffer)), 1_024);
+            assert_eq!(store.read(point, 0, black_box(&mut buffer.0)), 1_024);
         })
     })
 }
@@ -273,7 +273,7 @@ impl Image {
         let (first, last) = (&self.rows[0], &self.rows[self.rows.len() - 1]);
         format!(
             "### With the image\n\nWrites of {SIZE} bytes, on each laid-out image until its log is full or has all blocks but four, \
-             and opening an empty one.\n\n"
+             and opening an empty one. The row of 1,024 blocks is \"write 64 B\" and \"open, 0 log entries\".\n\n"
         ) + &table_text(&["blocks", "writes", "write", "open"], self.rows.iter().map(row).collect())
             + &format!(
                 "From {} to {} blocks a write takes {} times as long and opening {} times.\n\n",
@@ -292,7 +292,7 @@ impl Image {
             ticks: self.rows.iter().map(|row| (doublings(row), grouped(row.blocks))).collect(),
             series: vec![
                 series(run, "write 64 B", &self.rows, doublings, |row| Some(row.write)),
-                series(run, "open an empty one", &self.rows, doublings, |row| Some(row.open)),
+                series(run, "open an empty image", &self.rows, doublings, |row| Some(row.open)),
             ],
         }
     }

@@ -93,16 +93,16 @@ pub fn openings(run: &mut Run, columns: &Columns, entries: usize) -> Row {
 pub fn reads(run: &mut Run, columns: &Columns) -> Row {
     let places = columns.iter().map(|column| {
         let mut text = text_of(1_024);
-        let mut buffer = [0; 1_024];
+        let mut buffer = Buffer([0; 1_024]);
         let column = column.clone();
         column.borrow_mut().fresh(1);
         column.borrow_mut().rounds(1, &mut text);
-        column.borrow_mut().read(1, &mut buffer);
-        assert!(buffer[..] == text[..], "{} reads other bytes", column.borrow().name());
+        column.borrow_mut().read(1, &mut buffer.0);
+        assert!(buffer.0[..] == text[..], "{} reads other bytes", column.borrow().name());
         run.add(move || {
             let times = 1_000;
-            let time = timed(|| column.borrow_mut().read(times, &mut buffer));
-            black_box(&buffer);
+            let time = timed(|| column.borrow_mut().read(times, &mut buffer.0));
+            black_box(&buffer.0);
             Some(Work { time, pieces: times })
         })
     });

@@ -51,7 +51,7 @@ impl WrittenBack {
              As a board with a cache in front of the memory needs it: after each step that answers Stored or Committed, before the next call, \
              the stored word's line is written back by `{}`, the first of clwb, clflushopt and clflush that this processor has, and `sfence` waits for it. \
              A line has eight words and is written back for each. The image lies in ordinary memory (DRAM): this shows what the instructions and \
-             the loss of the cached line cost, not a device's time. In brackets the ratio to the plain write.\n\n",
+             the loss of the cached line cost, not a device's time. In brackets the ratio to the plain write, which stands above, as libpmemobj's does.\n\n",
             self.instruction
         );
         let pmemobj = self.rows[0].pmemobj.is_some();
