@@ -49,9 +49,16 @@ extern "C" {
     ) -> u32;
 }
 
+/// A block of the image, at an address that its size divides: eight words are
+/// a cache line wherever an image is put.
+#[repr(C, align(512))]
+#[derive(Clone, Copy)]
+struct Block([u64; 64]);
+
 /// The records are memory of the right size and of eight bytes' alignment.
 pub struct Library {
-    image: Vec<u64>,
+    image: Vec<Block>,
+    words: usize,
     scratch: Vec<u16>,
     shared: Vec<u64>,
     points: Vec<u64>,
@@ -61,6 +68,16 @@ pub struct Library {
 }
 
 impl Library {
+    /// The image as it is lent: its words, and how many.
+    fn image(&self) -> (*const u64, usize) {
+        (self.image.as_ptr().cast(), self.words)
+    }
+
+    /// The image as it is lent to be written.
+    fn image_to_write(&mut self) -> (*mut u64, usize) {
+        (self.image.as_mut_ptr().cast(), self.words)
+    }
+
     /// With each stored word's line written back and fenced, and the name of
     /// the instruction that the processor has for it.
     pub fn written_back(blocks: usize) -> (Library, &'static str) {
@@ -87,7 +104,8 @@ impl Store for Library {
         // SAFETY: both answer a number.
         let (shared, point) = unsafe { (bench_shared_size(), bench_point_size()) };
         let mut store = Library {
-            image: vec![1; 64 * blocks],
+            image: vec![Block([1; 64]); blocks],
+            words: 64 * blocks,
             scratch: vec![0; 1_024],
             shared: words_for(shared),
             points: words_for(32 * point),
@@ -99,8 +117,9 @@ impl Store for Library {
     }
 
     fn lay_out(&mut self) {
+        let (image, words) = self.image_to_write();
         // SAFETY: here and below the C functions get memory of the sizes that they are told.
-        accepted(unsafe { bench_lay_out(self.image.as_mut_ptr(), self.image.len()) });
+        accepted(unsafe { bench_lay_out(image, words) });
         self.open();
         self.tally = [0; 6];
     }
@@ -113,29 +132,29 @@ impl Store for Library {
 
     fn open(&mut self) -> usize {
         let mut entries = 0;
-        let (image, words) = (self.image.as_ptr(), self.image.len());
+        let (image, words) = self.image();
         accepted(unsafe { bench_open(image, words, self.scratch.as_mut_ptr(), self.shared.as_mut_ptr(), &mut entries) });
         entries as usize
     }
 
     fn join(&mut self, number: usize) {
-        let (image, words) = (self.image.as_ptr(), self.image.len());
+        let (image, words) = self.image();
         accepted(unsafe { bench_join(image, words, self.shared.as_mut_ptr(), self.points.as_mut_ptr(), number as u32) });
     }
 
     fn leave(&mut self, number: usize) {
-        let (image, words) = (self.image.as_ptr(), self.image.len());
+        let (image, words) = self.image();
         accepted(unsafe { bench_leave(image, words, self.shared.as_mut_ptr(), self.points.as_mut_ptr(), number as u32) });
     }
 
     fn begin(&mut self, number: usize, offset: usize, text: &[u8]) {
-        let (image, words) = (self.image.as_ptr(), self.image.len());
+        let (image, words) = self.image();
         let (shared, points) = (self.shared.as_mut_ptr(), self.points.as_mut_ptr());
         accepted(unsafe { bench_begin(image, words, shared, points, number as u32, offset, text.as_ptr(), text.len()) });
     }
 
     fn step(&mut self, number: usize) {
-        let (image, words) = (self.image.as_mut_ptr(), self.image.len());
+        let (image, words) = self.image_to_write();
         let (shared, points) = (self.shared.as_mut_ptr(), self.points.as_mut_ptr());
         let kind = unsafe { bench_step(image, words, shared, points, number as u32) } as usize;
         assert!(kind < REFUSED, "a step is refused");
@@ -147,12 +166,12 @@ impl Store for Library {
     }
 
     fn fill_block(&mut self, times: usize) {
-        let (image, words) = (self.image.as_mut_ptr(), self.image.len());
+        let (image, words) = self.image_to_write();
         accepted(unsafe { bench_fill_block(image, words, self.shared.as_mut_ptr(), self.points.as_mut_ptr(), times) });
     }
 
     fn turns(&mut self, first: usize, count: usize, text: &[u8]) {
-        let (image, words) = (self.image.as_mut_ptr(), self.image.len());
+        let (image, words) = self.image_to_write();
         let (shared, points) = (self.shared.as_mut_ptr(), self.points.as_mut_ptr());
         let (tally, how) = (self.tally.as_mut_ptr(), self.how);
         accepted(unsafe { bench_turns(image, words, shared, points, first, count, text.as_ptr(), text.len(), tally, how) });
@@ -160,7 +179,7 @@ impl Store for Library {
 
     fn read(&self, number: usize, offset: usize, buffer: &mut [u8]) -> usize {
         let mut count = 0;
-        let (image, words) = (self.image.as_ptr(), self.image.len());
+        let (image, words) = self.image();
         let (shared, points) = (self.shared.as_ptr(), self.points.as_ptr());
         let (lent, length) = (buffer.as_mut_ptr(), buffer.len());
         accepted(unsafe { bench_read(image, words, shared, points, number as u32, offset, lent, length, &mut count) });

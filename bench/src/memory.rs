@@ -4,15 +4,23 @@ use crate::column::*;
 use std::hint::black_box;
 use std::time::Duration;
 
+/// The file begins at a cache line.
 pub struct Memory {
-    file: Vec<u8>,
+    memory: Vec<u8>,
+    begin: usize,
     writers: usize,
     stored: u64,
 }
 
 impl Memory {
     pub fn new() -> Memory {
-        Memory { file: vec![0; APART * MOST_WRITERS], writers: 0, stored: 0 }
+        let memory = vec![0; APART * MOST_WRITERS + 64];
+        let begin = memory.as_ptr().align_offset(64);
+        Memory { memory, begin, writers: 0, stored: 0 }
+    }
+
+    fn file(&mut self) -> &mut [u8] {
+        &mut self.memory[self.begin..]
     }
 }
 
@@ -41,7 +49,7 @@ impl Column for Memory {
             alter(text);
             for writer in 0..self.writers {
                 let text = black_box(&*text);
-                self.file[APART * writer..][..text.len()].copy_from_slice(text);
+                self.file()[APART * writer..][..text.len()].copy_from_slice(text);
             }
         }
         self.stored += (times * self.writers * text.len()) as u64;
@@ -60,7 +68,7 @@ impl Column for Memory {
     fn read(&mut self, times: usize, buffer: &mut [u8]) {
         for _ in 0..times {
             let buffer = black_box(&mut *buffer);
-            buffer.copy_from_slice(&self.file[..buffer.len()]);
+            buffer.copy_from_slice(&self.file()[..buffer.len()]);
         }
     }
 }
