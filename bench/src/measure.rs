@@ -85,8 +85,10 @@ impl Run {
     }
 }
 
-/// Nanoseconds a piece: `work` is repeated until its times add up to LEAST.
+/// Nanoseconds a piece: `work` is repeated until its times add up to LEAST. A
+/// first time does not count: it fills the caches, which other cells have used.
 fn nanoseconds(work: &mut dyn FnMut() -> Option<Work>) -> Option<f64> {
+    work()?;
     let mut time = Duration::ZERO;
     let mut pieces = 0;
     while time < LEAST {

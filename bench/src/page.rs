@@ -258,7 +258,8 @@ fn preface(repetitions: usize) -> String {
     format!(
         "Times are lower quartiles of {repetitions} repetitions of at least {} ms each, by {CLOCK}, since other work on a machine makes some slower and \
          none faster; in brackets the ratio, {} = 1. In each repetition all cells of all tables take turns, with the same bytes, so that a machine \
-         that slows down slows all of them alike. Where two tables show the same work, it is one measurement that stands in both.\n\n",
+         that slows down slows all of them alike; at its turn a cell works once before it is timed, which fills the caches. \
+         Where two tables show the same work, it is one measurement that stands in both.\n\n",
         LEAST.as_millis(),
         First::NAME
     )
