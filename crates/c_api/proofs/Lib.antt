@@ -1,3 +1,5 @@
--- Laws of the calls in numbers. Heads: a record and its numbers. Calls: the ways out of each call.
-pub mod Heads
-pub mod Calls
+-- Parts: a record behind a reference is lent in parts, and comes back. Params: a call's parameters, so. Records: both records. Walk: what each call's proof cites, by one name.
+pub mod Parts
+pub mod Params
+pub mod Records
+pub mod Walk

@@ -1,39 +1,31 @@
-// The calls for C, as include/store.h declares them. Records are lent as arrays, numbers and enums alike:
-// `shared` is blocks, joined points and next place, `taken` the map; `head` the twelve numbers of a point's record, beside `table` and `text`.
+// The calls for C, as include/store.h declares them. Both records are lent whole, each a struct of the arrays that `c_lent` takes; their parts are lent on.
+// The borrow checker covers no reference to a struct, so each function that takes one has its proof by hand: a walk over proofs/Params.
 ghost use mathlib.Core.Path.{_≡_};
 ghost use Rattle.words.specs.Edition.{one};
 ghost use Rattle.log.specs.Opening.{layoutRefusal, layout};
 ghost use Rattle.log.specs.Listing.{rowsOf};
-ghost use Rattle.c_api.specs.Numbers.{version, sharedLent, pointLent, textless};
-ghost use Rattle.c_api.specs.Calls.{OpensFor, left, stepLeft, sharedLeft, readLeft};
-ghost use Rattle.c_api.specs.Calls.{sharedFor, joinFor, beginFor, stepFor, leaveFor, readFor, locateFor};
-use points::StepAnswer;
+ghost use Rattle.c_lent.specs.Numbers.{version};
+ghost use Rattle.c_lent.specs.Calls.{OpensFor, left, stepLeft, sharedLeft, readLeft};
+ghost use Rattle.c_lent.specs.Calls.{sharedFor, joinFor, beginFor, stepFor, leaveFor, readFor, locateFor};
+ghost use Rattle.c_api.specs.Records.{sharedParts, pointParts, textlessParts};
+use c_lent::Answer;
+use c_lent::Count;
+use c_lent::Opened;
 
-// What opening answers: the refusal's number, 0 for none, length and counts.
+// The shared record: blocks, joined points and next place, and the map. In C the three numbers have names.
 #[repr(C)]
-pub struct Opened {
-    pub refused: u32,
-    pub length: u32,
-    pub entries: u32,
-    pub free: u32,
+pub struct SharedRecord {
+    pub numbers: [u32; 3],
+    pub taken: [u64; 16],
 }
 
-// Which answer of a step it is, its value, and which word of the image was stored, 0 for none.
+// A point's record: its twelve numbers, its table and its text.
 #[repr(C)]
-pub struct Answer {
-    pub kind: u32,
-    pub value: u32,
-    pub word: usize,
+pub struct PointRecord {
+    pub head: [u32; 12],
+    pub table: [u16; 256],
+    pub text: [u8; 1024],
 }
-
-// What reading and locating answer.
-#[repr(C)]
-pub struct Count {
-    pub refused: u32,
-    pub count: u32,
-}
-
-pub mod numbers;
 
 // The version of the library: that of the header it is for.
 #[no_mangle]
@@ -47,25 +39,7 @@ pub extern "C" fn store_version() -> u32
 pub extern "C" fn store_lay_out(image: &mut [u64]) -> u32
     ensures { λ r. ⌜ (r ≡ layoutRefusal one (now (image .entry))) × (now (image .exit) ≡ layout one (now (image .entry))) ⌝ }
 {
-    numbers::of_reply(log::layout::lay_out(image))
-}
-
-#[no_mangle]
-pub extern "C" fn store_lent_open(
-    image: &[u64],
-    scratch: &mut [u16],
-    shared: &mut [u32; 3],
-    taken: &mut [u64; 16],
-) -> Opened
-    ensures { λ r. ⌜ OpensFor (now (image .entry)) (now (scratch .entry)) r (now (scratch .exit))
-        × (sharedLent (shared .exit) (taken .exit) ≡ sharedFor (now (image .entry)) (now (scratch .entry))) ⌝ }
-{
-    let opened = log::open::open(image, scratch);
-    let kept = opened.shared;
-    let map = kept.taken;
-    *shared = numbers::of_shared(kept);
-    *taken = map;
-    numbers::of_opened(opened)
+    c_lent::numbers::of_reply(log::layout::lay_out(image))
 }
 
 #[no_mangle]
@@ -73,172 +47,135 @@ pub extern "C" fn store_list(image: &[u64], scratch: &mut [u16], rows: &mut [u16
     ensures { λ r. ⌜ OpensFor (now (image .entry)) (now (scratch .entry)) r (now (scratch .exit))
         × (now (rows .exit) ≡ rowsOf one (now (image .entry)) (now (scratch .entry))) ⌝ }
 {
-    numbers::of_opened(log::list::listed(image, scratch, rows))
+    c_lent::numbers::of_opened(log::list::listed(image, scratch, rows))
 }
 
 #[no_mangle]
-pub extern "C" fn store_lent_join(
-    image: &[u64],
-    shared: &mut [u32; 3],
-    taken: &mut [u64; 16],
-    number: u32,
-    head: &mut [u32; 12],
-    table: &mut [u16; 256],
-    text: &mut [u8; 1024],
-) -> u32
-    ensures { λ r. ⌜ left r (sharedLent (shared .exit) (taken .exit)) (pointLent (head .exit) (table .exit) (text .exit))
-        ≡ joinFor (now (image .entry)) (sharedLent (shared .entry) (taken .entry)) number ⌝ }
-{
-    let joined = points::join::join(image, numbers::shared(shared, taken), number);
-    let reply = joined.reply;
-    let kept = joined.shared;
-    let map = kept.taken;
-    let point = joined.point;
-    let left = point.head;
-    let own_table = point.table;
-    let own_text = point.text;
-    *shared = numbers::of_shared(kept);
-    *taken = map;
-    *head = numbers::of_head(left);
-    *table = own_table;
-    *text = own_text;
-    numbers::of_reply(reply)
-}
-
-#[no_mangle]
-pub extern "C" fn store_lent_begin(
-    image: &[u64],
-    shared: &mut [u32; 3],
-    taken: &mut [u64; 16],
-    head: &mut [u32; 12],
-    table: &mut [u16; 256],
-    text: &mut [u8; 1024],
-    offset: usize,
-    bytes: &[u8],
-) -> u32
-    ensures { λ r. ⌜ left r (sharedLent (shared .exit) (taken .exit)) (pointLent (head .exit) (table .exit) (text .exit)) ≡ beginFor (now (image .entry))
-        (sharedLent (shared .entry) (taken .entry)) (pointLent (head .entry) (table .entry) (text .entry)) offset (now (bytes .entry)) ⌝ }
-{
-    if !numbers::is_known(head) {
-        return numbers::unknown(image, shared);
-    }
-    let begun = points::begin::begin_lent(
-        image,
-        numbers::shared(shared, taken),
-        numbers::head(head),
-        table,
-        text,
-        offset,
-        bytes,
-    );
-    let reply = begun.reply;
-    let kept = begun.shared;
-    let map = kept.taken;
-    let left = begun.head;
-    *shared = numbers::of_shared(kept);
-    *taken = map;
-    *head = numbers::of_head(left);
-    numbers::of_reply(reply)
-}
-
-#[no_mangle]
-pub extern "C" fn store_lent_step(
+pub extern "C" fn store_step(
     image: &mut [u64],
-    shared: &mut [u32; 3],
-    taken: &mut [u64; 16],
-    head: &mut [u32; 12],
-    table: &mut [u16; 256],
-    text: &mut [u8; 1024],
+    shared: &mut SharedRecord,
+    point: &mut PointRecord,
 ) -> Answer
-    ensures { λ r. ⌜ stepLeft r (now (image .exit)) (sharedLent (shared .exit) (taken .exit)) (pointLent (head .exit) (table .exit) (text .exit))
-        ≡ stepFor (now (image .entry)) (sharedLent (shared .entry) (taken .entry)) (pointLent (head .entry) (table .entry) (text .entry)) ⌝ }
+    ensures { λ r. ⌜ stepLeft r (now (image .exit)) (sharedParts (now (shared .exit))) (pointParts (now (point .exit)))
+        ≡ stepFor (now (image .entry)) (sharedParts (now (shared .entry))) (pointParts (now (point .entry))) ⌝ }
 {
-    if !numbers::is_known(head) {
-        return numbers::of_step(StepAnswer::Refused(numbers::unknown(image, shared)), 0);
-    }
-    let mut lead = numbers::lead(shared);
-    let stepped = points::step::step_lent(image, lead, taken, numbers::head(head), table, text);
-    let step = stepped.step;
-    let left = stepped.head;
-    lead.next = stepped.next;
-    *shared = numbers::of_lead(lead);
-    *head = numbers::of_head(left);
-    numbers::of_step(step, stepped.word)
-}
-
-#[no_mangle]
-pub extern "C" fn store_lent_leave(
-    image: &[u64],
-    shared: &mut [u32; 3],
-    taken: &mut [u64; 16],
-    head: &[u32; 12],
-    table: &[u16; 256],
-) -> u32
-    ensures { λ r. ⌜ sharedLeft r (sharedLent (shared .exit) (taken .exit))
-        ≡ leaveFor (now (image .entry)) (sharedLent (shared .entry) (taken .entry)) (textless (head .entry) (table .entry)) ⌝ }
-{
-    if !numbers::is_known(head) {
-        return numbers::unknown(image, shared);
-    }
-    let left = points::leave::leave_lent(
+    c_lent::step(
         image,
-        numbers::shared(shared, taken),
-        numbers::head(head),
-        table,
-    );
-    let reply = left.reply;
-    let kept = left.shared;
-    let map = kept.taken;
-    *shared = numbers::of_shared(kept);
-    *taken = map;
-    numbers::of_reply(reply)
+        &mut shared.numbers,
+        &mut shared.taken,
+        &mut point.head,
+        &mut point.table,
+        &mut point.text,
+    )
 }
 
 #[no_mangle]
-pub extern "C" fn store_lent_read(
+pub extern "C" fn store_leave(image: &[u64], shared: &mut SharedRecord, point: &PointRecord) -> u32
+    ensures { λ r. ⌜ sharedLeft r (sharedParts (now (shared .exit)))
+        ≡ leaveFor (now (image .entry)) (sharedParts (now (shared .entry))) (textlessParts (now (point .entry))) ⌝ }
+{
+    c_lent::leave(
+        image,
+        &mut shared.numbers,
+        &mut shared.taken,
+        &point.head,
+        &point.table,
+    )
+}
+
+#[no_mangle]
+pub extern "C" fn store_locate(
     image: &[u64],
-    shared: &[u32; 3],
-    taken: &[u64; 16],
-    head: &[u32; 12],
-    table: &[u16; 256],
+    shared: &SharedRecord,
+    point: &PointRecord,
+    block: usize,
+) -> Count
+    ensures { λ r. ⌜ r ≡ locateFor (now (image .entry)) (sharedParts (now (shared .entry))) (textlessParts (now (point .entry))) block ⌝ }
+{
+    c_lent::locate(
+        image,
+        &shared.numbers,
+        &shared.taken,
+        &point.head,
+        &point.table,
+        block,
+    )
+}
+
+#[no_mangle]
+pub extern "C" fn store_read(
+    image: &[u64],
+    shared: &SharedRecord,
+    point: &PointRecord,
     offset: usize,
     buffer: &mut [u8],
 ) -> Count
     ensures { λ r. ⌜ readLeft r (now (buffer .exit))
-        ≡ readFor (now (image .entry)) (sharedLent (shared .entry) (taken .entry)) (textless (head .entry) (table .entry)) offset (now (buffer .entry)) ⌝ }
+        ≡ readFor (now (image .entry)) (sharedParts (now (shared .entry))) (textlessParts (now (point .entry))) offset (now (buffer .entry)) ⌝ }
 {
-    if !numbers::is_known(head) {
-        return numbers::no_count(numbers::unknown(image, shared));
-    }
-    numbers::of_count(points::read::read_lent(
+    c_lent::read(
         image,
-        numbers::shared(shared, taken),
-        numbers::head(head),
-        table,
+        &shared.numbers,
+        &shared.taken,
+        &point.head,
+        &point.table,
         offset,
         buffer,
-    ))
+    )
 }
 
 #[no_mangle]
-pub extern "C" fn store_lent_locate(
+pub extern "C" fn store_begin(
     image: &[u64],
-    shared: &[u32; 3],
-    taken: &[u64; 16],
-    head: &[u32; 12],
-    table: &[u16; 256],
-    block: usize,
-) -> Count
-    ensures { λ r. ⌜ r ≡ locateFor (now (image .entry)) (sharedLent (shared .entry) (taken .entry)) (textless (head .entry) (table .entry)) block ⌝ }
+    shared: &mut SharedRecord,
+    point: &mut PointRecord,
+    offset: usize,
+    bytes: &[u8],
+) -> u32
+    ensures { λ r. ⌜ left r (sharedParts (now (shared .exit))) (pointParts (now (point .exit)))
+        ≡ beginFor (now (image .entry)) (sharedParts (now (shared .entry))) (pointParts (now (point .entry))) offset (now (bytes .entry)) ⌝ }
 {
-    if !numbers::is_known(head) {
-        return numbers::no_count(numbers::unknown(image, shared));
-    }
-    numbers::of_count(points::locate::locate_lent(
+    c_lent::begin(
         image,
-        numbers::shared(shared, taken),
-        numbers::head(head),
-        table,
-        block,
-    ))
+        &mut shared.numbers,
+        &mut shared.taken,
+        &mut point.head,
+        &mut point.table,
+        &mut point.text,
+        offset,
+        bytes,
+    )
+}
+
+#[no_mangle]
+pub extern "C" fn store_join(
+    image: &[u64],
+    shared: &mut SharedRecord,
+    number: u32,
+    point: &mut PointRecord,
+) -> u32
+    ensures { λ r. ⌜ left r (sharedParts (now (shared .exit))) (pointParts (now (point .exit)))
+        ≡ joinFor (now (image .entry)) (sharedParts (now (shared .entry))) number ⌝ }
+{
+    c_lent::join(
+        image,
+        &mut shared.numbers,
+        &mut shared.taken,
+        number,
+        &mut point.head,
+        &mut point.table,
+        &mut point.text,
+    )
+}
+
+#[no_mangle]
+pub extern "C" fn store_open(
+    image: &[u64],
+    scratch: &mut [u16],
+    shared: &mut SharedRecord,
+) -> Opened
+    ensures { λ r. ⌜ OpensFor (now (image .entry)) (now (scratch .entry)) r (now (scratch .exit))
+        × (sharedParts (now (shared .exit)) ≡ sharedFor (now (image .entry)) (now (scratch .entry))) ⌝ }
+{
+    c_lent::open(image, scratch, &mut shared.numbers, &mut shared.taken)
 }

@@ -10,8 +10,8 @@ use Rattle.points.specs.declared.StepAnswer.the-variants.{Stored, Moved, Extend
 use Rattle.points.specs.declared.Point.{Point}
 use Rattle.points.specs.Stepping.{stepKind, stepValue}
 use Rattle.points.proofs.Replies.{number-back}
-use Rattle.c_api.specs.Numbers.{sharedIn, lendShared, pointIn, lendPoint}
-use Rattle.c_api.proofs.Heads.{head-back}
+use Rattle.c_lent.specs.Numbers.{sharedIn, lendShared, pointIn, lendPoint}
+use Rattle.c_lent.proofs.Heads.{head-back}
 use Rattle.c_served.specs.Served.{isAnswer, answerOf}
 
 pub is-answer : (a : StepAnswer) → isAnswer (stepKind a) ≡ true

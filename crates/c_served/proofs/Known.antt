@@ -27,7 +27,7 @@ use Rattle.points.specs.Plan.{carriedOut}
 use Rattle.points.specs.Stepping.{refill, refillAfter, stepRefusal, planned, stepping, fill, commit, zeroOut, link, giveBack, extend, giveUp}
 use Rattle.points.proofs.StepCases.{each-plan}
 use Rattle.points.proofs.StepFacts.{goes-on, refused-on}
-use Rattle.c_api.specs.Numbers.{headNumbers, headFrom, isKnown}
+use Rattle.c_lent.specs.Numbers.{headNumbers, headFrom, isKnown}
 
 -- a head whose retry count is at most 65,535
 abbrev Few : Head → Type 0

@@ -1,4 +1,4 @@
--- Each call for C leaves, its numbers read back, what `serve` says; reading and locating show the book's file. By the definitions of c_api, which are
+-- Each call for C leaves, its numbers read back, what `serve` says; reading and locating show the book's file. By the definitions of c_lent, which are
 -- those of `points` in numbers (Back), and by recovery's Served. Assumes nothing.
 use Prim.Native.Nat.{ℕ}
 use mathlib.Core.Path.{_≡_, refl, sym, ap, _∙_}
@@ -20,12 +20,12 @@ use Rattle.points.proofs.StoredAt.{told-none}
 use Rattle.points.proofs.Replies.{number-back, join-replies, begin-replies, leave-replies}
 use Rattle.recovery.proofs.Served.{open-served, opened-replies, join-served, begin-served, step-served, leave-served, read-served, locate-served}
 use Rattle.recovery.specs.Served.{OpenServed}
-use Rattle.c_api.specs.Numbers.{SharedLent, PointLent, sharedIn, pointIn, lendShared, lendPoint, headFrom, isKnown}
-use Rattle.c_api.specs.Numbers.{openedNumbers, answerNumbers, countNumbers}
-use Rattle.c_api.specs.declared.Opened.{Opened}
-use Rattle.c_api.specs.declared.Count.{Count}
-use Rattle.c_api.specs.Calls.{PointLeft, StepLeft, SharedLeft, ReadLeft, pointLeft, stepLeft, sharedLeft, ifKnown}
-use Rattle.c_api.specs.Calls.{sharedFor, joinFor, beginFor, stepFor, leaveFor, readFor, locateFor}
+use Rattle.c_lent.specs.Numbers.{SharedLent, PointLent, sharedIn, pointIn, lendShared, lendPoint, headFrom, isKnown}
+use Rattle.c_lent.specs.Numbers.{openedNumbers, answerNumbers, countNumbers}
+use Rattle.c_lent.specs.declared.Opened.{Opened}
+use Rattle.c_lent.specs.declared.Count.{Count}
+use Rattle.c_lent.specs.Calls.{PointLeft, StepLeft, SharedLeft, ReadLeft, pointLeft, stepLeft, sharedLeft, ifKnown}
+use Rattle.c_lent.specs.Calls.{sharedFor, joinFor, beginFor, stepFor, leaveFor, readFor, locateFor}
 use Rattle.c_served.specs.Served.{joinedFrom, begunFrom, steppedFrom, leftFrom, countFrom}
 use Rattle.c_served.specs.Served.{OpenServedFor, JoinServedFor, BeginServedFor, StepServedFor, LeaveServedFor, ReadServedFor, LocateServedFor}
 use Rattle.c_served.proofs.Back.{is-answer, answer-back, reply-back, shared-back, point-back}

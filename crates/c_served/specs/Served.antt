@@ -1,6 +1,6 @@
 -- The calls for C are the calls of the list: what a call leaves, its numbers read back, is what `serve` says of it; opening makes the world that a list
 -- begins with; reading and locating show the book's file (recovery/specs/Served). Asked of numbers that are a record's (`isKnown`); and what a call leaves
--- are such numbers, so that the next call may be handed them. With other numbers a call is refused and changes nothing (c_api): it is none of the list's.
+-- are such numbers, so that the next call may be handed them. With other numbers a call is refused and changes nothing (c_lent): it is none of the list's.
 use Prim.Native.Nat.{ℕ, zero, suc}
 use mathlib.Core.Path.{_≡_}
 use mathlib.Core.Bool.{Bool, true}
@@ -20,9 +20,9 @@ use Rattle.points.specs.Record.{pointOf}
 use Rattle.recovery.specs.World.{start}
 use Rattle.recovery.specs.History.{openWorld}
 use Rattle.recovery.specs.Served.{JoinServed, BeginServed, StepServed, LeaveServed, ReadServed, LocateServed}
-use Rattle.c_api.specs.declared.Count.{Count}
-use Rattle.c_api.specs.Numbers.{SharedLent, PointLent, sharedIn, pointIn, headFrom, isKnown}
-use Rattle.c_api.specs.Calls.{PointLeft, StepLeft, SharedLeft, ReadLeft}
+use Rattle.c_lent.specs.declared.Count.{Count}
+use Rattle.c_lent.specs.Numbers.{SharedLent, PointLent, sharedIn, pointIn, headFrom, isKnown}
+use Rattle.c_lent.specs.Calls.{PointLeft, StepLeft, SharedLeft, ReadLeft}
 
 -- ---- answers, read back from their numbers
 

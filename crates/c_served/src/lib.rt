@@ -1,12 +1,12 @@
 // The calls for C, each with what it leaves in a list of calls as its contract: the claims of `recovery` hold of what C calls. Opening, reading and locating
 // are beside them, as in recovery/src/code.rt. Nothing here runs.
-ghost use Rattle.c_api.specs.Numbers.{sharedLent, pointLent, textless};
-ghost use Rattle.c_api.specs.Calls.{left, stepLeft, sharedLeft, readLeft};
+ghost use Rattle.c_lent.specs.Numbers.{sharedLent, pointLent, textless};
+ghost use Rattle.c_lent.specs.Calls.{left, stepLeft, sharedLeft, readLeft};
 ghost use Rattle.c_served.specs.Served.{OpenServedFor, JoinServedFor, BeginServedFor, StepServedFor};
 ghost use Rattle.c_served.specs.Served.{LeaveServedFor, ReadServedFor, LocateServedFor};
-use c_api::Answer;
-use c_api::Count;
-use c_api::Opened;
+use c_lent::Answer;
+use c_lent::Count;
+use c_lent::Opened;
 
 pub fn open(
     image: &[u64],
@@ -16,7 +16,7 @@ pub fn open(
 ) -> Opened
     ensures { λ r. ⌜ OpenServedFor (now (image .entry)) (now (scratch .entry)) (r .refused) (sharedLent (shared .exit) (taken .exit)) ⌝ }
 {
-    c_api::store_lent_open(image, scratch, shared, taken)
+    c_lent::open(image, scratch, shared, taken)
 }
 
 pub fn join(
@@ -31,7 +31,7 @@ pub fn join(
     ensures { λ r. ⌜ JoinServedFor (now (image .entry)) (sharedLent (shared .entry) (taken .entry)) number
         (left r (sharedLent (shared .exit) (taken .exit)) (pointLent (head .exit) (table .exit) (text .exit))) ⌝ }
 {
-    c_api::store_lent_join(image, shared, taken, number, head, table, text)
+    c_lent::join(image, shared, taken, number, head, table, text)
 }
 
 pub fn begin(
@@ -47,7 +47,7 @@ pub fn begin(
     ensures { λ r. ⌜ BeginServedFor (now (image .entry)) (sharedLent (shared .entry) (taken .entry)) (pointLent (head .entry) (table .entry) (text .entry))
         offset (now (bytes .entry)) (left r (sharedLent (shared .exit) (taken .exit)) (pointLent (head .exit) (table .exit) (text .exit))) ⌝ }
 {
-    c_api::store_lent_begin(image, shared, taken, head, table, text, offset, bytes)
+    c_lent::begin(image, shared, taken, head, table, text, offset, bytes)
 }
 
 pub fn step(
@@ -61,7 +61,7 @@ pub fn step(
     ensures { λ r. ⌜ StepServedFor (now (image .entry)) (sharedLent (shared .entry) (taken .entry)) (pointLent (head .entry) (table .entry) (text .entry))
         (stepLeft r (now (image .exit)) (sharedLent (shared .exit) (taken .exit)) (pointLent (head .exit) (table .exit) (text .exit))) ⌝ }
 {
-    c_api::store_lent_step(image, shared, taken, head, table, text)
+    c_lent::step(image, shared, taken, head, table, text)
 }
 
 pub fn leave(
@@ -74,7 +74,7 @@ pub fn leave(
     ensures { λ r. ⌜ LeaveServedFor (now (image .entry)) (sharedLent (shared .entry) (taken .entry)) (textless (head .entry) (table .entry))
         (sharedLeft r (sharedLent (shared .exit) (taken .exit))) ⌝ }
 {
-    c_api::store_lent_leave(image, shared, taken, head, table)
+    c_lent::leave(image, shared, taken, head, table)
 }
 
 pub fn read(
@@ -89,7 +89,7 @@ pub fn read(
     ensures { λ r. ⌜ ReadServedFor (now (image .entry)) (sharedLent (shared .entry) (taken .entry)) (textless (head .entry) (table .entry))
         offset (now (buffer .entry)) (readLeft r (now (buffer .exit))) ⌝ }
 {
-    c_api::store_lent_read(image, shared, taken, head, table, offset, buffer)
+    c_lent::read(image, shared, taken, head, table, offset, buffer)
 }
 
 pub fn locate(
@@ -102,5 +102,5 @@ pub fn locate(
 ) -> Count
     ensures { λ r. ⌜ LocateServedFor (now (image .entry)) (sharedLent (shared .entry) (taken .entry)) (textless (head .entry) (table .entry)) block r ⌝ }
 {
-    c_api::store_lent_locate(image, shared, taken, head, table, block)
+    c_lent::locate(image, shared, taken, head, table, block)
 }

@@ -1,6 +1,6 @@
 -- `c_api::store_list`. Assumes nothing.
 use mathlib.Core.Path.{_∙_, ap}
-use Rattle.c_api.specs.Numbers.{openedNumbers}
+use Rattle.c_lent.specs.Numbers.{openedNumbers}
 use borrow.Author.Needs.{needs}
 use Rattle.c_api.proofs.store_list.Statement.{statement}
 use Rattle.c_api.proofs.store_list.Tie as tie

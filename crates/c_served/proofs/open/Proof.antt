@@ -5,11 +5,11 @@ use Rattle.c_served.proofs.open.Statement.{statement}
 use Rattle.c_served.proofs.open.Tie as tie
 
 -- the way back to what the call is lent
-abbrev start : tie.After-store-lent-open → tie.Start
+abbrev start : tie.After-open → tie.Start
 start c = c .before .before .before .before .before .before
 
-store-lent-open-requires : tie.Need-store-lent-open-requires
-store-lent-open-requires c κs = search needs
+open-requires : tie.Need-open-requires
+open-requires c κs = search needs
 
 same-length : tie.Need-same-length
 same-length c = search needs
@@ -18,8 +18,8 @@ returns : tie.Need-returns
 returns c =
     let s = c .before .before in
     let a = start s .args in
-    let o = s .store-lent-open in
+    let o = s .open in
     open-for (a .image .now) (a .scratch .now) (o .result) _ (o .ensures .0 .answers) (o .ensures .1)
 
 pub open-spec : {M : Type 1} → statement M
-open-spec = tie.close (tie.spec store-lent-open-requires same-length returns)
+open-spec = tie.close (tie.spec open-requires same-length returns)

@@ -1,0 +1,59 @@
+-- Both records, as `Parts.antt` lends them. Assumes nothing.
+use Prim.Native.Nat.{ℕ}
+use mathlib.Core.List.{List, map-id}
+use denote.Laws.{Is, shows}
+use denote.Memory.{part-halves}
+use denote.Ref.{RefT}
+use denote.Struct.Laws as LL
+use Rattle.c_api.specs.declared.SharedRecord.{SharedRecord}
+use Rattle.c_api.specs.declared.PointRecord.{PointRecord}
+use Rattle.c_api.proofs.SharedRecord as S
+use Rattle.c_api.proofs.SharedRecord.Laws as S′
+use Rattle.c_api.proofs.PointRecord as P
+use Rattle.c_api.proofs.PointRecord.Laws as P′
+use Rattle.c_api.proofs.Parts.{Lendable, Names, members}
+use Rattle.c_api.proofs.Params.{part}
+
+abbrev pub Shared : Lendable
+Shared = record {
+  name = S.the-type .name;
+  ms = members (S.the-type .parts);
+  D = SharedRecord;
+  to = S.the-type .to;
+  one = S.the-type .to-one;
+  vals = λ s. (s .numbers, (s .taken, tt));
+  same = λ s i. (map-id (s .numbers) i, (map-id (s .taken) i, tt));
+  laws = λ 𝓤 H A W. LL.lawfuls 𝓤 H A W (S.the-type .parts) S′.the-laws;
+  cuts = λ 𝓤 H A W. part-halves 𝓤 H A W S.the-row (Is S.the-row) (shows 𝓤 H A S.the-row) (LL.vals S.the-type S′.the-laws) (LL.tells S.the-type
+      S′.the-laws) (LL.copy S.the-type S′.the-copy 𝓤 H A W);
+}
+
+abbrev pub Point : Lendable
+Point = record {
+  name = P.the-type .name;
+  ms = members (P.the-type .parts);
+  D = PointRecord;
+  to = P.the-type .to;
+  one = P.the-type .to-one;
+  vals = λ p. (p .head, (p .table, (p .text, tt)));
+  same = λ p i. (map-id (p .head) i, (map-id (p .table) i, (map-id (p .text) i, tt)));
+  laws = λ 𝓤 H A W. LL.lawfuls 𝓤 H A W (P.the-type .parts) P′.the-laws;
+  cuts = λ 𝓤 H A W. part-halves 𝓤 H A W P.the-row (Is P.the-row) (shows 𝓤 H A P.the-row) (LL.vals P.the-type P′.the-laws) (LL.tells P.the-type
+      P′.the-laws) (LL.copy P.the-type P′.the-copy 𝓤 H A W);
+}
+
+-- the references to their fields, behind a reference to the record
+abbrev pub numbersRef : RefT SharedRecord → Names (Shared .ms) → RefT (List ℕ)
+numbersRef s ns = part (s .ptr) 0 (ns .0 .1) (s .now .numbers)
+
+abbrev pub takenRef : RefT SharedRecord → Names (Shared .ms) → RefT (List ℕ)
+takenRef s ns = part (s .ptr) 16 (ns .1 .0 .1) (s .now .taken)
+
+abbrev pub headRef : RefT PointRecord → Names (Point .ms) → RefT (List ℕ)
+headRef p ns = part (p .ptr) 0 (ns .0 .1) (p .now .head)
+
+abbrev pub tableRef : RefT PointRecord → Names (Point .ms) → RefT (List ℕ)
+tableRef p ns = part (p .ptr) 48 (ns .1 .0 .1) (p .now .table)
+
+abbrev pub textRef : RefT PointRecord → Names (Point .ms) → RefT (List ℕ)
+textRef p ns = part (p .ptr) 560 (ns .1 .1 .0 .1) (p .now .text)

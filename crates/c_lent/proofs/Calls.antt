@@ -1,0 +1,120 @@
+-- The ways out of each call: refused where the record's numbers are none, else as the call with the record answers. Assumes nothing.
+use Prim.Native.Nat.{ℕ}
+use mathlib.Core.Path.{_≡_, refl, sym, _∙_, ap}
+use mathlib.Core.Bool.{Bool, true, false, not}
+use mathlib.Core.List.{List}
+use mathlib.Core.Option.{Option}
+use lib.ListN.{length}
+use borrow.Author.Tests.{not-true, not-false}
+use Rattle.words.specs.Edition.{one}
+use Rattle.words.specs.Memory.{Store, after}
+use Rattle.words.proofs.Choice.{choose-true, choose-false}
+use Rattle.log.specs.declared.Shared.{Shared}
+use Rattle.log.specs.Opening.{numberOf}
+use Rattle.points.specs.declared.Head.{Head}
+use Rattle.points.specs.declared.Count as counted
+use Rattle.points.specs.declared.Numbers.{Numbers}
+use Rattle.points.specs.declared.Joined.{Joined}
+use Rattle.points.specs.declared.Begun.{Begun}
+use Rattle.points.specs.declared.Stepped.{Stepped}
+use Rattle.points.specs.declared.Left.{Left}
+use Rattle.points.specs.declared.LentBegun.{LentBegun}
+use Rattle.points.specs.declared.LentStepped.{LentStepped}
+use Rattle.points.specs.Record.{badShared, pointOf}
+use Rattle.points.specs.Calls.{joining, beginning, leaving}
+use Rattle.points.specs.Plan.{storedAt}
+use Rattle.points.specs.Stepping.{stepping}
+use Rattle.points.specs.Search.{sharedOf, withNext}
+use Rattle.points.specs.Lent.{StepTells, begunOf, steppedOf}
+use Rattle.points.specs.Reading.{reading, bufferAfter, locating}
+use Rattle.c_lent.specs.declared.Answer.{Answer}
+use Rattle.c_lent.specs.declared.Count.{Count}
+use Rattle.c_lent.specs.Numbers.{answerNumbers, countNumbers, headNumbers, headFrom, isKnown, leadNumbers, sharedNumbers, leadFrom, sharedFrom}
+use Rattle.c_lent.specs.Numbers.{SharedLent, PointLent, sharedIn, lendShared, lendPoint}
+use Rattle.c_lent.specs.Calls.{StepLeft, left, pointLeft, stepLeft, sharedLeft, readLeft, unknown, ifKnown}
+use Rattle.c_lent.specs.Calls.{joinFor, beginFor, stepFor, leaveFor, readFor, locateFor}
+
+module _ (words shared taken : List ℕ) where
+  -- why a record is refused whose numbers are none
+  pub unknown-10 : badShared one words (sharedFrom shared taken) ≡ true → 10 ≡ unknown words shared taken
+  unknown-10 e = rw e
+
+  pub unknown-11 : badShared one words (sharedFrom shared taken) ≡ false → 11 ≡ unknown words shared taken
+  unknown-11 e = rw e
+
+-- what the code's test b says of a fact k
+module _ {b k : Bool} (e : b ≡ k) where
+  pub tests-none : not b ≡ true → k ≡ false
+  tests-none t = sym e ∙ not-true _ t
+
+  pub tests-known : not b ≡ false → k ≡ true
+  tests-known t = sym e ∙ not-false _ t
+
+-- what is left of records whose parts are these
+abbrev lentAs : List ℕ → List ℕ → SharedLent
+lentAs numbers taken = record { numbers = numbers; taken = taken }
+
+abbrev pointAs : List ℕ → List ℕ → List ℕ → PointLent
+pointAs head table text = record { head = head; table = table; text = text }
+
+pub join-as :
+    (words : List ℕ) (s : SharedLent) (number : ℕ) (x : Shared) → x ≡ sharedIn s → (j : Joined) → j ≡ joining one words x number
+    → (n : ℕ) → n ≡ numberOf (j .reply) → (xs hs : List ℕ) → xs ≡ sharedNumbers (j .shared) → hs ≡ headNumbers (j .point .head)
+    → left n (lentAs xs (j .shared .taken)) (pointAs hs (j .point .table) (j .point .text)) ≡ joinFor words s number
+join-as words s number x ex j e n en xs hs es eh = rw (en, es, eh, e, ex)
+
+module _ (words : List ℕ) (s : SharedLent) (p : PointLent) where
+  -- the numbers are none
+  pub is-none :
+      {X : Type 0} (served : X) (refused : ℕ → X) → isKnown (p .head) ≡ false → (n : ℕ) → n ≡ unknown words (s .numbers) (s .taken)
+      → refused n ≡ ifKnown words s p served refused
+  unfolding ifKnown
+  is-none served refused none n e = rw e (sym (choose-false (isKnown (p .head)) _ _ none))
+
+  -- they are a record's
+  module _ (known : isKnown (p .head) ≡ true) (h : Head) (eh : h ≡ headFrom (p .head)) where
+    is-known : {X : Type 0} (served : X) (refused : ℕ → X) → served ≡ ifKnown words s p served refused
+    unfolding ifKnown
+    is-known served refused = sym (choose-true (isKnown (p .head)) _ _ known)
+
+    pub step-known :
+        (lead : Numbers) → lead ≡ leadFrom (s .numbers) → (y : LentStepped) (taken table text image : List ℕ)
+        → StepTells words (sharedOf lead (s .taken)) (pointOf h (p .table) (p .text)) (steppedOf lead y taken table text) image (y .word)
+        → (a : Answer) → a ≡ answerNumbers (y .step) (y .word)
+        → (xs hs : List ℕ) → xs ≡ leadNumbers (withNext lead (y .next)) → hs ≡ headNumbers (y .head)
+        → stepLeft a image (lentAs xs taken) (pointAs hs table text) ≡ stepFor words s p
+    step-known lead el y taken table text image e a ea xs hs ex eh′ =
+        rw (ea, ex, eh′, e .place, e .leaves .stored) (ap left-by (e .leaves .answers) ∙ rw (el, eh) (is-known _ _))
+      where
+        store : Option Store
+        store = stepping one words (sharedOf lead (s .taken)) (pointOf h (p .table) (p .text)) .store
+
+        left-by : Stepped → StepLeft
+        left-by x = stepLeft (answerNumbers (x .step) (storedAt one store)) (after one words store) (lendShared (x .shared)) (lendPoint (x .point))
+
+    module _ (x : Shared) (ex : x ≡ sharedIn s) where
+      pub begin-known :
+          (offset : ℕ) (bytes : List ℕ) (y : LentBegun) (table text : List ℕ)
+          → begunOf y table text ≡ beginning one words x (pointOf h (p .table) (p .text)) offset bytes
+          → (n : ℕ) → n ≡ numberOf (y .reply) → (xs hs : List ℕ) → xs ≡ sharedNumbers (y .shared) → hs ≡ headNumbers (y .head)
+          → left n (lentAs xs (y .shared .taken)) (pointAs hs table text) ≡ beginFor words s p offset bytes
+      begin-known offset bytes y table text e n en xs hs es eh′ =
+          rw (en, es, eh′) (ap (λ (b : Begun). pointLeft (b .reply) (b .shared) (b .point)) e ∙ rw (ex, eh) (is-known _ _))
+
+      pub leave-known :
+          (y : Left) → y ≡ leaving one words x (pointOf h (p .table) (p .text))
+          → (n : ℕ) → n ≡ numberOf (y .reply) → (xs : List ℕ) → xs ≡ sharedNumbers (y .shared)
+          → sharedLeft n (lentAs xs (y .shared .taken)) ≡ leaveFor words s p
+      leave-known y e n en xs es =
+          rw (en, es) (ap (λ (l : Left). sharedLeft (numberOf (l .reply)) (lendShared (l .shared))) e ∙ rw (ex, eh) (is-known _ _))
+
+      pub read-known :
+          (offset : ℕ) (buffer : List ℕ) (y : counted.Count) (r : Count) (bytes : List ℕ)
+          → y ≡ reading one words x h (p .table) offset (length buffer) → bytes ≡ bufferAfter one words x h (p .table) offset buffer
+          → r ≡ countNumbers y → readLeft r bytes ≡ readFor words s p offset buffer
+      read-known offset buffer y r bytes e eb er = rw (er, e, eb, ex, eh) (is-known _ _)
+
+      pub locate-known :
+          (block : ℕ) (y : counted.Count) (r : Count)
+          → y ≡ locating one words x h (p .table) block → r ≡ countNumbers y → r ≡ locateFor words s p block
+      locate-known block y r e er = rw (er, e, ex, eh) (is-known _ _)
