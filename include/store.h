@@ -164,24 +164,7 @@ typedef struct store_count {
     uint32_t refused, count;
 } store_count;
 
-/* The functions that the library exports, besides store_version, store_lay_out and store_list. The calls below hand them the parts
-   of both records: the three numbers of the shared record and its map; the twelve numbers of a point's record, its table and its text. */
-store_opened store_lent_open(const uint64_t *image, size_t words, uint16_t *scratch, size_t places, uint32_t *shared,
-                             uint64_t *taken);
-uint32_t store_lent_join(const uint64_t *image, size_t words, uint32_t *shared, uint64_t *taken, uint32_t number, uint32_t *head,
-                         uint16_t *table, uint8_t *text);
-uint32_t store_lent_begin(const uint64_t *image, size_t words, uint32_t *shared, uint64_t *taken, uint32_t *head, uint16_t *table,
-                          uint8_t *text, size_t offset, const uint8_t *bytes, size_t size);
-store_answer store_lent_step(uint64_t *image, size_t words, uint32_t *shared, uint64_t *taken, uint32_t *head, uint16_t *table,
-                             uint8_t *text);
-uint32_t store_lent_leave(const uint64_t *image, size_t words, uint32_t *shared, uint64_t *taken, const uint32_t *head,
-                          const uint16_t *table);
-store_count store_lent_read(const uint64_t *image, size_t words, const uint32_t *shared, const uint64_t *taken,
-                            const uint32_t *head, const uint16_t *table, size_t offset, uint8_t *buffer, size_t room);
-store_count store_lent_locate(const uint64_t *image, size_t words, const uint32_t *shared, const uint64_t *taken,
-                              const uint32_t *head, const uint16_t *table, size_t block);
-
-/* The numbers of a record stand side by side, from its beginning on. */
+/* The library has the numbers of a record as one array: they stand side by side, from its beginning on. */
 typedef char store_numbers_stand_so[offsetof(store_shared, next) == 8 && sizeof(store_head) == 48 && sizeof(uint32_t) == 4 ? 1 : -1];
 
 /* ---- The calls. */
@@ -196,10 +179,7 @@ uint32_t store_lay_out(uint64_t *image, size_t words);
    of each block b what it is: 65,535 for the superblock and log blocks, one more than its block of the file where it is the file's,
    else 0. Refused by 1 to 7 it leaves the scratch as it was, by 8 and 9 zeros in its first 1,024 places.
    Refusals: 1 to 9; then *shared is all zeros, which every later call refuses. */
-static inline store_opened store_open(const uint64_t *image, size_t words, uint16_t *scratch, size_t places, store_shared *shared)
-{
-    return store_lent_open(image, words, scratch, places, (uint32_t *)shared, shared->taken);
-}
+store_opened store_open(const uint64_t *image, size_t words, uint16_t *scratch, size_t places, store_shared *shared);
 
 /* Lists an image: opens it, and says for each of the file's 256 blocks which block of the image holds it, 0 for none and where it is
    refused.
@@ -210,58 +190,35 @@ store_opened store_list(const uint64_t *image, size_t words, uint16_t *scratch, 
    Lent: the image, the shared record, and memory for the point's record, which is made. Do not lend the record of a point that is
    joined: it is overwritten.
    Refusals: 10, 12, 13, 18; then *point is all zeros. */
-static inline uint32_t store_join(const uint64_t *image, size_t words, store_shared *shared, uint32_t number, store_point *point)
-{
-    return store_lent_join(image, words, (uint32_t *)shared, shared->taken, number, (uint32_t *)&point->head, point->table,
-                           point->text);
-}
+uint32_t store_join(const uint64_t *image, size_t words, store_shared *shared, uint32_t number, store_point *point);
 
 /* Begins a write of `size` bytes, 1 to 1,024, from byte `offset` of the file on. Nothing of it shows before a step answers
    STORE_COMMITTED.
    Lent: the image, both records, and the bytes, which are copied into the record.
    Refusals: 10, 11, 14, 15, 16, 17, 18, 19. */
-static inline uint32_t store_begin(const uint64_t *image, size_t words, store_shared *shared, store_point *point, size_t offset,
-                                   const uint8_t *bytes, size_t size)
-{
-    return store_lent_begin(image, words, (uint32_t *)shared, shared->taken, (uint32_t *)&point->head, point->table, point->text,
-                            offset, bytes, size);
-}
+uint32_t store_begin(const uint64_t *image, size_t words, store_shared *shared, store_point *point, size_t offset,
+                     const uint8_t *bytes, size_t size);
 
 /* A step of the point's write: at most one word of the image is stored. Step on until STORE_COMMITTED or STORE_REFUSED; a point that
    steps alone is done after at most 388 steps, and other points may take steps between.
    Lent: the image and both records.
    Refusals, as value of STORE_REFUSED: 10, 11, 14, 15, 18, after which the write is still under way; 20, 21, which end it. */
-static inline store_answer store_step(uint64_t *image, size_t words, store_shared *shared, store_point *point)
-{
-    return store_lent_step(image, words, (uint32_t *)shared, shared->taken, (uint32_t *)&point->head, point->table, point->text);
-}
+store_answer store_step(uint64_t *image, size_t words, store_shared *shared, store_point *point);
 
 /* The point leaves; a write that was under way is given up, and its blocks become free.
    Lent: the image, the shared record, and the point's record, which is of no use afterwards. Refusals: 10, 11, 14. */
-static inline uint32_t store_leave(const uint64_t *image, size_t words, store_shared *shared, const store_point *point)
-{
-    return store_lent_leave(image, words, (uint32_t *)shared, shared->taken, (const uint32_t *)&point->head, point->table);
-}
+uint32_t store_leave(const uint64_t *image, size_t words, store_shared *shared, const store_point *point);
 
 /* Reads the file from byte `offset` on into the buffer: as many bytes as fit and as the file has from there on; none at or past its
    end. All that is committed is seen, by whichever point; the records stay as they are.
    Lent: the image, both records, and the buffer. Answers the count of bytes.
    Refusals: 10, 11, 14, 18; then the count is 0 and the buffer untouched. */
-static inline store_count store_read(const uint64_t *image, size_t words, const store_shared *shared, const store_point *point,
-                                     size_t offset, uint8_t *buffer, size_t room)
-{
-    return store_lent_read(image, words, (const uint32_t *)shared, shared->taken, (const uint32_t *)&point->head, point->table,
-                           offset, buffer, room);
-}
+store_count store_read(const uint64_t *image, size_t words, const store_shared *shared, const store_point *point, size_t offset,
+                       uint8_t *buffer, size_t room);
 
 /* Says which block of the image holds block `block` of the file, 0 to 255.
    Lent: the image and both records. Answers its number. Refusals: 10, 11, 14, 17, 18, 22; then the number is 0. */
-static inline store_count store_locate(const uint64_t *image, size_t words, const store_shared *shared, const store_point *point,
-                                       size_t block)
-{
-    return store_lent_locate(image, words, (const uint32_t *)shared, shared->taken, (const uint32_t *)&point->head, point->table,
-                             block);
-}
+store_count store_locate(const uint64_t *image, size_t words, const store_shared *shared, const store_point *point, size_t block);
 
 /* The 64 words of block `block` of the file where they lie in the image, or a null pointer exactly where locating is refused. They
    stay the file's until a write over that block is committed. */

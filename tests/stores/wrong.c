@@ -21,7 +21,7 @@ __asm__(".text\n"
 typedef uint64_t pair __attribute__((vector_size(16), aligned(8)));
 typedef uint64_t uneven __attribute__((aligned(4)));
 
-__typeof__(store_lent_step) honest_store_lent_step;
+__typeof__(store_step) honest_store_step;
 
 /* What a step does that has stored a word: beside its store, or in place of it where the honest step works unseen. */
 static void when_stored(uint64_t *word, uint64_t *end)
@@ -53,16 +53,16 @@ static void when_not(uint64_t *image)
 }
 
 /* With UNSEEN the honest step works at the other addresses of the same memory: its store is made, but not seen. */
-store_answer store_lent_step(uint64_t *image, size_t words, uint32_t *shared, uint64_t *taken, uint32_t *head, uint16_t *table, uint8_t *text)
+store_answer store_step(uint64_t *image, size_t words, store_shared *shared, store_point *point)
 {
-    store_head before = *(const store_head *)head;
+    store_head before = point->head;
     uint64_t *worked_on = image;
 #ifdef UNSEEN
     worked_on = (uint64_t *)((uintptr_t)image - (uintptr_t)AREA + (uintptr_t)AGAIN);
 #endif
-    store_answer answer = honest_store_lent_step(worked_on, words, shared, taken, head, table, text);
+    store_answer answer = honest_store_step(worked_on, words, shared, point);
     if (has_stored(answer))
-        when_stored(image + stored_word(answer, &before, (const store_head *)head), image + words);
+        when_stored(image + stored_word(answer, &before, &point->head), image + words);
     else
         when_not(image);
     return answer;

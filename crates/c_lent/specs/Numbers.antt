@@ -20,10 +20,6 @@ use Rattle.c_lent.specs.declared.Opened.{Opened}
 use Rattle.c_lent.specs.declared.Answer.{Answer}
 use Rattle.c_lent.specs.declared.Count.{Count}
 
--- the version of the C interface and the format: it rises when either changes
-abbrev pub version : ℕ
-version = 1
-
 -- a step's answer, and which word of the image was stored, 0 for none
 abbrev pub answerNumbers : StepAnswer → ℕ → Answer
 answerNumbers step word = record { kind = stepKind step; value = stepValue step; word = word }
