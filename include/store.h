@@ -15,7 +15,8 @@
 
    What is answered. A refusal is the number of the first fault, by name below; 0 is no refusal. A call that is refused leaves image
    and records as they were, a write under way too, with these exceptions: STORE_LOG_FULL and STORE_NO_LOG_BLOCK end the write; a
-   refused opening makes a shared record of zeros, a refused joining a point's record of zeros. Only store_lay_out and store_step write to the image, and store_step stores at most one word. */
+   refused opening makes a shared record of zeros, a refused joining a point's record of zeros. Only store_lay_out and store_step
+   write to the image, and store_step stores at most one word. */
 
 #ifndef STORE_H
 #define STORE_H
@@ -85,7 +86,7 @@ static inline const char *store_reason(uint32_t number)
         "two blocks of the file share a block of the image, or one is a log block",
         "a byte at or past the file's end in its last block is not 0",
         "the shared record's block count or next place does not fit the image",
-        "the point's record does not fit",
+        "the point's record does not fit: a number of it lies outside its range",
         "the point number is above 31",
         "the point is joined already",
         "the point is not joined",
