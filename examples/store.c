@@ -55,7 +55,7 @@ static int step(unsigned i)
     case STORE_COMMITTED:
         printf("point %u: committed \"%s\", retries %u\n", i, readings[i], (unsigned)answer.value);
         return 0;
-    default: /* 20 and 21, a full log or image, have ended the write; after any other refusal the point leaves */
+    default: /* 20 and 21, a full log or image, have ended the write; after any other refusal it is still under way */
         done(answer.value);
         return 0;
     }

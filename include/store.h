@@ -72,6 +72,7 @@ enum {
     STORE_NOT_MAPPED = 22
 };
 
+/* A sentence for a refusal's number. The sentences are part of the program that calls this, not of the library. */
 static inline const char *store_reason(uint32_t number)
 {
     static const char *const reasons[] = {
@@ -86,7 +87,7 @@ static inline const char *store_reason(uint32_t number)
         "two blocks of the file share a block of the image, or one is a log block",
         "a byte at or past the file's end in its last block is not 0",
         "the shared record's block count or next place does not fit the image",
-        "the point's record does not fit: a number of it lies outside its range",
+        "the point's record does not fit: a number of it lies outside its range, phase and retries too",
         "the point number is above 31",
         "the point is joined already",
         "the point is not joined",
@@ -136,7 +137,7 @@ typedef struct store_head {
     uint32_t block, slot, passed;  /* where it stands in the log */
     uint32_t offset, size;         /* its write: from which byte of the file, and how many */
     uint32_t run;                  /* the first of the blocks that are being filled */
-    uint32_t phase, position;
+    uint32_t phase, position;      /* what it is doing, one of the six above, and at which word */
     uint32_t zeroing;              /* the log block being zeroed */
     uint32_t retries;              /* how often the write was moved, at most 65,535 */
 } store_head;
@@ -165,8 +166,14 @@ typedef struct store_count {
     uint32_t refused, count;
 } store_count;
 
-/* The library has the numbers of a record as one array: they stand side by side, from its beginning on. */
-typedef char store_numbers_stand_so[offsetof(store_shared, next) == 8 && sizeof(store_head) == 48 && sizeof(uint32_t) == 4 ? 1 : -1];
+/* The library takes the records as structs of arrays: each part stands at its place, the numbers side by side from the beginning on. */
+typedef char store_records_stand_so[offsetof(store_shared, next) == 8 && offsetof(store_shared, taken) == 16 &&
+                                            sizeof(store_shared) == 144 && sizeof(store_head) == 48 &&
+                                            offsetof(store_point, table) == 48 && offsetof(store_point, text) == 560 &&
+                                            sizeof(store_point) == 1584 && offsetof(store_answer, word) == 8 &&
+                                            sizeof(store_answer) == 16 && sizeof(size_t) == 8
+                                        ? 1
+                                        : -1];
 
 /* ---- The calls. */
 

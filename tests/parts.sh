@@ -1,11 +1,13 @@
 # Sourced by tests/run and tests/today, in the repository's root: parts of a test run, and the second implementation, built.
 set -eu
 
-# A part: what it is, then its command. Each ends with a line `N passed, M failed`; tests/counted counts these lines by part.
+# A part: what it is, then its command. Each ends with a line `N passed, M failed`; tests/counted counts these lines by part. A part that fails does not keep
+# the others from being tried: the run ends with `exit $status`.
+status=0
 part() {
     echo "== $1"
     shift
-    "$@"
+    "$@" || status=1
 }
 
 if ! command -v cargo >/dev/null; then

@@ -169,10 +169,9 @@ store_answer step(store_point *point)
     store_head head = point->head;
     before(STEP);
     store_answer answer = store_step(image, words, &shared, point);
-    int told = answer.word == (has_stored(answer) ? stored_word(answer, &head, &point->head) : 0);
     if (has_stored(answer))
         mark(WORD_MARK(answer.word % AREA_WORDS));
-    mark(ANSWER_MARK(STEP, told ? answer_of(answer, &head) : ODD));
+    mark(ANSWER_MARK(STEP, has_stored(answer) || answer.word == 0 ? answer_of(answer, &head) : ODD));
     return answer;
 }
 

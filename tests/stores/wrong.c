@@ -65,6 +65,9 @@ store_answer store_step(uint64_t *image, size_t words, store_shared *shared, sto
         when_stored(image + stored_word(answer, &before, &point->head), image + words);
     else
         when_not(image);
+#ifdef WRONG_TOLD
+    answer.word += has_stored(answer) ? 1 : 0;
+#endif
     return answer;
 }
 #endif

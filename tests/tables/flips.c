@@ -1,5 +1,6 @@
 /* Every single bit of an image flipped, one at a time, and the image opened: refused, or which file is shown.
-   The image, of 64 blocks, is what 8 points leave that have written 39 readings of 32 bytes each, taking turns step by step; the file ends inside a block. */
+   The images, of 64 blocks, are what 8 points leave that have written readings of 32 bytes, taking turns step by step: one each on an image of zeros, of which
+   most blocks are still zeros; and 39 each, when every block has been used. Both files end inside a block. */
 #include <stdio.h>
 #include <stdlib.h>
 #include <string.h>
@@ -60,20 +61,22 @@ static int part_of(size_t word)
     return word < STORE_BLOCK_WORDS ? SUPERBLOCK : mark == UINT16_MAX ? LOG : mark > 0 ? DATA : FREE;
 }
 
-int main(void)
+/* Tries every flip on what so many readings of each point leave, and prints a row for each part of the image. */
+static void try_flips(const char *age, uint32_t readings)
 {
+    memset(image, 0, sizeof image);
     must(store_lay_out(image, WORDS));
     must(store_open(image, WORDS, scratch, STORE_SCRATCH, &shared).refused);
     for (uint32_t p = 0; p < POINTS; p++)
         must(store_join(image, WORDS, &shared, p, &points[p]));
-    for (uint32_t number = 0; number < READINGS; number++)
+    for (uint32_t number = 0; number < readings; number++)
         write_readings(number);
     memcpy(sound, image, sizeof image);
     uint32_t length, now;
     must(shown(file, &length));
     memcpy(marks, scratch, sizeof scratch);
 
-    static unsigned long flips[PARTS], refused[PARTS], same[PARTS];
+    unsigned long flips[PARTS] = {0}, refused[PARTS] = {0}, same[PARTS] = {0};
     for (size_t word = 0; word < WORDS; word++)
         for (int bit = 0; bit < 64; bit++) {
             image[word] ^= UINT64_C(1) << bit;
@@ -86,12 +89,18 @@ int main(void)
             image[word] = sound[word];
         }
     static const char *const names[PARTS] = {"superblock", "log blocks", "blocks of the file", "free blocks"};
-    printf("| one bit flipped in | flips | refused | opens and shows another file | opens and shows the same file |\n|---|---:|---:|---:|---:|\n");
     for (int part = 0; part < PARTS; part++) {
         double all = (double)flips[part] / 100;
         unsigned long another = flips[part] - refused[part] - same[part];
-        printf("| %s | %lu | %.1f %% | %.1f %% | %.1f %% |\n", names[part], flips[part], (double)refused[part] / all, (double)another / all,
+        printf("| %s, %s | %lu | %.2f %% | %.2f %% | %.2f %% |\n", names[part], age, flips[part], (double)refused[part] / all, (double)another / all,
                (double)same[part] / all);
     }
+}
+
+int main(void)
+{
+    printf("| one bit flipped in | flips | refused | opens and shows another file | opens and shows the same file |\n|---|---:|---:|---:|---:|\n");
+    try_flips("young image", 1);
+    try_flips("old image", READINGS);
     return 0;
 }

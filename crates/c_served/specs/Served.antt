@@ -1,7 +1,6 @@
 -- The calls for C are the calls of the list: what a call leaves, its numbers read back, is what `serve` says of it; opening makes the world that a list
 -- begins with; reading and locating show the book's file (recovery/specs/Served). Asked of numbers that are a record's (`isKnown`); and what a call leaves
 -- are such numbers, so that the next call may be handed them. With other numbers a call is refused and changes nothing (c_lent): it is none of the list's.
--- Each is said of all that leaves what the call's contract says: so of the functions that c_api exports and of those of c_lent, whose contracts these are.
 use Prim.Native.Nat.{ℕ, zero, suc}
 use mathlib.Core.Path.{_≡_}
 use mathlib.Core.Bool.{Bool, true}
@@ -9,7 +8,7 @@ use mathlib.Core.List.{List}
 use lib.ListN.{getD, set}
 use Rattle.words.specs.Edition.{one}
 use Rattle.words.specs.Logic.{between}
-use Rattle.log.specs.Opening.{replyOf, openRefusal, opened}
+use Rattle.log.specs.Opening.{replyOf, openRefusal}
 use Rattle.points.specs.declared.StepAnswer.{StepAnswer}
 use Rattle.points.specs.declared.StepAnswer.the-variants.{Stored, Moved, Extending, Committed, Refused}
 use Rattle.points.specs.declared.Joined.{Joined}
@@ -21,11 +20,9 @@ use Rattle.points.specs.Record.{pointOf}
 use Rattle.recovery.specs.World.{start}
 use Rattle.recovery.specs.History.{openWorld}
 use Rattle.recovery.specs.Served.{JoinServed, BeginServed, StepServed, LeaveServed, ReadServed, LocateServed}
-use Rattle.c_lent.specs.declared.Opened.{Opened}
 use Rattle.c_lent.specs.declared.Count.{Count}
-use Rattle.c_lent.specs.Numbers.{SharedLent, PointLent, openedNumbers, sharedIn, pointIn, headFrom, isKnown}
+use Rattle.c_lent.specs.Numbers.{SharedLent, PointLent, sharedIn, pointIn, headFrom, isKnown}
 use Rattle.c_lent.specs.Calls.{PointLeft, StepLeft, SharedLeft, ReadLeft}
-use Rattle.c_lent.specs.Calls.{sharedFor, joinFor, beginFor, stepFor, leaveFor, readFor, locateFor}
 
 -- ---- answers, read back from their numbers
 
@@ -56,7 +53,7 @@ leftFrom l = record { reply = replyOf (l .refused); shared = sharedIn (l .shared
 abbrev pub countFrom : Count → counted.Count
 countFrom c = record { reply = replyOf (c .refused); count = c .count }
 
--- the word that a step tells is its one store: no other word of the image changes, and none at all where it tells 0
+-- no word of the image changes but the one that a step tells, and none at all where it tells 0
 pub record TellsStore (words image : List ℕ) (word : ℕ) : Type 0 where
   pub only : image ≡ set words word (getD image word 0)
   pub none : word ≡ 0 → image ≡ words
@@ -96,33 +93,3 @@ module _ (words : List ℕ) (s : SharedLent) where
     unfoldable pub LocateServedFor : ℕ → Count → Type 0
     LocateServedFor block c =
         isKnown (p .head) ≡ true → LocateServed one words (sharedIn s) (headFrom (p .head)) (p .table) block (countFrom c)
-
--- ---- of whatever leaves what the contracts say
-
-abbrev pub OpensServed : Type 0
-OpensServed =
-    (words scratch : List ℕ) (r : Opened) (s : SharedLent) → r ≡ openedNumbers (opened one words scratch) → s ≡ sharedFor words scratch
-    → OpenServedFor words scratch (r .refused) s
-
-abbrev pub JoinsServed : Type 0
-JoinsServed = (words : List ℕ) (s : SharedLent) (number : ℕ) (l : PointLeft) → l ≡ joinFor words s number → JoinServedFor words s number l
-
-abbrev pub BeginsServed : Type 0
-BeginsServed =
-    (words : List ℕ) (s : SharedLent) (p : PointLent) (offset : ℕ) (bytes : List ℕ) (l : PointLeft)
-    → l ≡ beginFor words s p offset bytes → BeginServedFor words s p offset bytes l
-
-abbrev pub StepsServed : Type 0
-StepsServed = (words : List ℕ) (s : SharedLent) (p : PointLent) (l : StepLeft) → l ≡ stepFor words s p → StepServedFor words s p l
-
-abbrev pub LeavesServed : Type 0
-LeavesServed = (words : List ℕ) (s : SharedLent) (p : PointLent) (l : SharedLeft) → l ≡ leaveFor words s p → LeaveServedFor words s p l
-
-abbrev pub ReadsServed : Type 0
-ReadsServed =
-    (words : List ℕ) (s : SharedLent) (p : PointLent) (offset : ℕ) (buffer : List ℕ) (l : ReadLeft)
-    → l ≡ readFor words s p offset buffer → ReadServedFor words s p offset buffer l
-
-abbrev pub LocatesServed : Type 0
-LocatesServed =
-    (words : List ℕ) (s : SharedLent) (p : PointLent) (block : ℕ) (c : Count) → c ≡ locateFor words s p block → LocateServedFor words s p block c

@@ -1,34 +1,106 @@
-// The calls for C in a list of calls. Nothing here runs: each function does nothing, and its contract is the claim that what the call leaves by its
-// contract is what the list says of it, so that the claims of `recovery` hold of what C calls.
-ghost use Rattle.c_served.specs.Served.{OpensServed, JoinsServed, BeginsServed, StepsServed, LeavesServed, ReadsServed, LocatesServed};
+// The calls for C, each with what it leaves in a list of calls as its contract: the claims of `recovery` hold of what C calls. Opening, reading and locating
+// are beside them, as in recovery/src/code.rt. Nothing here runs.
+ghost use Rattle.c_lent.specs.Numbers.{sharedLent, pointLent, textless};
+ghost use Rattle.c_lent.specs.Calls.{left, stepLeft, sharedLeft, readLeft};
+ghost use Rattle.c_served.specs.Served.{OpenServedFor, JoinServedFor, BeginServedFor, StepServedFor};
+ghost use Rattle.c_served.specs.Served.{LeaveServedFor, ReadServedFor, LocateServedFor};
+use c_lent::Answer;
+use c_lent::Count;
+use c_lent::Opened;
 
-// Opening makes the world that a list begins with.
-pub fn open()
-    ensures { λ _. ⌜ OpensServed ⌝ }
-{}
+pub fn open(
+    image: &[u64],
+    scratch: &mut [u16],
+    shared: &mut [u32; 3],
+    taken: &mut [u64; 16],
+) -> Opened
+    ensures { λ r. ⌜ OpenServedFor (now (image .entry)) (now (scratch .entry)) (r .refused) (sharedLent (shared .exit) (taken .exit)) ⌝ }
+{
+    c_lent::open(image, scratch, shared, taken)
+}
 
-// Joining, beginning, a step and leaving leave what the list says.
-pub fn join()
-    ensures { λ _. ⌜ JoinsServed ⌝ }
-{}
+pub fn join(
+    image: &[u64],
+    shared: &mut [u32; 3],
+    taken: &mut [u64; 16],
+    number: u32,
+    head: &mut [u32; 12],
+    table: &mut [u16; 256],
+    text: &mut [u8; 1024],
+) -> u32
+    ensures { λ r. ⌜ JoinServedFor (now (image .entry)) (sharedLent (shared .entry) (taken .entry)) number
+        (left r (sharedLent (shared .exit) (taken .exit)) (pointLent (head .exit) (table .exit) (text .exit))) ⌝ }
+{
+    c_lent::join(image, shared, taken, number, head, table, text)
+}
 
-pub fn begin()
-    ensures { λ _. ⌜ BeginsServed ⌝ }
-{}
+pub fn begin(
+    image: &[u64],
+    shared: &mut [u32; 3],
+    taken: &mut [u64; 16],
+    head: &mut [u32; 12],
+    table: &mut [u16; 256],
+    text: &mut [u8; 1024],
+    offset: usize,
+    bytes: &[u8],
+) -> u32
+    ensures { λ r. ⌜ BeginServedFor (now (image .entry)) (sharedLent (shared .entry) (taken .entry)) (pointLent (head .entry) (table .entry) (text .entry))
+        offset (now (bytes .entry)) (left r (sharedLent (shared .exit) (taken .exit)) (pointLent (head .exit) (table .exit) (text .exit))) ⌝ }
+{
+    c_lent::begin(image, shared, taken, head, table, text, offset, bytes)
+}
 
-pub fn step()
-    ensures { λ _. ⌜ StepsServed ⌝ }
-{}
+pub fn step(
+    image: &mut [u64],
+    shared: &mut [u32; 3],
+    taken: &mut [u64; 16],
+    head: &mut [u32; 12],
+    table: &mut [u16; 256],
+    text: &mut [u8; 1024],
+) -> Answer
+    ensures { λ r. ⌜ StepServedFor (now (image .entry)) (sharedLent (shared .entry) (taken .entry)) (pointLent (head .entry) (table .entry) (text .entry))
+        (stepLeft r (now (image .exit)) (sharedLent (shared .exit) (taken .exit)) (pointLent (head .exit) (table .exit) (text .exit))) ⌝ }
+{
+    c_lent::step(image, shared, taken, head, table, text)
+}
 
-pub fn leave()
-    ensures { λ _. ⌜ LeavesServed ⌝ }
-{}
+pub fn leave(
+    image: &[u64],
+    shared: &mut [u32; 3],
+    taken: &mut [u64; 16],
+    head: &[u32; 12],
+    table: &[u16; 256],
+) -> u32
+    ensures { λ r. ⌜ LeaveServedFor (now (image .entry)) (sharedLent (shared .entry) (taken .entry)) (textless (head .entry) (table .entry))
+        (sharedLeft r (sharedLent (shared .exit) (taken .exit))) ⌝ }
+{
+    c_lent::leave(image, shared, taken, head, table)
+}
 
-// Reading and locating show the book's file.
-pub fn read()
-    ensures { λ _. ⌜ ReadsServed ⌝ }
-{}
+pub fn read(
+    image: &[u64],
+    shared: &[u32; 3],
+    taken: &[u64; 16],
+    head: &[u32; 12],
+    table: &[u16; 256],
+    offset: usize,
+    buffer: &mut [u8],
+) -> Count
+    ensures { λ r. ⌜ ReadServedFor (now (image .entry)) (sharedLent (shared .entry) (taken .entry)) (textless (head .entry) (table .entry))
+        offset (now (buffer .entry)) (readLeft r (now (buffer .exit))) ⌝ }
+{
+    c_lent::read(image, shared, taken, head, table, offset, buffer)
+}
 
-pub fn locate()
-    ensures { λ _. ⌜ LocatesServed ⌝ }
-{}
+pub fn locate(
+    image: &[u64],
+    shared: &[u32; 3],
+    taken: &[u64; 16],
+    head: &[u32; 12],
+    table: &[u16; 256],
+    block: usize,
+) -> Count
+    ensures { λ r. ⌜ LocateServedFor (now (image .entry)) (sharedLent (shared .entry) (taken .entry)) (textless (head .entry) (table .entry)) block r ⌝ }
+{
+    c_lent::locate(image, shared, taken, head, table, block)
+}
