@@ -2,4 +2,6 @@
 pub mod Parts
 pub mod Params
 pub mod Records
+pub mod Locals
+pub mod Ends
 pub mod Walk

@@ -13,7 +13,7 @@ use mir.Syntax.{erased}
 use mir.Val.{Val}
 use base.Logic.{SProp, ent, sep, emp, ex, guard, via}
 use base.Fml.{Lft, GName, Share, Fml, ftrue, fsep, feq, flft}
-use mir.Syntax.{Name, Place, Opd as Operand, Body, seq, call}
+use mir.Syntax.{Width, Name, Place, Opd as Operand, Body, seq, call}
 use prog.Wp.{Heap, Env, Calls, Loops}
 use contract.Monad.{fact}
 use sound.WpLaws.{FmC}
@@ -24,7 +24,8 @@ use ghost.Atoms.{Atoms, sem}
 use types.Kit.{Post, Seq, runs, lands, Given, Item, ‵, raw, some, later, given, mean, _⊛_, _$_, _∵_, !, qed, by, move, keep, drop, use1, use2, use3}
 use types.Kit.{split, join, pick, learn, check, fsplit, fjoin, feqL, frame, await, updating, now as at-once, show, done}
 use denote.RattleType.{RattleType}
-use denote.Laws.{Rel, Makes}
+use denote.Laws.{Is}
+use denote.Plain.{UInt, uint-vals, uint-makes}
 use denote.Ref.{RefT, MutRef, ShrRef, at-last, ptr-vals}
 use denote.Slice.{MutSlice, ShrSlice, finally, slice-vals, shr-slice-copy}
 use denote.Steps.{owned, nothing, heard}
@@ -219,21 +220,21 @@ module _ {M : Type 1} (𝓤 : URA M) (H : Heap 𝓤) (A : Atoms 𝓤) where
             feqL ! (λ l. at-once ! $ check ! l $ keep ! (0 ∷ 2 ∷ []) $ done !);
       }
 
-    abbrev pub number : (R : RattleType) (P : Rel R) → Makes 𝓤 H A R P → (n : R .Denot) (vs : List Val) → P n vs → Param
-    number R P mk n vs is = record {
-      own = R .own n vs;
+    abbrev pub number : (w : Width) (n : ℕ) → Is (UInt w) n (uint-vals w n) → Param
+    number w n is = record {
+      own = UInt w .own n (uint-vals w n);
       tok = [];
       X = Unit {0};
       toks = λ _. [];
-      refs = λ _. R .own n vs ∷ [];
+      refs = λ _. UInt w .own n (uint-vals w n) ∷ [];
       kept = λ _. ‵ ftrue;
       Z = Unit {0};
       ends = λ _ _. ftrue ∷ [];
       fact = λ _. Unit {0};
-      left = λ _. R .own n vs;
-      lends = qed W (‵ (R .own n vs) ∷ ‵ ftrue ∷ []) ∵ updating ! $ at-once ! $ show ! (λ (_ : Unit {0}). sep 𝓤 ⟦ [] ⟧ (sep 𝓤 ⟦ R .own n vs ∷ [] ⟧
+      left = λ _. UInt w .own n (uint-vals w n);
+      lends = qed W (‵ (UInt w .own n (uint-vals w n)) ∷ ‵ ftrue ∷ []) ∵ updating ! $ at-once ! $ show ! (λ (_ : Unit {0}). sep 𝓤 ⟦ [] ⟧ (sep 𝓤 ⟦ UInt w .own n (uint-vals w n) ∷ [] ⟧
           (sem 𝓤 H A ftrue))) tt $ fjoin ! $ nothing ! $ nothing ! $ move ! (0 ∷ 2 ∷ []) $ done !;
-      back = λ _ _. qed W (‵ ftrue ∷ ‵ (stars (ftrue ∷ [])) ∷ ‵ ftrue ∷ []) ∵ updating ! $ at-once ! $ check ! tt $ owned ! R P mk n vs is $ keep ! (0
+      back = λ _ _. qed W (‵ ftrue ∷ ‵ (stars (ftrue ∷ [])) ∷ ‵ ftrue ∷ []) ∵ updating ! $ at-once ! $ check ! tt $ owned ! (UInt w) (Is (UInt w)) (uint-makes 𝓤 H A W w) n (uint-vals w n) is $ keep ! (0
           ∷ 1 ∷ []) $ done !;
     }
 

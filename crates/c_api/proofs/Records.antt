@@ -57,3 +57,10 @@ tableRef p ns = part (p .ptr) 48 (ns .1 .0 .1) (p .now .table)
 
 abbrev pub textRef : RefT PointRecord → Names (Point .ms) → RefT (List ℕ)
 textRef p ns = part (p .ptr) 560 (ns .1 .1 .0 .1) (p .now .text)
+
+-- the records of their fields' last values
+abbrev pub sharedAt : {X : Type 0} → List ℕ × (List ℕ × X) → SharedRecord
+sharedAt zs = record { numbers = zs .0; taken = zs .1 .0 }
+
+abbrev pub pointAt : {X : Type 0} → List ℕ × (List ℕ × (List ℕ × X)) → PointRecord
+pointAt zs = record { head = zs .0; table = zs .1 .0; text = zs .1 .1 .0 }

@@ -24,7 +24,7 @@ pub use types.Run.{pass1, pass0, free1, free0}
 pub use types.Part.{agg, whole, sub, look-in}
 pub use sound.WpLaws.{FmC, fmOf, WpFn-mono}
 pub use denote.RattleType.{owns}
-pub use denote.Laws.{Is, shows}
+pub use denote.Laws.{Is, shows, valss}
 pub use denote.Plain.{uint-makes, uint-vals, uint-tells, uint-lawful}
 pub use denote.Builtin.{u8, u16, u32, u64, usize}
 pub use denote.Array.{Array}
@@ -41,4 +41,4 @@ pub use denote.Triple.Table.{entered, cited}
 pub use denote.Triple.Walked.{says, Stays, stay-ref, stay-none, stay-none-ref, stay-none-slice, gave-slice, walkOf, goes-ref, goes-none, goes-none-ref}
 pub use denote.Triple.Walked.{goes-none-slice, goes-gave-slice, Walks, ends-at, walked, walk-meets}
 pub use denote.Exit.{yes}
-pub use denote.Signature.{plain}
+pub use denote.Signature.{plain, typesAt}

@@ -1,15 +1,13 @@
--- `c_api::store_begin` meets its contract: a walk of its MIR, by hand. The records are lent in parts, `begin` is called on them, and they come back (`Params.antt`). Assumes nothing.
-use Rattle.c_api.proofs.Walk.{_≡_, refl, ℕ, _<_, _^_, [], _∷_, List, length, URA, fullShare, named, w32, w64, Val, vint, vptr, SProp, ent, emp}
-use Rattle.c_api.proofs.Walk.{id⊢, via, fst∗, Lfts, Shares, Memory, Routine, Heap, Calls, Loops, WpFn, Tables, Atoms, Fun, givenOf, tables}
-use Rattle.c_api.proofs.Walk.{tablesOf, Given, ‵, ⋆, _$_, _∵_, !, qed, by, move, keep, suffices, frame, done, look, init, forget, stop, hop, fld}
-use Rattle.c_api.proofs.Walk.{from, load, addr, and-then, no-more, assigns, land, returns, enter, alloc1, alloc0, params1, pass1, pass0, free1}
-use Rattle.c_api.proofs.Walk.{free0, FmC, fmOf, WpFn-mono, owns, Is, shows, uint-makes, uint-vals, uint-tells, uint-lawful, u8, u32, u64, usize}
-use Rattle.c_api.proofs.Walk.{RefT, MutRef, ptr-vals, mut-tells, sliceVal, ShrSlice, Room, slice-vals, shr-slice-tells, peeks, Args, Vals}
-use Rattle.c_api.proofs.Walk.{onEntry, Meets, tripleOf, Contract, Triple, entered, cited, says, Stays, stay-ref, stay-none, stay-none-slice}
-use Rattle.c_api.proofs.Walk.{walkOf, goes-ref, goes-none, goes-none-slice, ends-at, walked, walk-meets, yes, plain}
+-- `c_api::store_begin` meets its contract: a walk of its MIR (`Walk.antt`). It lends the records in parts, calls `begin` on them, and they come back. Assumes nothing.
+use Rattle.c_api.proofs.Walk.{_≡_, refl, ℕ, _<_, _^_, List, [], _∷_, length, URA, fullShare, w32, w64, SProp, ent, id⊢, Lfts, Shares, Memory}
+use Rattle.c_api.proofs.Walk.{Routine, Heap, Calls, Loops, WpFn, Atoms, Fun, givenOf, tables, Given, ‵, _$_, _∵_, !, qed, move, enter, FmC, u8}
+use Rattle.c_api.proofs.Walk.{u32, u64, RefT, Room, slice-vals, ptr-vals, uint-vals, valss, typesAt, uint-lawful, onEntry, Args, tripleOf, Contract}
+use Rattle.c_api.proofs.Walk.{Triple}
+use Rattle.c_api.proofs.Locals.{starts, lends-field, loads, goes-home}
+use Rattle.c_api.proofs.Ends.{Kinds, slice-in, record-out, number-in, valued, passed, Done, ends-well, proved-by}
 use Rattle.c_api.proofs.Parts.{stars}
-use Rattle.c_api.proofs.Params.{served, Param, Xs, Zs, facts, alive, lefts, shr-slice, number, mut-record}
-use Rattle.c_api.proofs.Records.{Shared, Point, numbersRef, takenRef, headRef, tableRef, textRef}
+use Rattle.c_api.proofs.Params.{served, Param, Xs, Zs, alive, owns, shr-slice, number, mut-record}
+use Rattle.c_api.proofs.Records.{Shared, Point, numbersRef, takenRef, headRef, tableRef, textRef, sharedAt, pointAt}
 use Rattle.c_lent.specs.Calls.{left, beginFor}
 use Rattle.c_api.specs.Records.{sharedParts, pointParts}
 use Rattle.c_api.specs.declared.SharedRecord.{SharedRecord}
@@ -25,35 +23,28 @@ use Rattle.c_api.proofs.store_begin as f
 use Rattle.c_api.proofs.store_begin.Statement as stated
 use Rattle.c_api.proofs.store_begin.Code as code
 
-abbrev stayed : Stays (f.ended .signature .params) (f.ended .kept)
-stayed = (stay-none-slice (0 ∷ []) tt (plain (λ _. u64)) yes, (stay-ref (1 ∷ []) tt (plain (λ _. S.the-row)), (stay-ref (2 ∷ []) tt (plain (λ _. P.the-row)), (stay-none (λ _. usize) yes, (stay-none-slice (3 ∷ []) tt (plain (λ _. u8)) yes, tt)))))
+abbrev kinds : Kinds (f.ended .signature .params) (f.ended .kept)
+kinds = (slice-in 0 tt u64, (record-out 1 tt S.the-row, (record-out 2 tt P.the-row, (number-in w64, (slice-in 3 tt u8, tt)))))
 
 -- the contract that the proof cites
 abbrev Lent : {M : Type 1} (𝓤 : URA M) (H : Heap 𝓤) (A : Atoms 𝓤) (mem : Memory → SProp 𝓤) (run : Routine → Fun 𝓤) → Contract 𝓤
 Lent 𝓤 H A mem run = tripleOf 𝓤 H A lent.signature (lent.spec 𝓤 H A mem run)
 
-module _ {M : Type 1} (𝓤 : URA M) (H : Heap 𝓤) (A : Atoms 𝓤) (W : Given 𝓤 H A) (mem : Memory → SProp 𝓤) (run : Routine → Fun 𝓤) (κs : Lfts 4) (qs :
-    Shares 4) (x : RefT (List ℕ)) (s : RefT SharedRecord) (p : RefT PointRecord) (n : ℕ) (y : RefT (List ℕ)) (x-room : Room u64 (length (x .now)))
-    (n-fits : n < 2 ^ 64) (y-room : Room u8 (length (y .now))) where
+module _ {M : Type 1} (𝓤 : URA M) (H : Heap 𝓤) (A : Atoms 𝓤) (W : Given 𝓤 H A) (mem : Memory → SProp 𝓤) (run : Routine → Fun 𝓤)
+    (κs : Lfts 4) (qs : Shares 4) (x : RefT (List ℕ)) (s : RefT SharedRecord) (p : RefT PointRecord) (n : ℕ) (y : RefT (List ℕ))
+    (x-room : Room u64 (length (x .now))) (n-fits : n < 2 ^ 64) (y-room : Room u8 (length (y .now))) where
   abbrev a : Args f.signature κs
   a = (x, (s, (p, (n, (y, tt)))))
 
-  abbrev at : Vals f.signature κs
-  at = (slice-vals x, (ptr-vals s, (ptr-vals p, (vint w64 n ∷ [], (slice-vals y, tt)))))
-
-  abbrev passed : List Val
-  passed = sliceVal (x .ptr) (length (x .now)) ∷ vptr (s .ptr .0) (s .ptr .1) ∷ vptr (p .ptr .0) (p .ptr .1) ∷ vint w64 n ∷ sliceVal (y .ptr) (length
-      (y .now)) ∷ []
-
-  abbrev Post : Val → SProp 𝓤
-  Post = walkOf 𝓤 H A f.ended stayed (f.clauses 𝓤 H A mem run) .post ((κs, qs, tt, a, at), tt)
-
   abbrev params : List (Param 𝓤 H A)
-  params = shr-slice 𝓤 H A W u64 (κs .0) (qs .0) x ∷ mut-record 𝓤 H A W Shared (κs .1 .0) (qs .1 .0) s ∷ mut-record 𝓤 H A W Point (κs .1 .1 .0) (qs .1
-      .1 .0) p ∷ number 𝓤 H A W usize (Is usize) (uint-makes 𝓤 H A W w64) n (vint w64 n ∷ []) (refl, n-fits) ∷ shr-slice 𝓤 H A W u8 (κs .1 .1 .1 .0)
-      (qs .1 .1 .1 .0) y ∷ []
+  params =
+      shr-slice 𝓤 H A W u64 (κs .0) (qs .0) x ∷
+      mut-record 𝓤 H A W Shared (κs .1 .0) (qs .1 .0) s ∷
+      mut-record 𝓤 H A W Point (κs .1 .1 .0) (qs .1 .1 .0) p ∷
+      number 𝓤 H A W w64 n (refl, n-fits) ∷
+      shr-slice 𝓤 H A W u8 (κs .1 .1 .1 .0) (qs .1 .1 .1 .0) y ∷ []
 
-  -- what the callee's triple binds outside
+  -- what the callee is handed: its lifetimes, its arguments, and all that its contract binds
   abbrev lfts : Xs 𝓤 H A params → Lfts 7
   lfts xs = let ns = xs .1 .0 in let np = xs .1 .1 .0 in
       (κs .0, (ns .0 .0 ∷ [], (ns .1 .0 .0 ∷ [], (np .0 .0 ∷ [], (np .1 .0 .0 ∷ [], (np .1 .1 .0 .0 ∷ [], (κs .1 .1 .1 .0, tt)))))))
@@ -62,74 +53,47 @@ module _ {M : Type 1} (𝓤 : URA M) (H : Heap 𝓤) (A : Atoms 𝓤) (W : Given
   handed-on xs = let ns = xs .1 .0 in let np = xs .1 .1 .0 in
       (x, (numbersRef s ns, (takenRef s ns, (headRef p np, (tableRef p np, (textRef p np, (n, (y, tt))))))))
 
-  abbrev handed-vals : (xs : Xs 𝓤 H A params) → Vals lent.signature (lfts xs)
-  handed-vals xs = let ns = xs .1 .0 in let np = xs .1 .1 .0 in
-      (slice-vals x, (ptr-vals (numbersRef s ns), (ptr-vals (takenRef s ns), (ptr-vals (headRef p np), (ptr-vals (tableRef p np), (ptr-vals (textRef p np), (vint w64 n ∷ [], (slice-vals y, tt))))))))
-
   abbrev to-lent : Xs 𝓤 H A params → Lent 𝓤 H A mem run .Ghost
-  to-lent xs = ((lfts xs, (qs .0, (fullShare, (fullShare, (fullShare, (fullShare, (fullShare, (qs .1 .1 .1 .0, tt))))))), tt, handed-on xs, handed-vals xs), tt)
+  to-lent xs = (
+    (
+      lfts xs,
+      (qs .0, (fullShare, (fullShare, (fullShare, (fullShare, (fullShare, (qs .1 .1 .1 .0, tt))))))),
+      tt,
+      handed-on xs,
+      valss (typesAt (lent.signature .params) (lfts xs)) (slice-vals, (ptr-vals, (ptr-vals, (ptr-vals, (ptr-vals, (ptr-vals, (uint-vals w64, (slice-vals, tt)))))))) (handed-on xs),
+    ),
+    tt,
+  )
 
   -- the callee's last values, as this function's; and what is said of them
   abbrev Ends : Type 0
   Ends = Unit {0} × (List ℕ × (List ℕ × (List ℕ × (List ℕ × (List ℕ × (Unit {0} × (Unit {0} × Unit {0})))))))
 
   abbrev ends : Ends → Zs 𝓤 H A params
-  ends zs = (tt, (record { numbers = zs .1 .0; taken = zs .1 .1 .0 }, (record { head = zs .1 .1 .1 .0; table = zs .1 .1 .1 .1 .0; text = zs .1 .1 .1 .1 .1 .0 }, (tt, (tt, tt)))))
+  ends zs = (tt, (sharedAt (zs .1), (pointAt (zs .1 .1 .1), (tt, (tt, tt)))))
 
   abbrev Says : ℕ → Zs 𝓤 H A params → Type 0
   Says r zs = left r (sharedParts (zs .1 .0)) (pointParts (zs .1 .1 .0)) ≡ beginFor (x .now) (sharedParts (s .now)) (pointParts (p .now)) n (y .now)
 
-  exits : (r : ℕ) (w : Val) (zs : Zs 𝓤 H A params) → facts 𝓤 H A params zs → Says r zs
-      → ent 𝓤 (⋆ 𝓤 H A (‵ (stars (alive 𝓤 H A params)) ∷ ‵ (stars (lefts 𝓤 H A params zs)) ∷ ‵ (u32 .own r (w ∷ [])) ∷ [])) (Post w)
-  exits r w zs ls e =
-      qed W (‵ (stars (alive 𝓤 H A params)) ∷ ‵ (stars (lefts 𝓤 H A params zs)) ∷ ‵ (u32 .own r (w ∷ [])) ∷ []) ∵
-      suffices ! _ (ends-at 𝓤 H A f.ended stayed (f.clauses 𝓤 H A mem run) W ((κs, qs, tt, a, at), tt) w r zs ls) $ says ! e $ frame ! $ done !
-
   module _ (C : Calls 𝓤 H) (Λ : Loops 𝓤 H) (fm : FmC 𝓤 H (W .laws) C) (known : Triple 𝓤 (C #lent) (Lent 𝓤 H A mem run)) where
-    walk : ent 𝓤 (onEntry 𝓤 H A f.signature κs qs a at) (WpFn 𝓤 H C Λ code.function passed Post)
+    walk : ent 𝓤 (onEntry 𝓤 H A f.signature κs qs a (valued f.ended kinds κs a)) (WpFn 𝓤 H C Λ code.function (passed f.ended kinds κs a)
+        (Done f.ended kinds 𝓤 H A (f.clauses 𝓤 H A mem run) ((κs, qs, tt, a, valued f.ended kinds κs a), tt)))
     walk =
-        qed W (‵ (stars (alive 𝓤 H A params)) ∷ ‵ (owns (ShrSlice (named 0) (κs .0) u64 ∷ MutRef (named 1) (κs .1 .0) S.the-row ∷ MutRef (named 2) (κs
-        .1 .1 .0) P.the-row ∷ usize ∷ ShrSlice (named 3) (κs .1 .1 .1 .0) u8 ∷ []) a at) ∷ []) ∵ enter ! C Λ code.function passed _ $
-        alloc1 ! (λ l0. alloc1 ! (λ l1. alloc1 ! (λ l2. alloc1 ! (λ l3. alloc1 ! (λ l4. alloc1 ! (λ l5. alloc1 ! (λ l6. alloc1 ! (λ l7. alloc1 ! (λ
-        l8. alloc1 ! (λ l9. alloc1 ! (λ l10. alloc0 ! $ params1 ! $
-        pass1 ! (init ! 18 refl (tt, (tt, (record { fits = x-room .0 }, tt)))) $ pass1 ! (init ! 16 refl (tt, tt)) $
-        pass1 ! (init ! 14 refl (tt, tt)) $ pass1 ! (init ! 12 refl (tt, record { fits = n-fits })) $
-        pass1 ! (init ! 10 refl (tt, (tt, (record { fits = y-room .0 }, tt)))) $ pass0 ! $
-        assigns ! (addr ! (from ! (hop ! (look ! 16 refl) (fld ! refl (stop !))))) (from ! (stop !)) (init ! 8 refl (tt, tt)) $
-        assigns ! (addr ! (from ! (hop ! (look ! 16 refl) (fld ! refl (stop !))))) (from ! (stop !)) (init ! 6 refl (tt, tt)) $
-        assigns ! (addr ! (from ! (hop ! (look ! 14 refl) (fld ! refl (stop !))))) (from ! (stop !)) (init ! 4 refl (tt, tt)) $
-        assigns ! (addr ! (from ! (hop ! (look ! 14 refl) (fld ! refl (stop !))))) (from ! (stop !)) (init ! 2 refl (tt, tt)) $
-        assigns ! (addr ! (from ! (hop ! (look ! 14 refl) (fld ! refl (stop !))))) (from ! (stop !)) (init ! 0 refl (tt, tt)) $
-        move ! (22 ∷ 23 ∷ []) $ served ! fm (Lent 𝓤 H A mem run) known params to-lent (λ xs. id⊢ 𝓤 _) (λ r w. u32 .own r (w ∷ [])) ends Says (λ xs w.
-        id⊢ 𝓤 _)
-        (λ xs. and-then ! (load ! (from ! (stop !)) (look ! 20 refl)) (and-then ! (load ! (from ! (stop !)) (look ! 10 refl)) (and-then ! (load !
-        (from ! (stop !)) (look ! 8 refl)) (and-then ! (load ! (from ! (stop !)) (look ! 6 refl)) (and-then ! (load ! (from ! (stop !)) (look ! 4
-        refl)) (and-then ! (load ! (from ! (stop !)) (look ! 2 refl)) (and-then ! (load ! (from ! (stop !)) (look ! 14 refl)) (and-then ! (load !
-        (from ! (stop !)) (look ! 12 refl)) (no-more !))))))))) (λ w r zs ls e.
-        peeks ! u32 (Is u32) (shows 𝓤 H A u32) r (w ∷ []) (λ is. land ! (from ! (stop !)) (init ! 23 refl (uint-lawful 𝓤 H A W w32 .typed r _ is .0)) $
-        returns ! (look ! 23 refl) $
-        forget ! 3 refl $ forget ! 5 refl $ forget ! 7 refl $ forget ! 9 refl $ forget ! 11 refl $ forget ! 13 refl $ forget ! 15 refl $
-        forget ! 17 refl $ forget ! 19 refl $ forget ! 21 refl $ forget ! 23 refl $ move ! (23 ∷ 24 ∷ []) $ free1 ! $
-        move ! (21 ∷ 22 ∷ []) $ free1 ! $ move ! (19 ∷ 20 ∷ []) $ free1 ! $ move ! (17 ∷ 18 ∷ []) $ free1 ! $ move ! (15 ∷ 16 ∷ []) $ free1 ! $
-        move ! (13 ∷ 14 ∷ []) $ free1 ! $ move ! (11 ∷ 12 ∷ []) $ free1 ! $ move ! (9 ∷ 10 ∷ []) $ free1 ! $ move ! (7 ∷ 8 ∷ []) $ free1 ! $
-        move ! (5 ∷ 6 ∷ []) $ free1 ! $ move ! (3 ∷ 4 ∷ []) $ free1 ! $ free0 ! $ keep ! (1 ∷ 2 ∷ 0 ∷ []) $ by ! (exits r w zs ls e))))))))))))))
-
-meets : {M : Type 1} (𝓤 : URA M) (H : Heap 𝓤) (A : Atoms 𝓤) → Given 𝓤 H A → (mem : Memory → SProp 𝓤) (run : Routine → Fun 𝓤) (𝓣 : Tables 𝓤 H)
-    → Triple 𝓤 (𝓣 .C #lent) (Lent 𝓤 H A mem run) → Meets 𝓤 H A f.signature (WpFn 𝓤 H (𝓣 .C) (𝓣 .Λ) code.function) (f.spec 𝓤 H A mem run)
-meets 𝓤 H A W mem run 𝓣 known =
-    walk-meets 𝓤 H A f.ended stayed W
-    (goes-none-slice 𝓤 H A W 4 (0 ∷ []) tt (plain (λ _. u64)) yes, (goes-ref 𝓤 H A W 4 1 tt (plain (λ _. S.the-row)), (goes-ref 𝓤 H A W 4 2 tt (plain (λ _. P.the-row)), (goes-none 𝓤 H A W 4 (λ _. usize) yes (λ κs x f. refl), (goes-none-slice 𝓤 H A W 4 (3 ∷ []) tt (plain (λ _. u8)) yes, tt)))))
-    (f.clauses 𝓤 H A mem run) (WpFn 𝓤 H (𝓣 .C) (𝓣 .Λ) code.function) (WpFn-mono 𝓤 H (W .laws) 𝓣 code.function)
-    (walked 𝓤 H A f.ended stayed (f.clauses 𝓤 H A mem run) (WpFn 𝓤 H (𝓣 .C) (𝓣 .Λ) code.function)
-    (λ κs. (slice-vals, (ptr-vals, (ptr-vals, (uint-vals w64, (slice-vals, tt))))))
-    (λ κs. (shr-slice-tells (named 0) (κs .0) u64, (mut-tells (named 1) (κs .1 .0) S.the-row, (mut-tells (named 2) (κs .1 .1 .0) P.the-row, (uint-tells w64, (shr-slice-tells (named 3) (κs .1 .1 .1 .0) u8, tt))))))
-    (λ κs qs bounds a _ are. via 𝓤 _ (fst∗ 𝓤 _ (emp 𝓤)) (walk 𝓤 H A W mem run κs qs (a .0) (a .1 .0) (a .1 .1 .0) (a .1 .1 .1 .0) (a .1 .1 .1 .1 .0)
-    (are .0 .0 .1) (are .1 .1 .1 .0 .1) (are .1 .1 .1 .1 .0 .0 .1) (𝓣 .C) (𝓣 .Λ) (fmOf 𝓤 H (W .laws) 𝓣) known)))
+        qed W (‵ (stars (alive 𝓤 H A params)) ∷ ‵ (stars (owns 𝓤 H A params)) ∷ []) ∵ enter ! C Λ code.function (passed f.ended kinds κs a) _ $
+        starts ! ((tt, (tt, (record { fits = x-room .0 }, tt))), ((tt, tt), ((tt, tt), ((tt, record { fits = n-fits }), ((tt, (tt, (record { fits = y-room .0 }, tt))), tt))))) (λ b bs.
+        lends-field ! refl refl refl (tt, tt) $ lends-field ! refl refl refl (tt, tt) $ lends-field ! refl refl refl (tt, tt) $
+        lends-field ! refl refl refl (tt, tt) $ lends-field ! refl refl refl (tt, tt) $
+        move ! (22 ∷ 23 ∷ []) $ served ! fm (Lent 𝓤 H A mem run) known params to-lent (λ xs. id⊢ 𝓤 _) (λ r w. u32 .own r (w ∷ []))
+        ends Says (λ xs w. id⊢ 𝓤 _) (λ xs. loads ! 2 (1 ∷ 6 ∷ 7 ∷ 8 ∷ 9 ∷ 10 ∷ 4 ∷ 5 ∷ []) refl tt refl) (λ w r zs ls e.
+        goes-home ! u32 r w (λ is. uint-lawful 𝓤 H A W w32 .typed r _ is .0) (_ ∷ _ ∷ _ ∷ _ ∷ _ ∷ _ ∷ _ ∷ _ ∷ _ ∷ _ ∷ []) refl
+        (ends-well f.ended kinds 𝓤 H A (f.clauses 𝓤 H A mem run) W ((κs, qs, tt, a, valued f.ended kinds κs a), tt) w r zs ls (Says r zs) e (id⊢ 𝓤 _))))
 
 pub store-begin-spec : {M : Type 1} → stated.statement M
-unfolding code.routine tablesOf
+unfolding code.routine
 store-begin-spec 𝓤 H 𝓜 𝓖 𝓡 =
-    entered 𝓤 H (tripleOf 𝓤 H (𝓖 .A) f.signature (f.spec 𝓤 H (𝓖 .A) (𝓜 .mem) (𝓡 .run)))
-    (tables 𝓤 H 𝓜 𝓡 code.env .C) (tables 𝓤 H 𝓜 𝓡 code.env .Λ) #own code.function (code.unfolded 𝓤 H 𝓜 𝓡)
-    (meets 𝓤 H (𝓖 .A) (givenOf 𝓤 H 𝓜 𝓖) (𝓜 .mem) (𝓡 .run) (tablesOf 𝓤 H 𝓜 (tables 𝓤 H 𝓜 𝓡 code.env))
-    (cited 𝓤 H (Lent 𝓤 H (𝓖 .A) (𝓜 .mem) (𝓡 .run)) 𝓜 𝓡 code.env #lent lent-def.routine code.calls-c-lent·begin (lent-thm.met 𝓤 H 𝓜 𝓖 𝓡)))
+    let A = 𝓖 .A in
+    let 𝓣 = tables 𝓤 H 𝓜 𝓡 code.env in
+    proved-by f.ended kinds 𝓤 H 𝓜 𝓖 𝓡 (f.clauses 𝓤 H A (𝓜 .mem) (𝓡 .run)) code.env code.function #own #lent (code.unfolded 𝓤 H 𝓜 𝓡)
+    (Lent 𝓤 H A (𝓜 .mem) (𝓡 .run)) lent-def.routine code.calls-c-lent·begin (lent-thm.met 𝓤 H 𝓜 𝓖 𝓡)
+    (λ fm known κs qs _ a _ are. walk 𝓤 H A (givenOf 𝓤 H 𝓜 𝓖) (𝓜 .mem) (𝓡 .run) κs qs (a .0) (a .1 .0) (a .1 .1 .0) (a .1 .1 .1 .0) (a .1 .1 .1 .1 .0)
+    (are .0 .0 .1) (are .1 .1 .1 .0 .1) (are .1 .1 .1 .1 .0 .0 .1) (𝓣 .C) (𝓣 .Λ) fm known)

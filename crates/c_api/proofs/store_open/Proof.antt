@@ -1,15 +1,12 @@
--- `c_api::store_open` meets its contract: a walk of its MIR, by hand. The records are lent in parts, `open` is called on them, and they come back (`Params.antt`). Assumes nothing.
-use Rattle.c_api.proofs.Walk.{_≡_, refl, ℕ, [], _∷_, List, length, URA, fullShare, named, Val, vptr, SProp, ent, emp, id⊢, via, fst∗, Lfts}
-use Rattle.c_api.proofs.Walk.{Shares, Memory, Routine, Heap, Calls, Loops, WpFn, Tables, Atoms, Fun, givenOf, tables, tablesOf, Given, ‵, ⋆, _$_}
-use Rattle.c_api.proofs.Walk.{_∵_, !, qed, by, move, keep, suffices, frame, done, look, init, forget, stop, hop, fld, from, load, addr, and-then}
-use Rattle.c_api.proofs.Walk.{no-more, assigns, land, returns, enter, alloc1, alloc0, params1, pass1, pass0, free1, free0, agg, whole, sub}
-use Rattle.c_api.proofs.Walk.{look-in, FmC, fmOf, WpFn-mono, owns, Is, shows, u16, u64, RefT, MutRef, ptr-vals, mut-tells, sliceVal, MutSlice}
-use Rattle.c_api.proofs.Walk.{ShrSlice, Room, slice-vals, mut-slice-tells, shr-slice-tells, peeks, lawful, Args, Vals, onEntry, Meets, tripleOf}
-use Rattle.c_api.proofs.Walk.{Contract, Triple, entered, cited, says, Stays, stay-ref, stay-none-slice, gave-slice, walkOf, goes-ref}
-use Rattle.c_api.proofs.Walk.{goes-none-slice, goes-gave-slice, ends-at, walked, walk-meets, yes, plain}
+-- `c_api::store_open` meets its contract: a walk of its MIR (`Walk.antt`). It lends the records in parts, calls `open` on them, and they come back. Assumes nothing.
+use Rattle.c_api.proofs.Walk.{_≡_, refl, ℕ, List, [], _∷_, length, URA, fullShare, SProp, ent, id⊢, Lfts, Shares, Memory, Routine, Heap}
+use Rattle.c_api.proofs.Walk.{Calls, Loops, WpFn, Atoms, Fun, givenOf, tables, Given, ‵, _$_, _∵_, !, qed, move, enter, FmC, u16, u64, RefT}
+use Rattle.c_api.proofs.Walk.{Room, slice-vals, ptr-vals, valss, typesAt, lawful, onEntry, Args, tripleOf, Contract, Triple}
+use Rattle.c_api.proofs.Locals.{starts, lends-field, lends-start, lends-slice, loads, goes-home}
+use Rattle.c_api.proofs.Ends.{Kinds, slice-in, slice-out, record-out, valued, passed, Done, ends-well, proved-by}
 use Rattle.c_api.proofs.Parts.{stars}
-use Rattle.c_api.proofs.Params.{served, Param, Xs, Zs, facts, alive, lefts, shr-slice, mut-slice, mut-record}
-use Rattle.c_api.proofs.Records.{Shared, numbersRef, takenRef}
+use Rattle.c_api.proofs.Params.{served, Param, Xs, Zs, alive, owns, shr-slice, mut-slice, mut-record}
+use Rattle.c_api.proofs.Records.{Shared, numbersRef, takenRef, sharedAt}
 use Rattle.c_lent.specs.Calls.{OpensFor, sharedFor}
 use Rattle.c_api.specs.Records.{sharedParts}
 use Rattle.c_lent.specs.declared.Opened.{Opened}
@@ -26,103 +23,76 @@ use Rattle.c_api.proofs.store_open as f
 use Rattle.c_api.proofs.store_open.Statement as stated
 use Rattle.c_api.proofs.store_open.Code as code
 
-abbrev stayed : Stays (f.ended .signature .params) (f.ended .kept)
-stayed = (stay-none-slice (0 ∷ []) tt (plain (λ _. u64)) yes, (gave-slice (1 ∷ []) tt (plain (λ _. u16)), (stay-ref (2 ∷ []) tt (plain (λ _. S.the-row)), tt)))
+abbrev kinds : Kinds (f.ended .signature .params) (f.ended .kept)
+kinds = (slice-in 0 tt u64, (slice-out 1 tt u16, (record-out 2 tt S.the-row, tt)))
 
 -- the contract that the proof cites
 abbrev Lent : {M : Type 1} (𝓤 : URA M) (H : Heap 𝓤) (A : Atoms 𝓤) (mem : Memory → SProp 𝓤) (run : Routine → Fun 𝓤) → Contract 𝓤
 Lent 𝓤 H A mem run = tripleOf 𝓤 H A lent.signature (lent.spec 𝓤 H A mem run)
 
-module _ {M : Type 1} (𝓤 : URA M) (H : Heap 𝓤) (A : Atoms 𝓤) (W : Given 𝓤 H A) (mem : Memory → SProp 𝓤) (run : Routine → Fun 𝓤) (κs : Lfts 3) (qs :
-    Shares 3) (x : RefT (List ℕ)) (y : RefT (List ℕ)) (s : RefT SharedRecord) (x-room : Room u64 (length (x .now))) (y-room : Room u16 (length (y
-    .now))) where
+module _ {M : Type 1} (𝓤 : URA M) (H : Heap 𝓤) (A : Atoms 𝓤) (W : Given 𝓤 H A) (mem : Memory → SProp 𝓤) (run : Routine → Fun 𝓤)
+    (κs : Lfts 3) (qs : Shares 3) (x : RefT (List ℕ)) (y : RefT (List ℕ)) (s : RefT SharedRecord)
+    (x-room : Room u64 (length (x .now))) (y-room : Room u16 (length (y .now))) where
   abbrev a : Args f.signature κs
   a = (x, (y, (s, tt)))
 
-  abbrev at : Vals f.signature κs
-  at = (slice-vals x, (slice-vals y, (ptr-vals s, tt)))
-
-  abbrev passed : List Val
-  passed = sliceVal (x .ptr) (length (x .now)) ∷ sliceVal (y .ptr) (length (y .now)) ∷ vptr (s .ptr .0) (s .ptr .1) ∷ []
-
-  abbrev Post : Val → SProp 𝓤
-  Post = walkOf 𝓤 H A f.ended stayed (f.clauses 𝓤 H A mem run) .post ((κs, qs, tt, a, at), tt)
-
   abbrev params : List (Param 𝓤 H A)
-  params = shr-slice 𝓤 H A W u64 (κs .0) (qs .0) x ∷ mut-slice 𝓤 H A W u16 (κs .1 .0) (qs .1 .0) y ∷ mut-record 𝓤 H A W Shared (κs .1 .1 .0) (qs .1 .1
-      .0) s ∷ []
+  params =
+      shr-slice 𝓤 H A W u64 (κs .0) (qs .0) x ∷
+      mut-slice 𝓤 H A W u16 (κs .1 .0) (qs .1 .0) y ∷
+      mut-record 𝓤 H A W Shared (κs .1 .1 .0) (qs .1 .1 .0) s ∷ []
 
-  -- what the callee's triple binds outside
+  -- what the callee is handed: its lifetimes, its arguments, and all that its contract binds
   abbrev lfts : Xs 𝓤 H A params → Lfts 4
-  lfts xs = let ns = xs .1 .1 .0 in (κs .0, (κs .1 .0, (ns .0 .0 ∷ [], (ns .1 .0 .0 ∷ [], tt))))
+  lfts xs = let ns = xs .1 .1 .0 in
+      (κs .0, (κs .1 .0, (ns .0 .0 ∷ [], (ns .1 .0 .0 ∷ [], tt))))
 
   abbrev handed-on : (xs : Xs 𝓤 H A params) → Args lent.signature (lfts xs)
-  handed-on xs = let ns = xs .1 .1 .0 in (x, (y, (numbersRef s ns, (takenRef s ns, tt))))
-
-  abbrev handed-vals : (xs : Xs 𝓤 H A params) → Vals lent.signature (lfts xs)
-  handed-vals xs = let ns = xs .1 .1 .0 in (slice-vals x, (slice-vals y, (ptr-vals (numbersRef s ns), (ptr-vals (takenRef s ns), tt))))
+  handed-on xs = let ns = xs .1 .1 .0 in
+      (x, (y, (numbersRef s ns, (takenRef s ns, tt))))
 
   abbrev to-lent : Xs 𝓤 H A params → Lent 𝓤 H A mem run .Ghost
-  to-lent xs = ((lfts xs, (qs .0, (qs .1 .0, (fullShare, (fullShare, tt)))), tt, handed-on xs, handed-vals xs), tt)
+  to-lent xs = (
+    (
+      lfts xs,
+      (qs .0, (qs .1 .0, (fullShare, (fullShare, tt)))),
+      tt,
+      handed-on xs,
+      valss (typesAt (lent.signature .params) (lfts xs)) (slice-vals, (slice-vals, (ptr-vals, (ptr-vals, tt)))) (handed-on xs),
+    ),
+    tt,
+  )
 
   -- the callee's last values, as this function's; and what is said of them
   abbrev Ends : Type 0
   Ends = Unit {0} × (List ℕ × (List ℕ × (List ℕ × Unit {0})))
 
   abbrev ends : Ends → Zs 𝓤 H A params
-  ends zs = (tt, (zs .1 .0, (record { numbers = zs .1 .1 .0; taken = zs .1 .1 .1 .0 }, tt)))
+  ends zs = (tt, (zs .1 .0, (sharedAt (zs .1 .1), tt)))
 
   abbrev Says : Opened → Zs 𝓤 H A params → Type 0
   Says r zs = OpensFor (x .now) (y .now) r (zs .1 .0) × (sharedParts (zs .1 .1 .0) ≡ sharedFor (x .now) (y .now))
 
-  exits : (r : Opened) (w : Val) (zs : Zs 𝓤 H A params) → facts 𝓤 H A params zs → Says r zs
-      → ent 𝓤 (⋆ 𝓤 H A (‵ (stars (alive 𝓤 H A params)) ∷ ‵ (stars (lefts 𝓤 H A params zs)) ∷ ‵ (N.the-row .own r (w ∷ [])) ∷ [])) (Post w)
-  exits r w zs ls e =
-      qed W (‵ (stars (alive 𝓤 H A params)) ∷ ‵ (stars (lefts 𝓤 H A params zs)) ∷ ‵ (N.the-row .own r (w ∷ [])) ∷ []) ∵
-      suffices ! _ (ends-at 𝓤 H A f.ended stayed (f.clauses 𝓤 H A mem run) W ((κs, qs, tt, a, at), tt) w r zs ls) $ says ! e $ frame ! $ done !
-
   module _ (C : Calls 𝓤 H) (Λ : Loops 𝓤 H) (fm : FmC 𝓤 H (W .laws) C) (known : Triple 𝓤 (C #lent) (Lent 𝓤 H A mem run)) where
-    walk : ent 𝓤 (onEntry 𝓤 H A f.signature κs qs a at) (WpFn 𝓤 H C Λ code.function passed Post)
+    walk : ent 𝓤 (onEntry 𝓤 H A f.signature κs qs a (valued f.ended kinds κs a)) (WpFn 𝓤 H C Λ code.function (passed f.ended kinds κs a)
+        (Done f.ended kinds 𝓤 H A (f.clauses 𝓤 H A mem run) ((κs, qs, tt, a, valued f.ended kinds κs a), tt)))
     walk =
-        qed W (‵ (stars (alive 𝓤 H A params)) ∷ ‵ (owns (ShrSlice (named 0) (κs .0) u64 ∷ MutSlice (named 1) (κs .1 .0) u16 ∷ MutRef (named 2) (κs .1
-        .1 .0) S.the-row ∷ []) a at) ∷ []) ∵ enter ! C Λ code.function passed _ $
-        alloc1 ! (λ l0. alloc1 ! (λ l1. alloc1 ! (λ l2. alloc1 ! (λ l3. alloc1 ! (λ l4. alloc1 ! (λ l5. alloc1 ! (λ l6. alloc1 ! (λ l7. alloc0 ! $
-        params1 ! $
-        pass1 ! (init ! 12 refl (tt, (tt, (record { fits = x-room .0 }, tt)))) $
-        pass1 ! (init ! 10 refl (tt, (tt, (record { fits = y-room .0 }, tt)))) $ pass1 ! (init ! 8 refl (tt, tt)) $ pass0 ! $
-        assigns ! (addr ! (from ! (fld ! refl (hop ! (look-in ! 10 (sub ! 0 refl (whole !))) (stop !))))) (from ! (stop !)) (init ! 6 refl (tt, tt)) $
-        assigns ! (agg ! (and-then ! (load ! (from ! (stop !)) (look ! 6 refl)) (and-then ! (load ! (from ! (fld ! refl (stop !))) (look-in ! 10 (sub
-        ! 1 refl (whole !)))) (no-more !)))) (from ! (stop !)) (init ! 4 refl (tt, (tt, (record { fits = y-room .0 }, tt)))) $
-        assigns ! (addr ! (from ! (hop ! (look ! 8 refl) (fld ! refl (stop !))))) (from ! (stop !)) (init ! 2 refl (tt, tt)) $
-        assigns ! (addr ! (from ! (hop ! (look ! 8 refl) (fld ! refl (stop !))))) (from ! (stop !)) (init ! 0 refl (tt, tt)) $
-        move ! (16 ∷ 17 ∷ []) $ served ! fm (Lent 𝓤 H A mem run) known params to-lent (λ xs. id⊢ 𝓤 _) (λ r w. N.the-row .own r (w ∷ [])) ends Says (λ
-        xs w. id⊢ 𝓤 _)
-        (λ xs. and-then ! (load ! (from ! (stop !)) (look ! 14 refl)) (and-then ! (load ! (from ! (stop !)) (look ! 6 refl)) (and-then ! (load ! (from
-        ! (stop !)) (look ! 4 refl)) (and-then ! (load ! (from ! (stop !)) (look ! 2 refl)) (no-more !))))) (λ w r zs ls e.
-        peeks ! N.the-row (Is N.the-row) (shows 𝓤 H A N.the-row) r (w ∷ []) (λ is. land ! (from ! (stop !)) (init ! 17 refl (lawful N.the-type
-        N′.the-laws 𝓤 H A W .typed r _ is .0)) $
-        returns ! (look ! 17 refl) $
-        forget ! 3 refl $ forget ! 5 refl $ forget ! 7 refl $ forget ! 9 refl $ forget ! 11 refl $ forget ! 13 refl $ forget ! 15 refl $
-        forget ! 17 refl $ move ! (17 ∷ 18 ∷ []) $ free1 ! $ move ! (15 ∷ 16 ∷ []) $ free1 ! $ move ! (13 ∷ 14 ∷ []) $ free1 ! $
-        move ! (11 ∷ 12 ∷ []) $ free1 ! $ move ! (9 ∷ 10 ∷ []) $ free1 ! $ move ! (7 ∷ 8 ∷ []) $ free1 ! $ move ! (5 ∷ 6 ∷ []) $ free1 ! $
-        move ! (3 ∷ 4 ∷ []) $ free1 ! $ free0 ! $ keep ! (1 ∷ 2 ∷ 0 ∷ []) $ by ! (exits r w zs ls e)))))))))))
-
-meets : {M : Type 1} (𝓤 : URA M) (H : Heap 𝓤) (A : Atoms 𝓤) → Given 𝓤 H A → (mem : Memory → SProp 𝓤) (run : Routine → Fun 𝓤) (𝓣 : Tables 𝓤 H)
-    → Triple 𝓤 (𝓣 .C #lent) (Lent 𝓤 H A mem run) → Meets 𝓤 H A f.signature (WpFn 𝓤 H (𝓣 .C) (𝓣 .Λ) code.function) (f.spec 𝓤 H A mem run)
-meets 𝓤 H A W mem run 𝓣 known =
-    walk-meets 𝓤 H A f.ended stayed W
-    (goes-none-slice 𝓤 H A W 3 (0 ∷ []) tt (plain (λ _. u64)) yes, (goes-gave-slice 𝓤 H A W 3 1 tt (plain (λ _. u16)), (goes-ref 𝓤 H A W 3 2 tt (plain (λ _. S.the-row)), tt)))
-    (f.clauses 𝓤 H A mem run) (WpFn 𝓤 H (𝓣 .C) (𝓣 .Λ) code.function) (WpFn-mono 𝓤 H (W .laws) 𝓣 code.function)
-    (walked 𝓤 H A f.ended stayed (f.clauses 𝓤 H A mem run) (WpFn 𝓤 H (𝓣 .C) (𝓣 .Λ) code.function)
-    (λ κs. (slice-vals, (slice-vals, (ptr-vals, tt))))
-    (λ κs. (shr-slice-tells (named 0) (κs .0) u64, (mut-slice-tells (named 1) (κs .1 .0) u16, (mut-tells (named 2) (κs .1 .1 .0) S.the-row, tt))))
-    (λ κs qs bounds a _ are. via 𝓤 _ (fst∗ 𝓤 _ (emp 𝓤)) (walk 𝓤 H A W mem run κs qs (a .0) (a .1 .0) (a .1 .1 .0) (are .0 .0 .1) (are .1 .0 .0 .1) (𝓣
-    .C) (𝓣 .Λ) (fmOf 𝓤 H (W .laws) 𝓣) known)))
+        qed W (‵ (stars (alive 𝓤 H A params)) ∷ ‵ (stars (owns 𝓤 H A params)) ∷ []) ∵ enter ! C Λ code.function (passed f.ended kinds κs a) _ $
+        starts ! ((tt, (tt, (record { fits = x-room .0 }, tt))), ((tt, (tt, (record { fits = y-room .0 }, tt))), ((tt, tt), tt))) (λ b bs.
+        lends-start ! refl refl refl refl (tt, tt) $
+        lends-slice ! refl refl refl refl refl (tt, (tt, (record { fits = y-room .0 }, tt))) $
+        lends-field ! refl refl refl (tt, tt) $ lends-field ! refl refl refl (tt, tt) $
+        move ! (16 ∷ 17 ∷ []) $ served ! fm (Lent 𝓤 H A mem run) known params to-lent (λ xs. id⊢ 𝓤 _) (λ r w. N.the-row .own r (w ∷ []))
+        ends Says (λ xs w. id⊢ 𝓤 _) (λ xs. loads ! 2 (1 ∷ 5 ∷ 6 ∷ 7 ∷ []) refl tt refl) (λ w r zs ls e.
+        goes-home ! N.the-row r w (λ is. lawful N.the-type N′.the-laws 𝓤 H A W .typed r _ is .0) (_ ∷ _ ∷ _ ∷ _ ∷ _ ∷ _ ∷ _ ∷ []) refl
+        (ends-well f.ended kinds 𝓤 H A (f.clauses 𝓤 H A mem run) W ((κs, qs, tt, a, valued f.ended kinds κs a), tt) w r zs ls (Says r zs) e (id⊢ 𝓤 _))))
 
 pub store-open-spec : {M : Type 1} → stated.statement M
-unfolding code.routine tablesOf
+unfolding code.routine
 store-open-spec 𝓤 H 𝓜 𝓖 𝓡 =
-    entered 𝓤 H (tripleOf 𝓤 H (𝓖 .A) f.signature (f.spec 𝓤 H (𝓖 .A) (𝓜 .mem) (𝓡 .run)))
-    (tables 𝓤 H 𝓜 𝓡 code.env .C) (tables 𝓤 H 𝓜 𝓡 code.env .Λ) #own code.function (code.unfolded 𝓤 H 𝓜 𝓡)
-    (meets 𝓤 H (𝓖 .A) (givenOf 𝓤 H 𝓜 𝓖) (𝓜 .mem) (𝓡 .run) (tablesOf 𝓤 H 𝓜 (tables 𝓤 H 𝓜 𝓡 code.env))
-    (cited 𝓤 H (Lent 𝓤 H (𝓖 .A) (𝓜 .mem) (𝓡 .run)) 𝓜 𝓡 code.env #lent lent-def.routine code.calls-c-lent·open (lent-thm.met 𝓤 H 𝓜 𝓖 𝓡)))
+    let A = 𝓖 .A in
+    let 𝓣 = tables 𝓤 H 𝓜 𝓡 code.env in
+    proved-by f.ended kinds 𝓤 H 𝓜 𝓖 𝓡 (f.clauses 𝓤 H A (𝓜 .mem) (𝓡 .run)) code.env code.function #own #lent (code.unfolded 𝓤 H 𝓜 𝓡)
+    (Lent 𝓤 H A (𝓜 .mem) (𝓡 .run)) lent-def.routine code.calls-c-lent·open (lent-thm.met 𝓤 H 𝓜 𝓖 𝓡)
+    (λ fm known κs qs _ a _ are. walk 𝓤 H A (givenOf 𝓤 H 𝓜 𝓖) (𝓜 .mem) (𝓡 .run) κs qs (a .0) (a .1 .0) (a .1 .1 .0)
+    (are .0 .0 .1) (are .1 .0 .0 .1) (𝓣 .C) (𝓣 .Λ) fm known)
