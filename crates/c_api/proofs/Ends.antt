@@ -13,7 +13,7 @@ use mir.Val.{Val}
 use base.Logic.{SProp, ent, emp, via, fst∗}
 use prog.Model.{Model}
 use prog.Routine.{Name, Routine, Env}
-use prog.Wp.{Heap, WpFn, Closed}
+use prog.Wp.{Heap, Calls, Loops, WpFn, Closed}
 use ghost.Atoms.{Atoms}
 use contract.Lifetimes.{Lfts, Shares, AllOutlive}
 use contract.Running.{GhostRules, Running, givenOf, tables}
@@ -124,43 +124,48 @@ module _ (T : Ended) (hs : Kinds (T .signature .params) (T .kept)) where
   abbrev pub Known : (κs : Lfts (T .signature .lifetimes)) → Args (T .signature) κs → Type 0
   Known κs a = Are (typesAt (T .signature .params) κs) (Ises (typesAt (T .signature .params) κs)) a (valued κs a)
 
-  module _ {M : Type 1} (𝓤 : URA M) (H : Heap 𝓤) (A : Atoms 𝓤) (c : Clauses 𝓤 T) where
+  module _ {M : Type 1} (𝓤 : URA M) (H : Heap 𝓤) (A : Atoms 𝓤) (c : Clauses 𝓤 T) (κs : Lfts (T .signature .lifetimes))
+      (qs : Shares (T .signature .lifetimes)) (bounds : AllOutlive (T .signature .lifetimes) (T .signature .outlives) κs)
+      (a : Args (T .signature) κs) (g : c κs a .ghost) where
     -- what a walk ends in
-    abbrev pub Done : walkOf 𝓤 H A T stayed c .Ghost → Val → SProp 𝓤
-    Done = walkOf 𝓤 H A T stayed c .post
+    abbrev Done : Val → SProp 𝓤
+    Done = walkOf 𝓤 H A T stayed c .post ((κs, qs, bounds, a, valued κs a), g)
 
-    -- it has ended: the tokens, what is had of the parameters at the last values ws, and the result r
-    pub ends-well : Given 𝓤 H A → (y : walkOf 𝓤 H A T stayed c .Ghost) (v : Val) (r : Res (T .signature) (y .0 .0)) (ws : Lasts T (y .0 .0) (y .0 .3))
-        → Fit T stayed (y .0 .0) (y .0 .3) ws → (φ : Type 0) → φ → ent 𝓤 (fact 𝓤 φ) (c (y .0 .0) (y .0 .3) .ensures (y .1) r (atExit T (y .0 .0) (y .0 .3) ws))
-        → ent 𝓤 (onExit 𝓤 H A T stayed (y .0 .0) (y .0 .1) (y .0 .4) v r (y .0 .3) ws) (Done y v)
-    ends-well W y v r ws fits φ e says-so =
-        let P : SProp 𝓤 = onExit 𝓤 H A T stayed (y .0 .0) (y .0 .1) (y .0 .4) v r (y .0 .3) ws in
-        qed W (raw P ∷ []) ∵ suffices ! _ (ends-at 𝓤 H A T stayed c W y v r ws fits) $
-        use0 W (raw (c (y .0 .0) (y .0 .3) .ensures (y .1) r (atExit T (y .0 .0) (y .0 .3) ws))) (via 𝓤 _ (factI 𝓤 φ (emp 𝓤) e) says-so) $
-        move ! (1 ∷ 0 ∷ []) $ done !
+    -- what a walk shows, of the function's code
+    abbrev pub Walked : Calls 𝓤 H → Loops 𝓤 H → Fn → Type 1
+    Walked C Λ fn = ent 𝓤 (onEntry 𝓤 H A (T .signature) κs qs a (valued κs a)) (WpFn 𝓤 H C Λ fn (passed κs a) Done)
 
-  module _ {M : Type 1} (𝓤 : URA M) (H : Heap 𝓤) (𝓜 : Model 𝓤 H)
-      (𝓖 : GhostRules 𝓤 H) (𝓡 : Running 𝓤 H 𝓜) (c : Clauses 𝓤 T) (env : Env) (fn : Fn) where
-    abbrev runs : List Val → (Val → SProp 𝓤) → SProp 𝓤
-    runs = WpFn 𝓤 H (tables 𝓤 H 𝓜 𝓡 env .C) (tables 𝓤 H 𝓜 𝓡 env .Λ) fn
+    -- it has ended: there are the tokens, what is had of the parameters at their last values ws, and the result r; and the clause φ holds
+    pub ends-well : Given 𝓤 H A → (v : Val) (r : Res (T .signature) κs) (ws : Lasts T κs a) → Fit T stayed κs a ws → (φ : Type 0) → φ
+        → ent 𝓤 (fact 𝓤 φ) (c κs a .ensures g r (atExit T κs a ws)) → ent 𝓤 (onExit 𝓤 H A T stayed κs qs (valued κs a) v r a ws) (Done v)
+    ends-well W v r ws fits φ e clause =
+        qed W (raw (onExit 𝓤 H A T stayed κs qs (valued κs a) v r a ws) ∷ []) ∵
+        suffices ! _ (ends-at 𝓤 H A T stayed c W ((κs, qs, bounds, a, valued κs a), g) v r ws fits) $
+        use0 W (raw (c κs a .ensures g r (atExit T κs a ws))) (via 𝓤 _ (factI 𝓤 φ (emp 𝓤) e) clause) $ move ! (1 ∷ 0 ∷ []) $ done !
 
-    -- what a walk shows
-    abbrev Walk : Type 1
-    Walk = (κs : Lfts (T .signature .lifetimes)) (qs : Shares (T .signature .lifetimes)) (bounds : AllOutlive (T .signature .lifetimes) (T .signature .outlives) κs)
-        (a : Args (T .signature) κs) (g : c κs a .ghost) → Known κs a
-        → ent 𝓤 (onEntry 𝓤 H (𝓖 .A) (T .signature) κs qs a (valued κs a)) (runs (passed κs a)
-        (walkOf 𝓤 H (𝓖 .A) T stayed c .post ((κs, qs, bounds, a, valued κs a), g)))
+  module _ {M : Type 1} (𝓤 : URA M) (H : Heap 𝓤) (𝓜 : Model 𝓤 H) (𝓖 : GhostRules 𝓤 H) (𝓡 : Running 𝓤 H 𝓜)
+      (c : Clauses 𝓤 T) (env : Env) (fn : Fn) where
+    abbrev C : Calls 𝓤 H
+    C = tables 𝓤 H 𝓜 𝓡 env .C
 
-    pub proved-by : (own lent : Name) → Closed 𝓤 H (tables 𝓤 H 𝓜 𝓡 env .C) (tables 𝓤 H 𝓜 𝓡 env .Λ) own fn
-        → (d : Contract 𝓤) (r : Routine) → env lent ≡ r → Triple 𝓤 (𝓡 .run r) d
-        → (FmC 𝓤 H (givenOf 𝓤 H 𝓜 𝓖 .laws) (tables 𝓤 H 𝓜 𝓡 env .C) → Triple 𝓤 (tables 𝓤 H 𝓜 𝓡 env .C lent) d → Walk)
-        → Triple 𝓤 (tables 𝓤 H 𝓜 𝓡 env .C own) (tripleOf 𝓤 H (𝓖 .A) (T .signature) (closing 𝓤 H (𝓖 .A) T c))
+    abbrev Λ : Loops 𝓤 H
+    Λ = tables 𝓤 H 𝓜 𝓡 env .Λ
+
+    abbrev meant : Contract 𝓤
+    meant = tripleOf 𝓤 H (𝓖 .A) (T .signature) (closing 𝓤 H (𝓖 .A) T c)
+
+    -- own and lent are the names of the function and of its callee, d the callee's contract
+    pub proved-by : (own lent : Name) → Closed 𝓤 H C Λ own fn → (d : Contract 𝓤) (r : Routine) → env lent ≡ r → Triple 𝓤 (𝓡 .run r) d
+        → (FmC 𝓤 H (givenOf 𝓤 H 𝓜 𝓖 .laws) C → Triple 𝓤 (C lent) d → (κs : Lfts (T .signature .lifetimes))
+        (qs : Shares (T .signature .lifetimes)) (bounds : AllOutlive (T .signature .lifetimes) (T .signature .outlives) κs)
+        (a : Args (T .signature) κs) (g : c κs a .ghost) → Known κs a → Walked 𝓤 H (𝓖 .A) c κs qs bounds a g C Λ fn)
+        → Triple 𝓤 (C own) meant
     unfolding tablesOf
     proved-by own lent closed d r is met walk =
         let W : Given 𝓤 H (𝓖 .A) = givenOf 𝓤 H 𝓜 𝓖 in
-        entered 𝓤 H (tripleOf 𝓤 H (𝓖 .A) (T .signature) (closing 𝓤 H (𝓖 .A) T c)) (tables 𝓤 H 𝓜 𝓡 env .C) (tables 𝓤 H 𝓜 𝓡 env .Λ) own fn closed
-        (walk-meets 𝓤 H (𝓖 .A) T stayed W (all-go 𝓤 H (𝓖 .A) W (T .signature .params) (T .kept) hs) c runs
-        (WpFn-mono 𝓤 H (W .laws) (tablesOf 𝓤 H 𝓜 (tables 𝓤 H 𝓜 𝓡 env)) fn)
-        (walked 𝓤 H (𝓖 .A) T stayed c runs (spells (T .signature .params) (T .kept) hs) (all-tell (T .signature .params) (T .kept) hs)
-        (λ κs qs bounds a g are. via 𝓤 _ (fst∗ 𝓤 _ (c κs a .requires g))
-        (walk (fmOf 𝓤 H (W .laws) (tablesOf 𝓤 H 𝓜 (tables 𝓤 H 𝓜 𝓡 env))) (cited 𝓤 H d 𝓜 𝓡 env lent r is met) κs qs bounds a g are))))
+        entered 𝓤 H meant C Λ own fn closed (walk-meets 𝓤 H (𝓖 .A) T stayed W (all-go 𝓤 H (𝓖 .A) W (T .signature .params)
+        (T .kept) hs) c (WpFn 𝓤 H C Λ fn) (WpFn-mono 𝓤 H (W .laws) (tablesOf 𝓤 H 𝓜 (tables 𝓤 H 𝓜 𝓡 env)) fn)
+        (walked 𝓤 H (𝓖 .A) T stayed c (WpFn 𝓤 H C Λ fn) (spells (T .signature .params) (T .kept) hs)
+        (all-tell (T .signature .params) (T .kept) hs) (λ κs qs bounds a g are. via 𝓤 _ (fst∗ 𝓤 _ (c κs a .requires g))
+        (walk (fmOf 𝓤 H (W .laws) (tablesOf 𝓤 H 𝓜 (tables 𝓤 H 𝓜 𝓡 env))) (cited 𝓤 H d 𝓜 𝓡 env lent r is met) κs qs bounds
+        a g are))))

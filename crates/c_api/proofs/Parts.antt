@@ -110,8 +110,8 @@ pub record Lendable : Type 2 where
   pub vals : D → Denots (rowsOf ms)
   pub same : (d : D) → to d ≡ vals d
   pub laws : {M : Type 1} (𝓤 : URA M) (H : Heap 𝓤) (A : Atoms 𝓤) → Given 𝓤 H A → Lawfuls 𝓤 H A (rowsOf ms)
-  pub cuts : {M : Type 1} (𝓤 : URA M) (H : Heap 𝓤) (A : Atoms 𝓤) → Given 𝓤 H A → (d : D) (b o : ℕ) → Halves 𝓤 H A (λ t. partAt (Recorded (Struct
-      (shapeOf name ms)) D to one) t d b o)
+  pub cuts : {M : Type 1} (𝓤 : URA M) (H : Heap 𝓤) (A : Atoms 𝓤) → Given 𝓤 H A → (d : D) (b o : ℕ)
+      → Halves 𝓤 H A (λ t. partAt (Recorded (Struct (shapeOf name ms)) D to one) t d b o)
 
 abbrev pub rowOfRecord : Lendable → RattleType
 rowOfRecord X = Recorded (Struct (shapeOf (X .name) (X .ms))) (X .D) (X .to) (X .one)
@@ -130,51 +130,56 @@ module _ {M : Type 1} (𝓤 : URA M) (H : Heap 𝓤) (A : Atoms 𝓤) (W : Given
   abbrev Lent : (ms : List Member) → ℕ → Denots (rowsOf ms) → ℕ → ℕ → Names ms → SProp 𝓤
   Lent ms e a b o ns = sep 𝓤 ⟦ refs ms ns e a b o ⟧ (sep 𝓤 ⟦ tokens ms ns ⟧ ⟦ lents ms ns e b o ⟧)
 
-  lend : (ms : List Member) (e : ℕ) (a : Denots (rowsOf ms)) (b o : ℕ) → ent 𝓤 ⟦ partsAt fullShare ms e a b o ⟧ (H .⇛ (ex 𝓤 (Lent ms e a b o)))
+  lend : (ms : List Member) (e : ℕ) (a : Denots (rowsOf ms)) (b o : ℕ)
+      → ent 𝓤 ⟦ partsAt fullShare ms e a b o ⟧ (H .⇛ (ex 𝓤 (Lent ms e a b o)))
   lend [] e a b o = qed W (‵ ftrue ∷ []) ∵ updating ! $ at-once ! $ show ! (Lent [] e a b o) tt $ nothing ! $ nothing ! $ done !
   lend (m ∷ ms) e a b o =
-      qed W (‵ (fsep (partAt (rowOf m) fullShare (a .0) b (place m e o)) (partsAt fullShare ms (next m e) (a .1) b o)) ∷ []) ∵ updating ! $ fsplit ! $
-      lft-new ! tt (λ ν. move ! (1 ∷ []) $
-      use1 W (later (some (λ (δ : GName). ‵ (refTo m (ν, δ) (a .0) b (place m e o)) ⊛ ‵ (flent (ν ∷ []) (Body (mem (rowOf m)) b (place m e o) δ)))))
+      qed W (‵ (fsep (partAt (rowOf m) fullShare (a .0) b (place m e o)) (partsAt fullShare ms (next m e) (a .1) b o)) ∷ []) ∵ updating ! $
+      fsplit ! $ lft-new ! tt (λ ν. move ! (1 ∷ []) $ use1 W (later
+      (some (λ (δ : GName). ‵ (refTo m (ν, δ) (a .0) b (place m e o)) ⊛ ‵ (flent (ν ∷ []) (Body (mem (rowOf m)) b (place m e o) δ)))))
       (lends-ref 𝓤 H A W (rowOf m) erased (ν ∷ []) (a .0) b (place m e o)) $ await ! tt $ pick ! (λ δ. split ! $
       -- [the reference; the lender's part; the token; the other fields]
-      move ! (3 ∷ []) $ use1 W (later (some (λ (ns : Names ms). ‵ (refs ms ns (next m e) (a .1) b o) ⊛ (‵ (tokens ms ns) ⊛ ‵ (lents ms ns (next m e) b
-      o))))) (lend ms (next m e) (a .1) b o) $ await ! tt $ pick ! (λ ns. split ! $ move ! (1 ∷ []) $ split ! $
-      at-once ! $ show ! (Lent (m ∷ ms) e a b o) ((ν, δ), ns) $
+      move ! (3 ∷ []) $ use1 W (later (some (λ (ns : Names ms). ‵ (refs ms ns (next m e) (a .1) b o) ⊛ (‵ (tokens ms ns) ⊛ ‵
+      (lents ms ns (next m e) b o))))) (lend ms (next m e) (a .1) b o) $ await ! tt $
+      pick ! (λ ns. split ! $ move ! (1 ∷ []) $ split ! $ at-once ! $ show ! (Lent (m ∷ ms) e a b o) ((ν, δ), ns) $
       -- [the tokens; the lender's parts; the references; the reference; the lender's part; the token]
       move ! (4 ∷ 1 ∷ []) $ fjoin ! $ move ! (4 ∷ 1 ∷ []) $ fjoin ! $ move ! (3 ∷ 2 ∷ []) $ fjoin ! $ move ! (0 ∷ 1 ∷ []) $ done !)))
 
-  back : (ms : List Member) (ns : Names ms) (e : ℕ) (a : Denots (rowsOf ms)) (b o : ℕ) → ent 𝓤 (sep 𝓤 ⟦ tokens ms ns ⟧ (sep 𝓤 ⟦ lents ms ns e b o ⟧ ⟦
-      ends ms ns a ⟧)) (H .⇛ ⟦ partsAt fullShare ms e a b o ⟧)
+  back : (ms : List Member) (ns : Names ms) (e : ℕ) (a : Denots (rowsOf ms)) (b o : ℕ)
+      → ent 𝓤 (sep 𝓤 ⟦ tokens ms ns ⟧ (sep 𝓤 ⟦ lents ms ns e b o ⟧ ⟦ ends ms ns a ⟧))
+      (H .⇛ ⟦ partsAt fullShare ms e a b o ⟧)
   back [] ns e a b o = qed W (‵ ftrue ∷ ‵ ftrue ∷ ‵ ftrue ∷ []) ∵ updating ! $ at-once ! $ keep ! (0 ∷ []) $ done !
   back (m ∷ ms) ns e a b o =
-      qed W (‵ (tokens (m ∷ ms) ns) ∷ ‵ (lents (m ∷ ms) ns e b o) ∷ ‵ (ends (m ∷ ms) ns a) ∷ []) ∵ updating ! $ fsplit ! $ lft-end ! tt $ move ! (2 ∷
-      []) $ fsplit ! $ move ! (4 ∷ []) $ fsplit ! $
+      qed W (‵ (tokens (m ∷ ms) ns) ∷ ‵ (lents (m ∷ ms) ns e b o) ∷ ‵ (ends (m ∷ ms) ns a) ∷ []) ∵ updating ! $ fsplit ! $
+      lft-end ! tt $ move ! (2 ∷ []) $ fsplit ! $ move ! (4 ∷ []) $ fsplit ! $
       -- [res; the other ends; the lender's part; the other lender's parts; dead; the other tokens]
-      move ! (4 ∷ 2 ∷ 0 ∷ []) $ use3 W (later (‵ (partAt (rowOf m) fullShare (a .0) b (place m e o)))) (ref-back 𝓤 H A W (rowOf m) (ns .0 .0 ∷ []) (ns
-      .0 .1) (a .0) b (place m e o)) $ await ! tt $
-      move ! (3 ∷ 2 ∷ 1 ∷ []) $ use3 W (later (‵ (partsAt fullShare ms (next m e) (a .1) b o))) (back ms (ns .1) (next m e) (a .1) b o) $ await ! tt $
+      move ! (4 ∷ 2 ∷ 0 ∷ []) $ use3 W (later (‵ (partAt (rowOf m) fullShare (a .0) b (place m e o))))
+      (ref-back 𝓤 H A W (rowOf m) (ns .0 .0 ∷ []) (ns .0 .1) (a .0) b (place m e o)) $ await ! tt $ move ! (3 ∷ 2 ∷ 1 ∷ []) $
+      use3 W (later (‵ (partsAt fullShare ms (next m e) (a .1) b o))) (back ms (ns .1) (next m e) (a .1) b o) $ await ! tt $
       move ! (1 ∷ 0 ∷ []) $ fjoin ! $ at-once ! $ done !
 
   abbrev Shared : Share → (ms : List Member) → ℕ → Denots (rowsOf ms) → ℕ → ℕ → Names ms → SProp 𝓤
   Shared q ms e a b o ns = sep 𝓤 ⟦ shrs ms ns e a b o ⟧ (sep 𝓤 ⟦ tokens ms ns ⟧ ⟦ shr-lents q ms ns e a b o ⟧)
 
-  share : (q : Share) (ms : List Member) (e : ℕ) (a : Denots (rowsOf ms)) (b o : ℕ) → ent 𝓤 ⟦ partsAt q ms e a b o ⟧ (H .⇛ (ex 𝓤 (Shared q ms e a b o)))
+  share : (q : Share) (ms : List Member) (e : ℕ) (a : Denots (rowsOf ms)) (b o : ℕ)
+      → ent 𝓤 ⟦ partsAt q ms e a b o ⟧ (H .⇛ (ex 𝓤 (Shared q ms e a b o)))
   share q [] e a b o = qed W (‵ ftrue ∷ []) ∵ updating ! $ at-once ! $ show ! (Shared q [] e a b o) tt $ nothing ! $ nothing ! $ done !
   share q (m ∷ ms) e a b o =
-      qed W (‵ (partsAt q (m ∷ ms) e a b o) ∷ []) ∵ updating ! $ fsplit ! $ lft-new ! tt (λ ν. move ! (1 ∷ []) $
-      use1 W (later (some (λ (δ : GName). ‵ (shrTo m (ν, δ) (a .0) b (place m e o)) ⊛ ‵ (flent (ν ∷ []) (partAt (rowOf m) q (a .0) b (place m e
-      o)))))) (lends-shr 𝓤 H A W (rowOf m) erased (ν ∷ []) q (a .0) b (place m e o)) $ await ! tt $ pick ! (λ δ. split ! $
-      move ! (3 ∷ []) $ use1 W (later (some (λ (ns : Names ms). ‵ (shrs ms ns (next m e) (a .1) b o) ⊛ (‵ (tokens ms ns) ⊛ ‵ (shr-lents q ms ns (next
-      m e) (a .1) b o))))) (share q ms (next m e) (a .1) b o) $ await ! tt $ pick ! (λ ns. split ! $ move ! (1 ∷ []) $ split ! $
-      at-once ! $ show ! (Shared q (m ∷ ms) e a b o) ((ν, δ), ns) $ move ! (4 ∷ 1 ∷ []) $ fjoin ! $ move ! (4 ∷ 1 ∷ []) $ fjoin ! $ move ! (3 ∷ 2 ∷
-      []) $ fjoin ! $ move ! (0 ∷ 1 ∷ []) $ done !)))
+      qed W (‵ (partsAt q (m ∷ ms) e a b o) ∷ []) ∵ updating ! $ fsplit ! $
+      lft-new ! tt (λ ν. move ! (1 ∷ []) $ use1 W (later (some (λ (δ : GName). ‵ (shrTo m (ν, δ) (a .0) b (place m e o)) ⊛ ‵
+      (flent (ν ∷ []) (partAt (rowOf m) q (a .0) b (place m e o)))))) (lends-shr 𝓤 H A W (rowOf m) erased (ν ∷ []) q (a .0) b
+      (place m e o)) $ await ! tt $ pick ! (λ δ. split ! $ move ! (3 ∷ []) $
+      use1 W (later (some (λ (ns : Names ms). ‵ (shrs ms ns (next m e) (a .1) b o) ⊛ (‵ (tokens ms ns) ⊛ ‵
+      (shr-lents q ms ns (next m e) (a .1) b o))))) (share q ms (next m e) (a .1) b o) $ await ! tt $
+      pick ! (λ ns. split ! $ move ! (1 ∷ []) $ split ! $ at-once ! $ show ! (Shared q (m ∷ ms) e a b o) ((ν, δ), ns) $
+      move ! (4 ∷ 1 ∷ []) $ fjoin ! $ move ! (4 ∷ 1 ∷ []) $ fjoin ! $ move ! (3 ∷ 2 ∷ []) $ fjoin ! $ move ! (0 ∷ 1 ∷ []) $ done !)))
 
-  unshare : (q : Share) (ms : List Member) (ns : Names ms) (e : ℕ) (a : Denots (rowsOf ms)) (b o : ℕ) → ent 𝓤 (sep 𝓤 ⟦ tokens ms ns ⟧ ⟦ shr-lents q ms
-      ns e a b o ⟧) (H .⇛ ⟦ partsAt q ms e a b o ⟧)
+  unshare : (q : Share) (ms : List Member) (ns : Names ms) (e : ℕ) (a : Denots (rowsOf ms)) (b o : ℕ)
+      → ent 𝓤 (sep 𝓤 ⟦ tokens ms ns ⟧ ⟦ shr-lents q ms ns e a b o ⟧) (H .⇛ ⟦ partsAt q ms e a b o ⟧)
   unshare q [] ns e a b o = qed W (‵ ftrue ∷ ‵ ftrue ∷ []) ∵ updating ! $ at-once ! $ keep ! (0 ∷ []) $ done !
   unshare q (m ∷ ms) ns e a b o =
-      qed W (‵ (tokens (m ∷ ms) ns) ∷ ‵ (shr-lents q (m ∷ ms) ns e a b o) ∷ []) ∵ updating ! $ fsplit ! $ lft-end ! tt $ move ! (2 ∷ []) $ fsplit ! $
+      qed W (‵ (tokens (m ∷ ms) ns) ∷ ‵ (shr-lents q (m ∷ ms) ns e a b o) ∷ []) ∵ updating ! $ fsplit ! $ lft-end ! tt $
+      move ! (2 ∷ []) $ fsplit ! $
       -- [the lender's part; the other lender's parts; dead; the other tokens]
       move ! (2 ∷ 0 ∷ []) $ lent-back ! tt $ move ! (2 ∷ 1 ∷ []) $ use2 W (later (‵ (partsAt q ms (next m e) (a .1) b o))) (unshare q ms (ns .1) (next
       m e) (a .1) b o) $ await ! tt $ move ! (1 ∷ 0 ∷ []) $ fjoin ! $ at-once ! $ done !
@@ -199,16 +204,19 @@ module _ {M : Type 1} (𝓤 : URA M) (H : Heap 𝓤) (A : Atoms 𝓤) (W : Given
 
     whole : (t : Share) (b o : ℕ) → ent 𝓤 (PartsBack 𝓤 H A t (X .name) ms b o) (Whole t b o)
     unfolding partOf
-    whole t b o = allI 𝓤 (λ (d : D). wand 𝓤 ⟦ partsAt t ms zero (vals d) b o ⟧ ⟦ partAt R t d b o ⟧) (λ d.
-        subst (λ (a : Denots (rowsOf ms)). ent 𝓤 (PartsBack 𝓤 H A t (X .name) ms b o) (wand 𝓤 ⟦ partsAt t ms zero a b o ⟧ ⟦ partAt R t d b o ⟧)) (X .same d)
-        (allE 𝓤 (λ (a : Denots (rowsOf ms)). wand 𝓤 ⟦ partsAt t ms zero a b o ⟧ ⟦ partAt (Struct (shapeOf (X .name) ms)) t a b o ⟧) (X .to d)))
+    whole t b o = allI 𝓤 (λ (d : D). wand 𝓤 ⟦ partsAt t ms zero (vals d) b o ⟧ ⟦ partAt R t d b o ⟧)
+        (λ d. subst (λ (a : Denots (rowsOf ms)). ent 𝓤 (PartsBack 𝓤 H A t (X .name) ms b o)
+        (wand 𝓤 ⟦ partsAt t ms zero a b o ⟧ ⟦ partAt R t d b o ⟧)) (X .same d)
+        (allE 𝓤 (λ (a : Denots (rowsOf ms)). wand 𝓤 ⟦ partsAt t ms zero a b o ⟧ ⟦ partAt (Struct (shapeOf (X .name) ms)) t a b o ⟧)
+        (X .to d)))
 
     apart : (t : Share) (d : D) (b o : ℕ) → ent 𝓤 ⟦ partAt R t d b o ⟧ (sep 𝓤 ⟦ partsAt t ms zero (vals d) b o ⟧ (Whole t b o))
     unfolding partOf
     apart t d b o =
         subst (λ (a : Denots (rowsOf ms)). ent 𝓤 ⟦ partAt R t d b o ⟧ (sep 𝓤 ⟦ partsAt t ms zero a b o ⟧ (Whole t b o))) (X .same d)
-        (via 𝓤 (sep 𝓤 ⟦ partsAt t ms zero (X .to d) b o ⟧ (PartsBack 𝓤 H A t (X .name) ms b o)) (struct-parts 𝓤 H A W t (X .name) ms (X .laws 𝓤 H A W)
-        (X .to d) b o) (monoR 𝓤 ⟦ partsAt t ms zero (X .to d) b o ⟧ (whole t b o)))
+        (via 𝓤 (sep 𝓤 ⟦ partsAt t ms zero (X .to d) b o ⟧ (PartsBack 𝓤 H A t (X .name) ms b o))
+        (struct-parts 𝓤 H A W t (X .name) ms (X .laws 𝓤 H A W) (X .to d) b o)
+        (monoR 𝓤 ⟦ partsAt t ms zero (X .to d) b o ⟧ (whole t b o)))
 
     module _ (κ : Lft) (q : Share) (x : RefT D) where
       abbrev b : ℕ
@@ -235,21 +243,23 @@ module _ {M : Type 1} (𝓤 : URA M) (H : Heap 𝓤) (A : Atoms 𝓤) (W : Given
           zero (vals (x .now)) b o) $ await ! tt $ pick ! (λ ns. split ! $ move ! (1 ∷ []) $ split ! $
           at-once ! $ show ! Out ns $
           -- [the tokens; the lender's parts; the references; the way back; the open borrow; obs; auth]
-          move ! (5 ∷ 6 ∷ []) $ join ! $ move ! (5 ∷ 0 ∷ []) $ join ! $ move ! (4 ∷ 0 ∷ []) $ join ! $ move ! (2 ∷ 0 ∷ []) $ join ! $ move ! (2 ∷ 1 ∷
-          []) $ done !)
+          move ! (5 ∷ 6 ∷ []) $ join ! $ move ! (5 ∷ 0 ∷ []) $ join ! $ move ! (4 ∷ 0 ∷ []) $ join ! $ move ! (2 ∷ 0 ∷ []) $ join ! $
+          move ! (2 ∷ 1 ∷ []) $ done !)
 
-      pub parts-back : (d : D) (ns : Names ms) → ent 𝓤 (sep 𝓤 ⟦ tokens ms ns ⟧ (sep 𝓤 (mean 𝓤 H A (Kept ns)) ⟦ ends ms ns (vals d) ⟧)) (H .⇛ (sep 𝓤 ⟦
-          at d ⟧ (A .lft κ q)))
+      pub parts-back : (d : D) (ns : Names ms) → ent 𝓤 (sep 𝓤 ⟦ tokens ms ns ⟧
+          (sep 𝓤 (mean 𝓤 H A (Kept ns)) ⟦ ends ms ns (vals d) ⟧)) (H .⇛ (sep 𝓤 ⟦ at d ⟧ (A .lft κ q)))
       parts-back d ns =
-          qed W (‵ (tokens ms ns) ∷ Kept ns ∷ ‵ (ends ms ns (vals d)) ∷ []) ∵ updating ! $ move ! (1 ∷ []) $ split ! $ move ! (1 ∷ []) $ split ! $
-          move ! (1 ∷ []) $ split ! $ move ! (1 ∷ []) $ split ! $
+          qed W (‵ (tokens ms ns) ∷ Kept ns ∷ ‵ (ends ms ns (vals d)) ∷ []) ∵ updating ! $ move ! (1 ∷ []) $ split ! $
+          move ! (1 ∷ []) $ split ! $ move ! (1 ∷ []) $ split ! $ move ! (1 ∷ []) $ split ! $
           -- [obs; auth; the open borrow; the way back; the lender's parts; the tokens; the ends]
           move ! (5 ∷ 4 ∷ 6 ∷ []) $ use3 W (later (‵ (partsAt fullShare ms zero (vals d) b o))) (back ms ns zero (vals d) b o) $ await ! tt $
-          move ! (4 ∷ []) $ use1 W (raw (wand 𝓤 ⟦ partsAt fullShare ms zero (vals d) b o ⟧ ⟦ partAt R fullShare d b o ⟧)) (allE 𝓤 (λ (z : D). wand 𝓤 ⟦
-          partsAt fullShare ms zero (vals z) b o ⟧ ⟦ partAt R fullShare z b o ⟧) d) $ move ! (1 ∷ 0 ∷ []) $
-          use2 W (‵ (partAt R fullShare d b o)) (apply∗ 𝓤 ⟦ partsAt fullShare ms zero (vals d) b o ⟧ ⟦ partAt R fullShare d b o ⟧) $
+          move ! (4 ∷ []) $ use1 W (raw (wand 𝓤 ⟦ partsAt fullShare ms zero (vals d) b o ⟧ ⟦ partAt R fullShare d b o ⟧))
+          (allE 𝓤 (λ (z : D). wand 𝓤 ⟦ partsAt fullShare ms zero (vals z) b o ⟧ ⟦ partAt R fullShare z b o ⟧) d) $
+          move ! (1 ∷ 0 ∷ []) $ use2 W (‵ (partAt R fullShare d b o))
+          (apply∗ 𝓤 ⟦ partsAt fullShare ms zero (vals d) b o ⟧ ⟦ partAt R fullShare d b o ⟧) $
           -- [the record; obs; auth; the open borrow]
-          move ! (0 ∷ 3 ∷ 1 ∷ 2 ∷ []) $ close-ref ! tt (mem R) d {b = b} {o = o} $ at-once ! $ feqI ! (List Val) (vptr b o ∷ []) (vptr b o ∷ []) refl
+          move ! (0 ∷ 3 ∷ 1 ∷ 2 ∷ []) $ close-ref ! tt (mem R) d {b = b} {o = o} $ at-once ! $
+          feqI ! (List Val) (vptr b o ∷ []) (vptr b o ∷ []) refl
           $ fjoin3 ! $ done !
 
     -- a `&`, which is looked into for the time of a call
@@ -267,29 +277,33 @@ module _ {M : Type 1} (𝓤 : URA M) (H : Heap 𝓤) (A : Atoms 𝓤) (W : Given
       Backˢ t = wand 𝓤 ⟦ partsAt t ms zero (vals (x .now)) bˢ oˢ ⟧ ⟦ partAt R t (x .now) bˢ oˢ ⟧
 
       abbrev pub Keptˢ : Share × Names ms → Item 𝓤
-      Keptˢ ns = ‵ (shr-lents (ns .0) ms (ns .1) zero (vals (x .now)) bˢ oˢ) ⊛ (raw (Backˢ (ns .0)) ⊛ ‵ (fobor κ q (partAt R (ns .0) (x .now) bˢ oˢ)))
+      Keptˢ ns = ‵ (shr-lents (ns .0) ms (ns .1) zero (vals (x .now)) bˢ oˢ) ⊛ (raw (Backˢ (ns .0)) ⊛ ‵
+          (fobor κ q (partAt R (ns .0) (x .now) bˢ oˢ)))
 
       abbrev Outˢ : Share × Names ms → SProp 𝓤
-      Outˢ ns = sep 𝓤 ⟦ atˢ ⟧ (sep 𝓤 ⟦ shrs ms (ns .1) zero (vals (x .now)) bˢ oˢ ⟧ (sep 𝓤 ⟦ tokens ms (ns .1) ⟧ (mean 𝓤 H A (Keptˢ ns))))
+      Outˢ ns = sep 𝓤 ⟦ atˢ ⟧ (sep 𝓤 ⟦ shrs ms (ns .1) zero (vals (x .now)) bˢ oˢ ⟧
+          (sep 𝓤 ⟦ tokens ms (ns .1) ⟧ (mean 𝓤 H A (Keptˢ ns))))
 
       pub shares-parts : ent 𝓤 (sep 𝓤 ⟦ atˢ ⟧ (A .lft κ q)) (H .⇛ (ex 𝓤 Outˢ))
       shares-parts =
-          qed W (‵ atˢ ∷ ‵ (flft κ q) ∷ []) ∵ updating ! $ fsplit3 ! $ move ! (2 ∷ []) $ shr-bor-dup ! $ move ! (0 ∷ 4 ∷ []) $ shr-bor-open ! tt (X
-          .cuts 𝓤 H A W (x .now) bˢ oˢ) (λ t.
+          qed W (‵ atˢ ∷ ‵ (flft κ q) ∷ []) ∵ updating ! $ fsplit3 ! $ move ! (2 ∷ []) $ shr-bor-dup ! $ move ! (0 ∷ 4 ∷ []) $
+          shr-bor-open ! tt (X .cuts 𝓤 H A W (x .now) bˢ oˢ) (λ t.
           -- [the open borrow; the share; the borrow; the pointer; res]
-          move ! (1 ∷ []) $ use1 W (‵ (partsAt t ms zero (vals (x .now)) bˢ oˢ) ⊛ raw (Whole t bˢ oˢ)) (apart t (x .now) bˢ oˢ) $ split ! $ move ! (1 ∷ []) $
-          use1 W (raw (Backˢ t)) (allE 𝓤 (λ (d : D). wand 𝓤 ⟦ partsAt t ms zero (vals d) bˢ oˢ ⟧ ⟦ partAt R t d bˢ oˢ ⟧) (x .now)) $ move ! (1 ∷ []) $
-          use1 W (later (some (λ (ns : Names ms). ‵ (shrs ms ns zero (vals (x .now)) bˢ oˢ) ⊛ (‵ (tokens ms ns) ⊛ ‵ (shr-lents t ms ns zero (vals (x
-          .now)) bˢ oˢ))))) (share t ms zero (vals (x .now)) bˢ oˢ) $ await ! tt $ pick ! (λ ns. split ! $ move ! (1 ∷ []) $ split ! $
-          at-once ! $ show ! Outˢ (t, ns) $
+          move ! (1 ∷ []) $ use1 W (‵ (partsAt t ms zero (vals (x .now)) bˢ oˢ) ⊛ raw (Whole t bˢ oˢ)) (apart t (x .now) bˢ oˢ) $
+          split ! $ move ! (1 ∷ []) $ use1 W (raw (Backˢ t)) (allE 𝓤 (λ (d : D). wand 𝓤 ⟦ partsAt t ms zero
+          (vals d) bˢ oˢ ⟧ ⟦ partAt R t d bˢ oˢ ⟧) (x .now)) $ move ! (1 ∷ []) $
+          use1 W (later (some (λ (ns : Names ms). ‵ (shrs ms ns zero (vals (x .now)) bˢ oˢ) ⊛ (‵ (tokens ms ns) ⊛ ‵
+          (shr-lents t ms ns zero (vals (x .now)) bˢ oˢ))))) (share t ms zero (vals (x .now)) bˢ oˢ) $ await ! tt $
+          pick ! (λ ns. split ! $ move ! (1 ∷ []) $ split ! $ at-once ! $ show ! Outˢ (t, ns) $
           -- [the tokens; the lender's parts; the references; the way back; the open borrow; the borrow; the pointer; res]
-          move ! (3 ∷ 4 ∷ []) $ join ! $ move ! (2 ∷ 0 ∷ []) $ join ! $ move ! (4 ∷ 5 ∷ 3 ∷ []) $ fjoin3 ! $ move ! (0 ∷ 3 ∷ 2 ∷ 1 ∷ []) $ done !))
+          move ! (3 ∷ 4 ∷ []) $ join ! $ move ! (2 ∷ 0 ∷ []) $ join ! $ move ! (4 ∷ 5 ∷ 3 ∷ []) $ fjoin3 ! $
+          move ! (0 ∷ 3 ∷ 2 ∷ 1 ∷ []) $ done !))
 
       pub shares-back : (ns : Share × Names ms) → ent 𝓤 (sep 𝓤 ⟦ tokens ms (ns .1) ⟧ (mean 𝓤 H A (Keptˢ ns))) (H .⇛ (A .lft κ q))
       shares-back ns =
           qed W (‵ (tokens ms (ns .1)) ∷ Keptˢ ns ∷ []) ∵ updating ! $ move ! (1 ∷ []) $ split ! $ move ! (1 ∷ []) $ split ! $
           -- [the way back; the open borrow; the lender's parts; the tokens]
-          move ! (3 ∷ 2 ∷ []) $ use2 W (later (‵ (partsAt (ns .0) ms zero (vals (x .now)) bˢ oˢ))) (unshare (ns .0) ms (ns .1) zero (vals (x .now)) bˢ
-          oˢ) $ await ! tt $
-          use2 W (‵ (partAt R (ns .0) (x .now) bˢ oˢ)) (apply∗ 𝓤 ⟦ partsAt (ns .0) ms zero (vals (x .now)) bˢ oˢ ⟧ ⟦ partAt R (ns .0) (x .now) bˢ oˢ
-          ⟧) $ move ! (1 ∷ 0 ∷ []) $ obor-close ! tt $ drop ! $ at-once ! $ done !
+          move ! (3 ∷ 2 ∷ []) $ use2 W (later (‵ (partsAt (ns .0) ms zero (vals (x .now)) bˢ oˢ)))
+          (unshare (ns .0) ms (ns .1) zero (vals (x .now)) bˢ oˢ) $ await ! tt $
+          use2 W (‵ (partAt R (ns .0) (x .now) bˢ oˢ)) (apply∗ 𝓤 ⟦ partsAt (ns .0) ms zero (vals (x .now)) bˢ oˢ ⟧ ⟦ partAt R
+          (ns .0) (x .now) bˢ oˢ ⟧) $ move ! (1 ∷ 0 ∷ []) $ obor-close ! tt $ drop ! $ at-once ! $ done !

@@ -1,8 +1,10 @@
 -- Both records, as `Parts.antt` lends them. Assumes nothing.
-use Prim.Native.Nat.{ℕ}
+use Prim.Native.Nat.{ℕ, _+_}
 use mathlib.Core.List.{List, map-id}
+use base.Fml.{GName}
 use denote.Laws.{Is, shows}
 use denote.Memory.{part-halves}
+use denote.RattleType.{RattleType}
 use denote.Ref.{RefT}
 use denote.Struct.Laws as LL
 use Rattle.c_api.specs.declared.SharedRecord.{SharedRecord}
@@ -12,7 +14,12 @@ use Rattle.c_api.proofs.SharedRecord.Laws as S′
 use Rattle.c_api.proofs.PointRecord as P
 use Rattle.c_api.proofs.PointRecord.Laws as P′
 use Rattle.c_api.proofs.Parts.{Lendable, Names, members}
-use Rattle.c_api.proofs.Params.{part}
+
+abbrev pub SharedRow : RattleType
+SharedRow = S.the-row
+
+abbrev pub PointRow : RattleType
+PointRow = P.the-row
 
 abbrev pub Shared : Lendable
 Shared = record {
@@ -41,6 +48,10 @@ Point = record {
   cuts = λ 𝓤 H A W. part-halves 𝓤 H A W P.the-row (Is P.the-row) (shows 𝓤 H A P.the-row) (LL.vals P.the-type P′.the-laws) (LL.tells P.the-type
       P′.the-laws) (LL.copy P.the-type P′.the-copy 𝓤 H A W);
 }
+
+-- the reference to a field, d bytes behind p
+abbrev part : ℕ × ℕ → ℕ → GName → List ℕ → RefT (List ℕ)
+part p d γ l = record { ptr = (p .0, p .1 + d); name = γ; now = l }
 
 -- the references to their fields, behind a reference to the record
 abbrev pub numbersRef : RefT SharedRecord → Names (Shared .ms) → RefT (List ℕ)

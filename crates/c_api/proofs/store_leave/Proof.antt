@@ -1,29 +1,22 @@
 -- `c_api::store_leave` meets its contract: a walk of its MIR (`Walk.antt`). It lends the records in parts, calls `leave` on them, and they come back. Assumes nothing.
-use Rattle.c_api.proofs.Walk.{_≡_, refl, ℕ, List, [], _∷_, length, URA, fullShare, w32, SProp, ent, id⊢, Lfts, Shares, Memory, Routine, Heap}
-use Rattle.c_api.proofs.Walk.{Calls, Loops, WpFn, Atoms, Fun, givenOf, tables, Given, ‵, _$_, _∵_, !, qed, move, enter, FmC, u32, u64, RefT}
-use Rattle.c_api.proofs.Walk.{Room, slice-vals, ptr-vals, valss, typesAt, uint-lawful, onEntry, Args, tripleOf, Contract, Triple}
-use Rattle.c_api.proofs.Locals.{starts, lends-field, loads, goes-home}
-use Rattle.c_api.proofs.Ends.{Kinds, slice-in, record-in, record-out, valued, passed, Done, ends-well, proved-by}
-use Rattle.c_api.proofs.Parts.{stars}
-use Rattle.c_api.proofs.Params.{served, Param, Xs, Zs, alive, owns, shr-slice, mut-record, shr-record}
-use Rattle.c_api.proofs.Records.{Shared, Point, numbersRef, takenRef, headRef, tableRef, sharedAt}
+use Rattle.c_api.proofs.Walk.{_≡_, refl, ℕ, List, [], _∷_, length, URA, fullShare, w32, SProp, id⊢, Lfts, Shares, Memory, Routine, Heap}
+use Rattle.c_api.proofs.Walk.{Calls, Loops, Atoms, Fun, givenOf, tables, Given, ‵, _$_, _∵_, !, qed, move, enter, FmC, u32, u64, RefT, Room}
+use Rattle.c_api.proofs.Walk.{slice-vals, ptr-vals, valss, typesAt, uint-lawful, Args, Vals, tripleOf, Contract, Triple, starts, slice-fits}
+use Rattle.c_api.proofs.Walk.{pointer-fits, lends-field, loads, goes-home, Kinds, slice-in, record-in, record-out, passed, Walked, ends-well}
+use Rattle.c_api.proofs.Walk.{proved-by, stars, served, Param, Xs, Zs, alive, owns, shr-slice, mut-record, shr-record, Shared, SharedRow}
+use Rattle.c_api.proofs.Walk.{SharedRecord, sharedParts, numbersRef, takenRef, sharedAt, Point, PointRow, PointRecord, textlessParts, headRef}
+use Rattle.c_api.proofs.Walk.{tableRef}
 use Rattle.c_lent.specs.Calls.{sharedLeft, leaveFor}
-use Rattle.c_api.specs.Records.{sharedParts, textlessParts}
-use Rattle.c_api.specs.declared.SharedRecord.{SharedRecord}
-use Rattle.c_api.proofs.SharedRecord as S
-use Rattle.c_api.specs.declared.PointRecord.{PointRecord}
-use Rattle.c_api.proofs.PointRecord as P
 use Rattle.c_lent.proofs.leave as lent
-use Rattle.c_lent.proofs.leave.Symbol as lent-def
-use Rattle.c_lent.proofs.leave.Symbol.{name as #lent}
-use Rattle.c_lent.proofs.leave.Met as lent-thm
-use Rattle.c_api.proofs.store_leave.Key.{name as #own}
+use Rattle.c_lent.proofs.leave.Symbol.{routine as lent-routine, name as #lent}
+use Rattle.c_lent.proofs.leave.Met.{met as lent-met}
 use Rattle.c_api.proofs.store_leave as f
-use Rattle.c_api.proofs.store_leave.Statement as stated
+use Rattle.c_api.proofs.store_leave.Key.{name as #own}
+use Rattle.c_api.proofs.store_leave.Statement.{statement}
 use Rattle.c_api.proofs.store_leave.Code as code
 
 abbrev kinds : Kinds (f.ended .signature .params) (f.ended .kept)
-kinds = (slice-in 0 tt u64, (record-out 1 tt S.the-row, (record-in 2 tt P.the-row, tt)))
+kinds = (slice-in 0 tt u64, (record-out 1 tt SharedRow, (record-in 2 tt PointRow, tt)))
 
 -- the contract that the proof cites
 abbrev Lent : {M : Type 1} (𝓤 : URA M) (H : Heap 𝓤) (A : Atoms 𝓤) (mem : Memory → SProp 𝓤) (run : Routine → Fun 𝓤) → Contract 𝓤
@@ -50,17 +43,12 @@ module _ {M : Type 1} (𝓤 : URA M) (H : Heap 𝓤) (A : Atoms 𝓤) (W : Given
   handed-on xs = let ns = xs .1 .0 in let np = xs .1 .1 .0 .1 in
       (x, (numbersRef s ns, (takenRef s ns, (headRef p np, (tableRef p np, tt)))))
 
+  abbrev handed-vals : (xs : Xs 𝓤 H A params) → Vals lent.signature (lfts xs)
+  handed-vals xs = valss (typesAt (lent.signature .params) (lfts xs))
+      (slice-vals, (ptr-vals, (ptr-vals, (ptr-vals, (ptr-vals, tt))))) (handed-on xs)
+
   abbrev to-lent : Xs 𝓤 H A params → Lent 𝓤 H A mem run .Ghost
-  to-lent xs = (
-    (
-      lfts xs,
-      (qs .0, (fullShare, (fullShare, (fullShare, (fullShare, tt))))),
-      tt,
-      handed-on xs,
-      valss (typesAt (lent.signature .params) (lfts xs)) (slice-vals, (ptr-vals, (ptr-vals, (ptr-vals, (ptr-vals, tt))))) (handed-on xs),
-    ),
-    tt,
-  )
+  to-lent xs = ((lfts xs, (qs .0, (fullShare, (fullShare, (fullShare, (fullShare, tt))))), tt, handed-on xs, handed-vals xs), tt)
 
   -- the callee's last values, as this function's; and what is said of them
   abbrev Ends : Type 0
@@ -73,24 +61,24 @@ module _ {M : Type 1} (𝓤 : URA M) (H : Heap 𝓤) (A : Atoms 𝓤) (W : Given
   Says r zs = sharedLeft r (sharedParts (zs .1 .0)) ≡ leaveFor (x .now) (sharedParts (s .now)) (textlessParts (p .now))
 
   module _ (C : Calls 𝓤 H) (Λ : Loops 𝓤 H) (fm : FmC 𝓤 H (W .laws) C) (known : Triple 𝓤 (C #lent) (Lent 𝓤 H A mem run)) where
-    walk : ent 𝓤 (onEntry 𝓤 H A f.signature κs qs a (valued f.ended kinds κs a)) (WpFn 𝓤 H C Λ code.function (passed f.ended kinds κs a)
-        (Done f.ended kinds 𝓤 H A (f.clauses 𝓤 H A mem run) ((κs, qs, tt, a, valued f.ended kinds κs a), tt)))
+    walk : Walked f.ended kinds 𝓤 H A (f.clauses 𝓤 H A mem run) κs qs tt a tt C Λ code.function
     walk =
-        qed W (‵ (stars (alive 𝓤 H A params)) ∷ ‵ (stars (owns 𝓤 H A params)) ∷ []) ∵ enter ! C Λ code.function (passed f.ended kinds κs a) _ $
-        starts ! ((tt, (tt, (record { fits = x-room .0 }, tt))), ((tt, tt), ((tt, tt), tt))) (λ b bs.
-        lends-field ! refl refl refl (tt, tt) $ lends-field ! refl refl refl (tt, tt) $ lends-field ! refl refl refl (tt, tt) $
-        lends-field ! refl refl refl (tt, tt) $
+        qed W (‵ (stars (alive 𝓤 H A params)) ∷ ‵ (stars (owns 𝓤 H A params)) ∷ []) ∵
+        enter ! C Λ code.function (passed f.ended kinds κs a) _ $
+        starts ! (slice-fits (x-room .0), (pointer-fits, (pointer-fits, tt))) (λ _ _.
+        lends-field ! refl refl refl pointer-fits $ lends-field ! refl refl refl pointer-fits $ lends-field ! refl refl refl pointer-fits $
+        lends-field ! refl refl refl pointer-fits $
         move ! (16 ∷ 17 ∷ []) $ served ! fm (Lent 𝓤 H A mem run) known params to-lent (λ xs. id⊢ 𝓤 _) (λ r w. u32 .own r (w ∷ []))
         ends Says (λ xs w. id⊢ 𝓤 _) (λ xs. loads ! 2 (1 ∷ 4 ∷ 5 ∷ 6 ∷ 7 ∷ []) refl tt refl) (λ w r zs ls e.
         goes-home ! u32 r w (λ is. uint-lawful 𝓤 H A W w32 .typed r _ is .0) (_ ∷ _ ∷ _ ∷ _ ∷ _ ∷ _ ∷ _ ∷ []) refl
-        (ends-well f.ended kinds 𝓤 H A (f.clauses 𝓤 H A mem run) W ((κs, qs, tt, a, valued f.ended kinds κs a), tt) w r zs ls (Says r zs) e (id⊢ 𝓤 _))))
+        (ends-well f.ended kinds 𝓤 H A (f.clauses 𝓤 H A mem run) κs qs tt a tt W w r zs ls (Says r zs) e (id⊢ 𝓤 _))))
 
-pub store-leave-spec : {M : Type 1} → stated.statement M
+pub store-leave-spec : {M : Type 1} → statement M
 unfolding code.routine
 store-leave-spec 𝓤 H 𝓜 𝓖 𝓡 =
     let A = 𝓖 .A in
     let 𝓣 = tables 𝓤 H 𝓜 𝓡 code.env in
     proved-by f.ended kinds 𝓤 H 𝓜 𝓖 𝓡 (f.clauses 𝓤 H A (𝓜 .mem) (𝓡 .run)) code.env code.function #own #lent (code.unfolded 𝓤 H 𝓜 𝓡)
-    (Lent 𝓤 H A (𝓜 .mem) (𝓡 .run)) lent-def.routine code.calls-c-lent·leave (lent-thm.met 𝓤 H 𝓜 𝓖 𝓡)
+    (Lent 𝓤 H A (𝓜 .mem) (𝓡 .run)) lent-routine code.calls-c-lent·leave (lent-met 𝓤 H 𝓜 𝓖 𝓡)
     (λ fm known κs qs _ a _ are. walk 𝓤 H A (givenOf 𝓤 H 𝓜 𝓖) (𝓜 .mem) (𝓡 .run) κs qs (a .0) (a .1 .0) (a .1 .1 .0)
     (are .0 .0 .1) (𝓣 .C) (𝓣 .Λ) fm known)

@@ -1,32 +1,25 @@
 -- `c_api::store_read` meets its contract: a walk of its MIR (`Walk.antt`). It lends the records in parts, calls `read` on them, and they come back. Assumes nothing.
-use Rattle.c_api.proofs.Walk.{_≡_, refl, ℕ, _<_, _^_, List, [], _∷_, length, URA, fullShare, w64, SProp, ent, id⊢, Lfts, Shares, Memory}
-use Rattle.c_api.proofs.Walk.{Routine, Heap, Calls, Loops, WpFn, Atoms, Fun, givenOf, tables, Given, ‵, _$_, _∵_, !, qed, move, enter, FmC, u8}
-use Rattle.c_api.proofs.Walk.{u64, RefT, Room, slice-vals, ptr-vals, uint-vals, valss, typesAt, lawful, onEntry, Args, tripleOf, Contract, Triple}
-use Rattle.c_api.proofs.Locals.{starts, lends-field, lends-start, lends-slice, loads, goes-home}
-use Rattle.c_api.proofs.Ends.{Kinds, slice-in, slice-out, record-in, number-in, valued, passed, Done, ends-well, proved-by}
-use Rattle.c_api.proofs.Parts.{stars}
-use Rattle.c_api.proofs.Params.{served, Param, Xs, Zs, alive, owns, shr-slice, mut-slice, number, shr-record}
-use Rattle.c_api.proofs.Records.{Shared, Point, numbersRef, takenRef, headRef, tableRef}
+use Rattle.c_api.proofs.Walk.{_≡_, refl, ℕ, _<_, _^_, List, [], _∷_, length, URA, fullShare, w64, SProp, id⊢, Lfts, Shares, Memory, Routine}
+use Rattle.c_api.proofs.Walk.{Heap, Calls, Loops, Atoms, Fun, givenOf, tables, Given, ‵, _$_, _∵_, !, qed, move, enter, FmC, u8, u64, RefT, Room}
+use Rattle.c_api.proofs.Walk.{slice-vals, ptr-vals, uint-vals, valss, typesAt, lawful, Args, Vals, tripleOf, Contract, Triple, starts, slice-fits}
+use Rattle.c_api.proofs.Walk.{pointer-fits, number-fits, lends-field, lends-start, lends-slice, loads, goes-home, Kinds, slice-in, slice-out}
+use Rattle.c_api.proofs.Walk.{record-in, number-in, passed, Walked, ends-well, proved-by, stars, served, Param, Xs, Zs, alive, owns, shr-slice}
+use Rattle.c_api.proofs.Walk.{mut-slice, number, shr-record, Shared, SharedRow, SharedRecord, sharedParts, numbersRef, takenRef, Point, PointRow}
+use Rattle.c_api.proofs.Walk.{PointRecord, textlessParts, headRef, tableRef}
 use Rattle.c_lent.specs.Calls.{readLeft, readFor}
-use Rattle.c_api.specs.Records.{sharedParts, textlessParts}
 use Rattle.c_lent.specs.declared.Count.{Count}
 use Rattle.c_lent.proofs.Count as N
 use Rattle.c_lent.proofs.Count.Laws as N′
-use Rattle.c_api.specs.declared.SharedRecord.{SharedRecord}
-use Rattle.c_api.proofs.SharedRecord as S
-use Rattle.c_api.specs.declared.PointRecord.{PointRecord}
-use Rattle.c_api.proofs.PointRecord as P
 use Rattle.c_lent.proofs.read as lent
-use Rattle.c_lent.proofs.read.Symbol as lent-def
-use Rattle.c_lent.proofs.read.Symbol.{name as #lent}
-use Rattle.c_lent.proofs.read.Met as lent-thm
-use Rattle.c_api.proofs.store_read.Key.{name as #own}
+use Rattle.c_lent.proofs.read.Symbol.{routine as lent-routine, name as #lent}
+use Rattle.c_lent.proofs.read.Met.{met as lent-met}
 use Rattle.c_api.proofs.store_read as f
-use Rattle.c_api.proofs.store_read.Statement as stated
+use Rattle.c_api.proofs.store_read.Key.{name as #own}
+use Rattle.c_api.proofs.store_read.Statement.{statement}
 use Rattle.c_api.proofs.store_read.Code as code
 
 abbrev kinds : Kinds (f.ended .signature .params) (f.ended .kept)
-kinds = (slice-in 0 tt u64, (record-in 1 tt S.the-row, (record-in 2 tt P.the-row, (number-in w64, (slice-out 3 tt u8, tt)))))
+kinds = (slice-in 0 tt u64, (record-in 1 tt SharedRow, (record-in 2 tt PointRow, (number-in w64, (slice-out 3 tt u8, tt)))))
 
 -- the contract that the proof cites
 abbrev Lent : {M : Type 1} (𝓤 : URA M) (H : Heap 𝓤) (A : Atoms 𝓤) (mem : Memory → SProp 𝓤) (run : Routine → Fun 𝓤) → Contract 𝓤
@@ -55,17 +48,12 @@ module _ {M : Type 1} (𝓤 : URA M) (H : Heap 𝓤) (A : Atoms 𝓤) (W : Given
   handed-on xs = let ns = xs .1 .0 .1 in let np = xs .1 .1 .0 .1 in
       (x, (numbersRef s ns, (takenRef s ns, (headRef p np, (tableRef p np, (n, (y, tt)))))))
 
+  abbrev handed-vals : (xs : Xs 𝓤 H A params) → Vals lent.signature (lfts xs)
+  handed-vals xs = valss (typesAt (lent.signature .params) (lfts xs))
+      (slice-vals, (ptr-vals, (ptr-vals, (ptr-vals, (ptr-vals, (uint-vals w64, (slice-vals, tt))))))) (handed-on xs)
+
   abbrev to-lent : Xs 𝓤 H A params → Lent 𝓤 H A mem run .Ghost
-  to-lent xs = (
-    (
-      lfts xs,
-      (qs .0, (fullShare, (fullShare, (fullShare, (fullShare, (qs .1 .1 .1 .0, tt)))))),
-      tt,
-      handed-on xs,
-      valss (typesAt (lent.signature .params) (lfts xs)) (slice-vals, (ptr-vals, (ptr-vals, (ptr-vals, (ptr-vals, (uint-vals w64, (slice-vals, tt))))))) (handed-on xs),
-    ),
-    tt,
-  )
+  to-lent xs = ((lfts xs, (qs .0, (fullShare, (fullShare, (fullShare, (fullShare, (qs .1 .1 .1 .0, tt)))))), tt, handed-on xs, handed-vals xs), tt)
 
   -- the callee's last values, as this function's; and what is said of them
   abbrev Ends : Type 0
@@ -78,25 +66,25 @@ module _ {M : Type 1} (𝓤 : URA M) (H : Heap 𝓤) (A : Atoms 𝓤) (W : Given
   Says r zs = readLeft r (zs .1 .1 .1 .1 .0) ≡ readFor (x .now) (sharedParts (s .now)) (textlessParts (p .now)) n (y .now)
 
   module _ (C : Calls 𝓤 H) (Λ : Loops 𝓤 H) (fm : FmC 𝓤 H (W .laws) C) (known : Triple 𝓤 (C #lent) (Lent 𝓤 H A mem run)) where
-    walk : ent 𝓤 (onEntry 𝓤 H A f.signature κs qs a (valued f.ended kinds κs a)) (WpFn 𝓤 H C Λ code.function (passed f.ended kinds κs a)
-        (Done f.ended kinds 𝓤 H A (f.clauses 𝓤 H A mem run) ((κs, qs, tt, a, valued f.ended kinds κs a), tt)))
+    walk : Walked f.ended kinds 𝓤 H A (f.clauses 𝓤 H A mem run) κs qs tt a tt C Λ code.function
     walk =
-        qed W (‵ (stars (alive 𝓤 H A params)) ∷ ‵ (stars (owns 𝓤 H A params)) ∷ []) ∵ enter ! C Λ code.function (passed f.ended kinds κs a) _ $
-        starts ! ((tt, (tt, (record { fits = x-room .0 }, tt))), ((tt, tt), ((tt, tt), ((tt, record { fits = n-fits }), ((tt, (tt, (record { fits = y-room .0 }, tt))), tt))))) (λ b bs.
-        lends-field ! refl refl refl (tt, tt) $ lends-field ! refl refl refl (tt, tt) $ lends-field ! refl refl refl (tt, tt) $
-        lends-field ! refl refl refl (tt, tt) $ lends-start ! refl refl refl refl (tt, tt) $
-        lends-slice ! refl refl refl refl refl (tt, (tt, (record { fits = y-room .0 }, tt))) $
+        qed W (‵ (stars (alive 𝓤 H A params)) ∷ ‵ (stars (owns 𝓤 H A params)) ∷ []) ∵
+        enter ! C Λ code.function (passed f.ended kinds κs a) _ $
+        starts ! (slice-fits (x-room .0), (pointer-fits, (pointer-fits, (number-fits n-fits, (slice-fits (y-room .0), tt))))) (λ _ _.
+        lends-field ! refl refl refl pointer-fits $ lends-field ! refl refl refl pointer-fits $ lends-field ! refl refl refl pointer-fits $
+        lends-field ! refl refl refl pointer-fits $ lends-start ! refl refl refl refl pointer-fits $
+        lends-slice ! refl refl refl refl refl (slice-fits (y-room .0)) $
         move ! (24 ∷ 25 ∷ []) $ served ! fm (Lent 𝓤 H A mem run) known params to-lent (λ xs. id⊢ 𝓤 _) (λ r w. N.the-row .own r (w ∷ []))
         ends Says (λ xs w. id⊢ 𝓤 _) (λ xs. loads ! 2 (1 ∷ 6 ∷ 7 ∷ 8 ∷ 9 ∷ 4 ∷ 11 ∷ []) refl tt refl) (λ w r zs ls e.
         goes-home ! N.the-row r w (λ is. lawful N.the-type N′.the-laws 𝓤 H A W .typed r _ is .0) (_ ∷ _ ∷ _ ∷ _ ∷ _ ∷ _ ∷ _ ∷ _ ∷ _ ∷ _ ∷ _ ∷ []) refl
-        (ends-well f.ended kinds 𝓤 H A (f.clauses 𝓤 H A mem run) W ((κs, qs, tt, a, valued f.ended kinds κs a), tt) w r zs ls (Says r zs) e (id⊢ 𝓤 _))))
+        (ends-well f.ended kinds 𝓤 H A (f.clauses 𝓤 H A mem run) κs qs tt a tt W w r zs ls (Says r zs) e (id⊢ 𝓤 _))))
 
-pub store-read-spec : {M : Type 1} → stated.statement M
+pub store-read-spec : {M : Type 1} → statement M
 unfolding code.routine
 store-read-spec 𝓤 H 𝓜 𝓖 𝓡 =
     let A = 𝓖 .A in
     let 𝓣 = tables 𝓤 H 𝓜 𝓡 code.env in
     proved-by f.ended kinds 𝓤 H 𝓜 𝓖 𝓡 (f.clauses 𝓤 H A (𝓜 .mem) (𝓡 .run)) code.env code.function #own #lent (code.unfolded 𝓤 H 𝓜 𝓡)
-    (Lent 𝓤 H A (𝓜 .mem) (𝓡 .run)) lent-def.routine code.calls-c-lent·read (lent-thm.met 𝓤 H 𝓜 𝓖 𝓡)
+    (Lent 𝓤 H A (𝓜 .mem) (𝓡 .run)) lent-routine code.calls-c-lent·read (lent-met 𝓤 H 𝓜 𝓖 𝓡)
     (λ fm known κs qs _ a _ are. walk 𝓤 H A (givenOf 𝓤 H 𝓜 𝓖) (𝓜 .mem) (𝓡 .run) κs qs (a .0) (a .1 .0) (a .1 .1 .0) (a .1 .1 .1 .0) (a .1 .1 .1 .1 .0)
     (are .0 .0 .1) (are .1 .1 .1 .0 .1) (are .1 .1 .1 .1 .0 .0 .1) (𝓣 .C) (𝓣 .Λ) fm known)
