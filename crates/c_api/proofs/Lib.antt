@@ -1,4 +1,6 @@
--- Parts: a record behind a reference is lent in parts, and comes back. Params: a call's parameters, so. Records: both records. Walk: what each call's proof cites, by one name.
+-- Parts: a record behind a reference is lent in parts, and comes back. Params: a call's parameters, the records among them so; the call.
+-- Handed: each kind of parameter. Records: both records. Locals: a function's locals, and its statements. Ends: from a walk to the theorem.
+-- Walk: how a walk goes, how to write another, and all that one cites.
 pub mod Parts
 pub mod Params
 pub mod Handed

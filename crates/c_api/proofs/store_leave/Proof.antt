@@ -1,4 +1,4 @@
--- `c_api::store_leave` meets its contract: a walk of its MIR (`Walk.antt`). It lends the records in parts, calls `leave` on them, and they come back. Assumes nothing.
+-- `c_api::store_leave` meets its contract: a walk of its MIR, as `Walk.antt` says. The records are lent in parts to `leave`, and come back. Assumes nothing.
 use Rattle.c_api.proofs.Walk.{_≡_, refl, ℕ, List, [], _∷_, length, URA, fullShare, w32, SProp, id⊢, Lfts, Shares, Memory, Routine, Heap}
 use Rattle.c_api.proofs.Walk.{Calls, Loops, Atoms, Fun, givenOf, tables, Given, ‵, _$_, _∵_, !, qed, move, enter, FmC, u32, u64, RefT, Room}
 use Rattle.c_api.proofs.Walk.{slice-vals, ptr-vals, valss, typesAt, uint-lawful, Args, Vals, tripleOf, Contract, Triple, starts, slice-fits}
@@ -70,7 +70,8 @@ module _ {M : Type 1} (𝓤 : URA M) (H : Heap 𝓤) (A : Atoms 𝓤) (W : Given
         lends-field ! refl refl refl pointer-fits $
         move ! (16 ∷ 17 ∷ []) $ served ! fm (Lent 𝓤 H A mem run) known params to-lent (λ xs. id⊢ 𝓤 _) (λ r w. u32 .own r (w ∷ []))
         ends Says (λ xs w. id⊢ 𝓤 _) (λ xs. loads ! 2 (1 ∷ 4 ∷ 5 ∷ 6 ∷ 7 ∷ []) refl tt refl) (λ w r zs ls e.
-        goes-home ! u32 r w (λ is. uint-lawful 𝓤 H A W w32 .typed r _ is .0) (_ ∷ _ ∷ _ ∷ _ ∷ _ ∷ _ ∷ _ ∷ []) refl
+        goes-home ! u32 r w (λ is. uint-lawful 𝓤 H A W w32 .typed r _ is .0)
+        (_ ∷ _ ∷ _ ∷ _ ∷ _ ∷ _ ∷ _ ∷ []) refl
         (ends-well f.ended kinds 𝓤 H A (f.clauses 𝓤 H A mem run) κs qs tt a tt W w r zs ls (Says r zs) e (id⊢ 𝓤 _))))
 
 pub store-leave-spec : {M : Type 1} → statement M
@@ -78,7 +79,8 @@ unfolding code.routine
 store-leave-spec 𝓤 H 𝓜 𝓖 𝓡 =
     let A = 𝓖 .A in
     let 𝓣 = tables 𝓤 H 𝓜 𝓡 code.env in
-    proved-by f.ended kinds 𝓤 H 𝓜 𝓖 𝓡 (f.clauses 𝓤 H A (𝓜 .mem) (𝓡 .run)) code.env code.function #own #lent (code.unfolded 𝓤 H 𝓜 𝓡)
-    (Lent 𝓤 H A (𝓜 .mem) (𝓡 .run)) lent-routine code.calls-c-lent·leave (lent-met 𝓤 H 𝓜 𝓖 𝓡)
-    (λ fm known κs qs _ a _ are. walk 𝓤 H A (givenOf 𝓤 H 𝓜 𝓖) (𝓜 .mem) (𝓡 .run) κs qs (a .0) (a .1 .0) (a .1 .1 .0)
+    proved-by f.ended kinds 𝓤 H 𝓜 𝓖 𝓡 (f.clauses 𝓤 H A (𝓜 .mem) (𝓡 .run)) code.env code.function
+    #own #lent (code.unfolded 𝓤 H 𝓜 𝓡) (Lent 𝓤 H A (𝓜 .mem) (𝓡 .run)) lent-routine code.calls-c-lent·leave (lent-met 𝓤 H 𝓜 𝓖 𝓡)
+    (λ fm known κs qs _ a _ are. walk 𝓤 H A (givenOf 𝓤 H 𝓜 𝓖) (𝓜 .mem) (𝓡 .run) κs qs
+    (a .0) (a .1 .0) (a .1 .1 .0)
     (are .0 .0 .1) (𝓣 .C) (𝓣 .Λ) fm known)

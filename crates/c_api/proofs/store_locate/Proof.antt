@@ -1,4 +1,4 @@
--- `c_api::store_locate` meets its contract: a walk of its MIR (`Walk.antt`). It lends the records in parts, calls `locate` on them, and they come back. Assumes nothing.
+-- `c_api::store_locate` meets its contract: a walk of its MIR, as `Walk.antt` says. The records are lent in parts to `locate`, and come back. Assumes nothing.
 use Rattle.c_api.proofs.Walk.{_≡_, refl, ℕ, _<_, _^_, List, [], _∷_, length, URA, fullShare, w64, SProp, id⊢, Lfts, Shares, Memory, Routine}
 use Rattle.c_api.proofs.Walk.{Heap, Calls, Loops, Atoms, Fun, givenOf, tables, Given, ‵, _$_, _∵_, !, qed, move, enter, FmC, u64, RefT, Room}
 use Rattle.c_api.proofs.Walk.{slice-vals, ptr-vals, uint-vals, valss, typesAt, lawful, Args, Vals, tripleOf, Contract, Triple, starts, slice-fits}
@@ -73,7 +73,8 @@ module _ {M : Type 1} (𝓤 : URA M) (H : Heap 𝓤) (A : Atoms 𝓤) (W : Given
         lends-field ! refl refl refl pointer-fits $
         move ! (18 ∷ 19 ∷ []) $ served ! fm (Lent 𝓤 H A mem run) known params to-lent (λ xs. id⊢ 𝓤 _) (λ r w. N.the-row .own r (w ∷ []))
         ends Says (λ xs w. id⊢ 𝓤 _) (λ xs. loads ! 2 (1 ∷ 5 ∷ 6 ∷ 7 ∷ 8 ∷ 4 ∷ []) refl tt refl) (λ w r zs ls e.
-        goes-home ! N.the-row r w (λ is. lawful N.the-type N′.the-laws 𝓤 H A W .typed r _ is .0) (_ ∷ _ ∷ _ ∷ _ ∷ _ ∷ _ ∷ _ ∷ _ ∷ []) refl
+        goes-home ! N.the-row r w (λ is. lawful N.the-type N′.the-laws 𝓤 H A W .typed r _ is .0)
+        (_ ∷ _ ∷ _ ∷ _ ∷ _ ∷ _ ∷ _ ∷ _ ∷ []) refl
         (ends-well f.ended kinds 𝓤 H A (f.clauses 𝓤 H A mem run) κs qs tt a tt W w r zs ls (Says r zs) e (id⊢ 𝓤 _))))
 
 pub store-locate-spec : {M : Type 1} → statement M
@@ -81,7 +82,8 @@ unfolding code.routine
 store-locate-spec 𝓤 H 𝓜 𝓖 𝓡 =
     let A = 𝓖 .A in
     let 𝓣 = tables 𝓤 H 𝓜 𝓡 code.env in
-    proved-by f.ended kinds 𝓤 H 𝓜 𝓖 𝓡 (f.clauses 𝓤 H A (𝓜 .mem) (𝓡 .run)) code.env code.function #own #lent (code.unfolded 𝓤 H 𝓜 𝓡)
-    (Lent 𝓤 H A (𝓜 .mem) (𝓡 .run)) lent-routine code.calls-c-lent·locate (lent-met 𝓤 H 𝓜 𝓖 𝓡)
-    (λ fm known κs qs _ a _ are. walk 𝓤 H A (givenOf 𝓤 H 𝓜 𝓖) (𝓜 .mem) (𝓡 .run) κs qs (a .0) (a .1 .0) (a .1 .1 .0) (a .1 .1 .1 .0)
+    proved-by f.ended kinds 𝓤 H 𝓜 𝓖 𝓡 (f.clauses 𝓤 H A (𝓜 .mem) (𝓡 .run)) code.env code.function
+    #own #lent (code.unfolded 𝓤 H 𝓜 𝓡) (Lent 𝓤 H A (𝓜 .mem) (𝓡 .run)) lent-routine code.calls-c-lent·locate (lent-met 𝓤 H 𝓜 𝓖 𝓡)
+    (λ fm known κs qs _ a _ are. walk 𝓤 H A (givenOf 𝓤 H 𝓜 𝓖) (𝓜 .mem) (𝓡 .run) κs qs
+    (a .0) (a .1 .0) (a .1 .1 .0) (a .1 .1 .1 .0)
     (are .0 .0 .1) (are .1 .1 .1 .0 .1) (𝓣 .C) (𝓣 .Λ) fm known)
