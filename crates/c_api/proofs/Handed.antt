@@ -19,8 +19,8 @@ use denote.Plain.{UInt, uint-vals, uint-makes}
 use denote.Ref.{RefT, MutRef, ShrRef, at-last, ptr-vals}
 use denote.Slice.{MutSlice, ShrSlice, finally, slice-vals, shr-slice-copy}
 use denote.Steps.{owned, nothing}
-use Rattle.c_api.proofs.Parts.{stars, Names, Lendable, rowOfRecord, allRefs, allShrs, allTokens, allEnds, tokens, refsOf, shrsOf, Kept, Keptˢ}
-use Rattle.c_api.proofs.Parts.{lends-parts, parts-back, shares-parts, shares-back}
+use Rattle.c_api.proofs.Parts.{stars, Names, Lendable, rowOfRecord, allRefs, allTokens, allEnds, tokens, refsOf, Kept, lends-parts, parts-back}
+use Rattle.c_api.proofs.Shares.{allShrs, shrsOf, Keptˢ, shares-parts, shares-back}
 use Rattle.c_api.proofs.Params.{Param}
 
 abbrev front : ℕ → List Fml → List Fml
