@@ -1,4 +1,12 @@
--- A function's locals, all at once: allocated and the parameters stored at entry, freed at the return; and the statements between, by the MIR's numbers.
+-- A function's locals, all at once: allocated, with the parameters stored, at entry; freed at the return. Between them the statements that lend on.
+-- A step reads the numbers of the locals off the MIR, and finds each local in the context by them: no position is written out.
+--     cells E vs Γ     the context Γ, and upon it for each local its cell and the right to free it, the last local at the head. The first locals hold vs
+--     depth k E i      where that context has local i, if k other entries stand before it
+--     starts, goes-home                          into a function, and out of it
+--     lends-field, lends-start, lends-slice      the three kinds of assignment: a field of a record, a slice's start, a slice
+--     loads                                      a call's operands
+--     slice-fits, pointer-fits, number-fits      what such a step asks of a value
+-- Assumes `Given`.
 use mathlib.Core.Path.{_≡_, refl, ap, subst, sym}
 use Prim.Native.Nat.{ℕ, zero, suc, _+_, _-_, _*_, _^_, _<_}
 use mathlib.Core.Option.{some}
@@ -63,17 +71,23 @@ module _ {M : Type 1} (𝓤 : URA M) (H : Heap 𝓤) (A : Atoms 𝓤) where
   envOf [] bs = []
   envOf (local τ h ∷ ls) bs = (τ, bs .0) ∷ envOf ls (bs .1)
 
-  -- the locals E upon Γ, the last at the head: the first ones hold vs, the others nothing
+  -- a local's cell, which holds the first of vs, or nothing where vs is at its end
+  abbrev pub cell : Ty × ℕ → List Val → Fml
+  cell e [] = froom (e .0) (e .1) zero
+  cell e (v ∷ vs) = fat fullShare (e .0) (e .1) zero v
+
+  abbrev pub others : List Val → List Val
+  others [] = []
+  others (v ∷ vs) = vs
+
   abbrev pub cells : Env 𝓤 H → List Val → List (Item 𝓤) → List (Item 𝓤)
   cells [] vs Γ = Γ
-  cells (e ∷ E) [] Γ = cells E [] (‵ (froom (e .0) (e .1) zero) ∷ ‵ (fdies (e .0) (e .1)) ∷ Γ)
-  cells (e ∷ E) (v ∷ vs) Γ = cells E vs (‵ (fat fullShare (e .0) (e .1) zero v) ∷ ‵ (fdies (e .0) (e .1)) ∷ Γ)
+  cells (e ∷ E) vs Γ = cells E (others vs) (‵ (cell e vs) ∷ ‵ (fdies (e .0) (e .1)) ∷ Γ)
 
   -- the same as one formula
   abbrev pile : Env 𝓤 H → List Val → Fml
   pile [] vs = ftrue
-  pile (e ∷ E) [] = fsep (froom (e .0) (e .1) zero) (fsep (fdies (e .0) (e .1)) (pile E []))
-  pile (e ∷ E) (v ∷ vs) = fsep (fat fullShare (e .0) (e .1) zero v) (fsep (fdies (e .0) (e .1)) (pile E vs))
+  pile (e ∷ E) vs = fsep (cell e vs) (fsep (fdies (e .0) (e .1)) (pile E (others vs)))
 
   -- where the context has local i, behind k other entries
   abbrev pub depth : ℕ → Env 𝓤 H → ℕ → ℕ
@@ -96,21 +110,15 @@ module _ {M : Type 1} (𝓤 : URA M) (H : Heap 𝓤) (A : Atoms 𝓤) where
   module _ (W : Given 𝓤 H A) where
     heaped : (E : Env 𝓤 H) (vs : List Val) (Γ : List (Item 𝓤)) → ent 𝓤 (⋆ 𝓤 H A (cells E vs Γ)) (⋆ 𝓤 H A (‵ (pile E vs) ∷ Γ))
     heaped [] vs Γ = qed W Γ ∵ nothing ! $ done !
-    heaped (e ∷ E) [] Γ = via 𝓤 _ (heaped E [] (‵ (froom (e .0) (e .1) zero) ∷ ‵ (fdies (e .0) (e .1)) ∷ Γ))
-        (qed W (‵ (pile E []) ∷ ‵ (froom (e .0) (e .1) zero) ∷ ‵ (fdies (e .0) (e .1)) ∷ Γ) ∵ move ! (2 ∷ 0 ∷ []) $ fjoin ! $
-        move ! (1 ∷ 0 ∷ []) $ fjoin ! $ done !)
-    heaped (e ∷ E) (v ∷ vs) Γ = via 𝓤 _ (heaped E vs (‵ (fat fullShare (e .0) (e .1) zero v) ∷ ‵ (fdies (e .0) (e .1)) ∷ Γ))
-        (qed W (‵ (pile E vs) ∷ ‵ (fat fullShare (e .0) (e .1) zero v) ∷ ‵ (fdies (e .0) (e .1)) ∷ Γ) ∵ move ! (2 ∷ 0 ∷ []) $
-        fjoin ! $ move ! (1 ∷ 0 ∷ []) $ fjoin ! $ done !)
+    heaped (e ∷ E) vs Γ = via 𝓤 _ (heaped E (others vs) (‵ (cell e vs) ∷ ‵ (fdies (e .0) (e .1)) ∷ Γ))
+        (qed W (‵ (pile E (others vs)) ∷ ‵ (cell e vs) ∷ ‵ (fdies (e .0) (e .1)) ∷ Γ) ∵
+        move ! (2 ∷ 0 ∷ []) $ fjoin ! $ move ! (1 ∷ 0 ∷ []) $ fjoin ! $ done !)
 
     spread : (E : Env 𝓤 H) (vs : List Val) (Γ : List (Item 𝓤)) → ent 𝓤 (⋆ 𝓤 H A (‵ (pile E vs) ∷ Γ)) (⋆ 𝓤 H A (cells E vs Γ))
     spread [] vs Γ = qed W (‵ ftrue ∷ Γ) ∵ drop ! $ done !
-    spread (e ∷ E) [] Γ = via 𝓤 _
-        (qed W (‵ (pile (e ∷ E) []) ∷ Γ) ∵ fsplit ! $ move ! (1 ∷ []) $ fsplit ! $ move ! (1 ∷ 2 ∷ 0 ∷ []) $ done !)
-        (spread E [] (‵ (froom (e .0) (e .1) zero) ∷ ‵ (fdies (e .0) (e .1)) ∷ Γ))
-    spread (e ∷ E) (v ∷ vs) Γ = via 𝓤 _
-        (qed W (‵ (pile (e ∷ E) (v ∷ vs)) ∷ Γ) ∵ fsplit ! $ move ! (1 ∷ []) $ fsplit ! $ move ! (1 ∷ 2 ∷ 0 ∷ []) $ done !)
-        (spread E vs (‵ (fat fullShare (e .0) (e .1) zero v) ∷ ‵ (fdies (e .0) (e .1)) ∷ Γ))
+    spread (e ∷ E) vs Γ = via 𝓤 _
+        (qed W (‵ (pile (e ∷ E) vs) ∷ Γ) ∵ fsplit ! $ move ! (1 ∷ []) $ fsplit ! $ move ! (1 ∷ 2 ∷ 0 ∷ []) $ done !)
+        (spread E (others vs) (‵ (cell e vs) ∷ ‵ (fdies (e .0) (e .1)) ∷ Γ))
 
 module _ {M : Type 1} {𝓤 : URA M} {H : Heap 𝓤} {A : Atoms 𝓤} {K : Type 0} {W : Given 𝓤 H A} where
   -- the end of the context is replaced

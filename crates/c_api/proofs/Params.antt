@@ -11,7 +11,8 @@
 --         lends, back      own ∗ tok gives toks ∗ refs ∗ kept; toks ∗ ends ∗ kept gives left ∗ tok, and fact
 --     Xs, Zs, facts, owns, alive, lefts, toksOf, handed, endsOf, keptOf     each of these for a list of parameters
 --     lends-all, back-all     the two laws for a list
---     served           the call, as a walk takes it (`Walk.antt`)
+--     served           the call, as a walk takes it (`Walk.antt`): the parameters are lent, which gives what the callee's contract asks for;
+--       the callee runs; what its contract says then gives the parameters back. The walk goes on with its answer, the tokens and what is left
 -- Assumes `Given`, and of the table of calls `FmC`.
 use Prim.Native.Nat.{_+_}
 use mathlib.Core.List.{List, [], _∷_, _++_}

@@ -22,7 +22,8 @@
 --     Ends, ends       a last value for each of the callee's parameters (Unit if it does not change), and from these one for each parameter of the call
 --     Says             the contract's clause
 --     walk             one step for each assignment of the MIR, in order. `move` has twice the number of locals, and that plus one;
---       `loads` the call's operands, by the numbers of their locals; `goes-home` an underscore for each local but local 0
+--       `loads` the call's operands, by the numbers of their locals; `goes-home` an underscore for each local but local 0.
+--       `served` and `goes-home` have the result's type, and `goes-home` that its value fits: `lawful` of a record, `uint-lawful` of a number
 --     the theorem      a .1 … .1 .0 is parameter i; are .1 … .1 .0 .1 is that number i fits, and are .1 … .1 .0 .0 .1 that slice i has room
 -- `rt mir c_api` prints the MIR of all functions, in one line. `rt mir c_api | grep -o 'fn-def "c_api::store_read.*' | sed 's/(lcons (fn-def.*//'`
 -- prints one: `fnItem`, then the lifetimes and the parameters as numbers, each local's type, and the statements. `(place i …)` is local i.

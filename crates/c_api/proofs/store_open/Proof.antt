@@ -85,5 +85,4 @@ store-open-spec 𝓤 H 𝓜 𝓖 𝓡 =
     proved-by f.ended kinds 𝓤 H 𝓜 𝓖 𝓡 (f.clauses 𝓤 H A (𝓜 .mem) (𝓡 .run)) code.env code.function
     #own #lent (code.unfolded 𝓤 H 𝓜 𝓡) (Lent 𝓤 H A (𝓜 .mem) (𝓡 .run)) lent-routine code.calls-c-lent·open (lent-met 𝓤 H 𝓜 𝓖 𝓡)
     (λ fm known κs qs _ a _ are. walk 𝓤 H A (givenOf 𝓤 H 𝓜 𝓖) (𝓜 .mem) (𝓡 .run) κs qs
-    (a .0) (a .1 .0) (a .1 .1 .0)
-    (are .0 .0 .1) (are .1 .0 .0 .1) (𝓣 .C) (𝓣 .Λ) fm known)
+    (a .0) (a .1 .0) (a .1 .1 .0) (are .0 .0 .1) (are .1 .0 .0 .1) (𝓣 .C) (𝓣 .Λ) fm known)
