@@ -1,9 +1,10 @@
 -- What a walk's two ends need of each parameter, by its kind; and how a walk becomes the function's theorem.
 --     Kind             a parameter: what is had of it at exit (`stay`), its machine values (`vals`, `tells`), the law of what is had (`goes`)
 --     slice-in, slice-out, record-in, record-out, number-in     the kinds: a `&` and a `&mut` slice, a `&` and a `&mut` record, a number
---     Kinds, stays     for a function's parameters
+--     Kinds, stays     for a function's parameters.      valued, passed     their machine values, by parameter and in a row
+--     Walked           what a walk shows.      ends-well     its last step: the contract's clause holds of what is had
 --     proved-by        the theorem, from the walk at every choice of lifetimes, shares and arguments, and the callee's theorem
--- Assumes nothing.
+-- `ends-well` takes `Given`. The rest assumes nothing.
 use mathlib.Core.Path.{_≡_, refl}
 use Prim.Native.Nat.{ℕ}
 use mathlib.Core.List.{List, [], _∷_}
@@ -31,7 +32,7 @@ use denote.Signature.{Slot, AllWithin, nameOf, meetAt, plain, mutRefTo, mutSlice
 use denote.Triple.Clauses.{Clauses, Ended, Lasts, atExit, closing}
 use denote.Triple.End.{Kepts}
 use denote.Triple.Entry.{Args, Vals, Res, onEntry}
-use denote.Triple.Spec.{tripleOf, Meets}
+use denote.Triple.Spec.{tripleOf}
 use denote.Triple.Statement.{Contract, Triple}
 use denote.Triple.Table.{entered, cited}
 use denote.Triple.Walked.{Stay, Stays, stay-none, stay-none-ref, stay-none-slice, stay-ref, gave-slice, Fit, onExit, walkOf, ends-at, walked, walk-meets}

@@ -31,7 +31,7 @@ use ghost.Atoms.{Atoms, sem}
 use types.Kit.{Post, Seq, runs, lands, Given, Item, ‵, raw, some, later, given, mean, _⊛_, _$_, _∵_, !, qed, move, drop, use1, use2, use3, split, join}
 use types.Kit.{pick, learn, check, fsplit, fjoin, frame, await, updating, now as at-once, show, done}
 use denote.Steps.{nothing, heard}
-use Rattle.c_api.proofs.Parts.{stars, tokens}
+use Rattle.c_api.proofs.Parts.{stars}
 
 module _ {M : Type 1} (𝓤 : URA M) (H : Heap 𝓤) (A : Atoms 𝓤) where
   abbrev pub ⟦_⟧ : List Fml → SProp 𝓤
