@@ -2,7 +2,7 @@
 --     Kind             a parameter: what is had of it at exit (`stay`), its machine values (`vals`, `tells`), the law of what is had (`goes`)
 --     slice-in, slice-out, record-in, record-out, number-in     the kinds: a `&` and a `&mut` slice, a `&` and a `&mut` record, a number
 --     Kinds, stays     for a function's parameters.      valued, passed     their machine values, by parameter and in a row
---     Walked           what a walk shows.      ends-well     its last step: the contract's clause holds of what is had
+--     Walked           what a walk shows.      Exits, ends-well     its last step: the contract's clause holds of what is had
 --     proved-by        the theorem, from the walk at every choice of lifetimes, shares and arguments, and the callee's theorem
 -- `ends-well` takes `Given`. The rest assumes nothing.
 use mathlib.Core.Path.{_≡_, refl}
@@ -136,9 +136,13 @@ module _ (T : Ended) (hs : Kinds (T .signature .params) (T .kept)) where
     abbrev pub Walked : Calls 𝓤 H → Loops 𝓤 H → Fn → Type 1
     Walked C Λ fn = ent 𝓤 (onEntry 𝓤 H A (T .signature) κs qs a (valued κs a)) (WpFn 𝓤 H C Λ fn (passed κs a) Done)
 
-    -- it has ended: there are the tokens, what is had of the parameters at their last values ws, and the result r; and the clause φ holds
+    -- how it ends: there are the tokens, what is had of the parameters at their last values ws, and the result r, whose machine value is v
+    abbrev pub Exits : (v : Val) (r : Res (T .signature) κs) → Lasts T κs a → Type 1
+    Exits v r ws = ent 𝓤 (onExit 𝓤 H A T stayed κs qs (valued κs a) v r a ws) (Done v)
+
+    -- it ends so if φ holds, which is the contract's clause
     pub ends-well : Given 𝓤 H A → (v : Val) (r : Res (T .signature) κs) (ws : Lasts T κs a) → Fit T stayed κs a ws → (φ : Type 0) → φ
-        → ent 𝓤 (fact 𝓤 φ) (c κs a .ensures g r (atExit T κs a ws)) → ent 𝓤 (onExit 𝓤 H A T stayed κs qs (valued κs a) v r a ws) (Done v)
+        → ent 𝓤 (fact 𝓤 φ) (c κs a .ensures g r (atExit T κs a ws)) → Exits v r ws
     ends-well W v r ws fits φ e clause =
         qed W (raw (onExit 𝓤 H A T stayed κs qs (valued κs a) v r a ws) ∷ []) ∵
         suffices ! _ (ends-at 𝓤 H A T stayed c W ((κs, qs, bounds, a, valued κs a), g) v r ws fits) $

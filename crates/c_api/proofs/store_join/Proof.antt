@@ -1,11 +1,11 @@
 -- `c_api::store_join` meets its contract: a walk of its MIR, as `Walk.antt` says. The records are lent in parts to `join`, and come back. Assumes nothing.
-use Rattle.c_api.proofs.Walk.{_≡_, refl, ℕ, _<_, _^_, List, [], _∷_, length, URA, fullShare, w32, SProp, id⊢, Lfts, Shares, Memory, Routine}
-use Rattle.c_api.proofs.Walk.{Heap, Calls, Loops, Atoms, Fun, givenOf, tables, Given, ‵, _$_, _∵_, !, qed, move, enter, FmC, u32, u64, RefT}
-use Rattle.c_api.proofs.Walk.{Room, slice-vals, ptr-vals, uint-vals, valss, typesAt, uint-lawful, Args, Vals, tripleOf, Contract, Triple, starts}
-use Rattle.c_api.proofs.Walk.{slice-fits, pointer-fits, number-fits, lends-field, loads, goes-home, Kinds, slice-in, record-out, number-in, passed}
-use Rattle.c_api.proofs.Walk.{Walked, ends-well, proved-by, stars, served, Param, Xs, Zs, alive, owns, shr-slice, number, mut-record, Shared}
-use Rattle.c_api.proofs.Walk.{SharedRow, SharedRecord, sharedParts, numbersRef, takenRef, sharedAt, Point, PointRow, PointRecord, pointParts}
-use Rattle.c_api.proofs.Walk.{headRef, tableRef, textRef, pointAt}
+use Rattle.c_api.proofs.Walk.{_≡_, refl, ℕ, _<_, _^_, List, [], _∷_, length, URA, fullShare, w32, Val, SProp, id⊢, Lfts, Shares, Memory}
+use Rattle.c_api.proofs.Walk.{Routine, Heap, Calls, Loops, Atoms, Fun, givenOf, tables, Given, ‵, _$_, _∵_, !, qed, move, enter, FmC, u32, u64}
+use Rattle.c_api.proofs.Walk.{RefT, Room, slice-vals, ptr-vals, uint-vals, valss, typesAt, uint-lawful, Args, Vals, tripleOf, Contract, Triple}
+use Rattle.c_api.proofs.Walk.{starts, slice-fits, pointer-fits, number-fits, lends-field, loads, goes-home, Kinds, slice-in, record-out, number-in}
+use Rattle.c_api.proofs.Walk.{passed, Walked, Exits, ends-well, proved-by, stars, served, Param, Xs, Zs, facts, alive, owns, shr-slice, number}
+use Rattle.c_api.proofs.Walk.{mut-record, Shared, SharedRow, SharedRecord, sharedParts, numbersRef, takenRef, sharedAt, Point, PointRow, PointRecord}
+use Rattle.c_api.proofs.Walk.{pointParts, headRef, tableRef, textRef, pointAt}
 use Rattle.c_lent.specs.Calls.{left, joinFor}
 use Rattle.c_lent.proofs.join as lent
 use Rattle.c_lent.proofs.join.Symbol.{routine as lent-routine, name as #lent}
@@ -61,6 +61,10 @@ module _ {M : Type 1} (𝓤 : URA M) (H : Heap 𝓤) (A : Atoms 𝓤) (W : Given
   abbrev Says : ℕ → Zs 𝓤 H A params → Type 0
   Says r zs = left r (sharedParts (zs .1 .0)) (pointParts (zs .1 .1 .1 .0)) ≡ joinFor (x .now) (sharedParts (s .now)) n
 
+  exits : (r : ℕ) (w : Val) (zs : Zs 𝓤 H A params) → facts 𝓤 H A params zs → Says r zs
+      → Exits f.ended kinds 𝓤 H A (f.clauses 𝓤 H A mem run) κs qs tt a tt w r zs
+  exits r w zs ls e = ends-well f.ended kinds 𝓤 H A (f.clauses 𝓤 H A mem run) κs qs tt a tt W w r zs ls (Says r zs) e (id⊢ 𝓤 _)
+
   module _ (C : Calls 𝓤 H) (Λ : Loops 𝓤 H) (fm : FmC 𝓤 H (W .laws) C) (known : Triple 𝓤 (C #lent) (Lent 𝓤 H A mem run)) where
     walk : Walked f.ended kinds 𝓤 H A (f.clauses 𝓤 H A mem run) κs qs tt a tt C Λ code.function
     walk =
@@ -72,8 +76,7 @@ module _ {M : Type 1} (𝓤 : URA M) (H : Heap 𝓤) (A : Atoms 𝓤) (W : Given
         move ! (20 ∷ 21 ∷ []) $ served ! fm (Lent 𝓤 H A mem run) known params to-lent (λ xs. id⊢ 𝓤 _) (λ r w. u32 .own r (w ∷ []))
         ends Says (λ xs w. id⊢ 𝓤 _) (λ xs. loads ! 2 (1 ∷ 5 ∷ 6 ∷ 3 ∷ 7 ∷ 8 ∷ 9 ∷ []) refl tt refl) (λ w r zs ls e.
         goes-home ! u32 r w (λ is. uint-lawful 𝓤 H A W w32 .typed r _ is .0)
-        (_ ∷ _ ∷ _ ∷ _ ∷ _ ∷ _ ∷ _ ∷ _ ∷ _ ∷ []) refl
-        (ends-well f.ended kinds 𝓤 H A (f.clauses 𝓤 H A mem run) κs qs tt a tt W w r zs ls (Says r zs) e (id⊢ 𝓤 _))))
+        (_ ∷ _ ∷ _ ∷ _ ∷ _ ∷ _ ∷ _ ∷ _ ∷ _ ∷ []) refl (exits r w zs ls e)))
 
 pub store-join-spec : {M : Type 1} → statement M
 unfolding code.routine

@@ -1,9 +1,9 @@
 -- `c_api::store_leave` meets its contract: a walk of its MIR, as `Walk.antt` says. The records are lent in parts to `leave`, and come back. Assumes nothing.
-use Rattle.c_api.proofs.Walk.{_≡_, refl, ℕ, List, [], _∷_, length, URA, fullShare, w32, SProp, id⊢, Lfts, Shares, Memory, Routine, Heap}
+use Rattle.c_api.proofs.Walk.{_≡_, refl, ℕ, List, [], _∷_, length, URA, fullShare, w32, Val, SProp, id⊢, Lfts, Shares, Memory, Routine, Heap}
 use Rattle.c_api.proofs.Walk.{Calls, Loops, Atoms, Fun, givenOf, tables, Given, ‵, _$_, _∵_, !, qed, move, enter, FmC, u32, u64, RefT, Room}
 use Rattle.c_api.proofs.Walk.{slice-vals, ptr-vals, valss, typesAt, uint-lawful, Args, Vals, tripleOf, Contract, Triple, starts, slice-fits}
-use Rattle.c_api.proofs.Walk.{pointer-fits, lends-field, loads, goes-home, Kinds, slice-in, record-in, record-out, passed, Walked, ends-well}
-use Rattle.c_api.proofs.Walk.{proved-by, stars, served, Param, Xs, Zs, alive, owns, shr-slice, mut-record, shr-record, Shared, SharedRow}
+use Rattle.c_api.proofs.Walk.{pointer-fits, lends-field, loads, goes-home, Kinds, slice-in, record-in, record-out, passed, Walked, Exits, ends-well}
+use Rattle.c_api.proofs.Walk.{proved-by, stars, served, Param, Xs, Zs, facts, alive, owns, shr-slice, mut-record, shr-record, Shared, SharedRow}
 use Rattle.c_api.proofs.Walk.{SharedRecord, sharedParts, numbersRef, takenRef, sharedAt, Point, PointRow, PointRecord, textlessParts, headRef}
 use Rattle.c_api.proofs.Walk.{tableRef}
 use Rattle.c_lent.specs.Calls.{sharedLeft, leaveFor}
@@ -60,6 +60,10 @@ module _ {M : Type 1} (𝓤 : URA M) (H : Heap 𝓤) (A : Atoms 𝓤) (W : Given
   abbrev Says : ℕ → Zs 𝓤 H A params → Type 0
   Says r zs = sharedLeft r (sharedParts (zs .1 .0)) ≡ leaveFor (x .now) (sharedParts (s .now)) (textlessParts (p .now))
 
+  exits : (r : ℕ) (w : Val) (zs : Zs 𝓤 H A params) → facts 𝓤 H A params zs → Says r zs
+      → Exits f.ended kinds 𝓤 H A (f.clauses 𝓤 H A mem run) κs qs tt a tt w r zs
+  exits r w zs ls e = ends-well f.ended kinds 𝓤 H A (f.clauses 𝓤 H A mem run) κs qs tt a tt W w r zs ls (Says r zs) e (id⊢ 𝓤 _)
+
   module _ (C : Calls 𝓤 H) (Λ : Loops 𝓤 H) (fm : FmC 𝓤 H (W .laws) C) (known : Triple 𝓤 (C #lent) (Lent 𝓤 H A mem run)) where
     walk : Walked f.ended kinds 𝓤 H A (f.clauses 𝓤 H A mem run) κs qs tt a tt C Λ code.function
     walk =
@@ -71,8 +75,7 @@ module _ {M : Type 1} (𝓤 : URA M) (H : Heap 𝓤) (A : Atoms 𝓤) (W : Given
         move ! (16 ∷ 17 ∷ []) $ served ! fm (Lent 𝓤 H A mem run) known params to-lent (λ xs. id⊢ 𝓤 _) (λ r w. u32 .own r (w ∷ []))
         ends Says (λ xs w. id⊢ 𝓤 _) (λ xs. loads ! 2 (1 ∷ 4 ∷ 5 ∷ 6 ∷ 7 ∷ []) refl tt refl) (λ w r zs ls e.
         goes-home ! u32 r w (λ is. uint-lawful 𝓤 H A W w32 .typed r _ is .0)
-        (_ ∷ _ ∷ _ ∷ _ ∷ _ ∷ _ ∷ _ ∷ []) refl
-        (ends-well f.ended kinds 𝓤 H A (f.clauses 𝓤 H A mem run) κs qs tt a tt W w r zs ls (Says r zs) e (id⊢ 𝓤 _))))
+        (_ ∷ _ ∷ _ ∷ _ ∷ _ ∷ _ ∷ _ ∷ []) refl (exits r w zs ls e)))
 
 pub store-leave-spec : {M : Type 1} → statement M
 unfolding code.routine

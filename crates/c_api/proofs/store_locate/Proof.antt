@@ -1,10 +1,11 @@
 -- `c_api::store_locate` meets its contract: a walk of its MIR, as `Walk.antt` says. The records are lent in parts to `locate`, and come back. Assumes nothing.
-use Rattle.c_api.proofs.Walk.{_≡_, refl, ℕ, _<_, _^_, List, [], _∷_, length, URA, fullShare, w64, SProp, id⊢, Lfts, Shares, Memory, Routine}
-use Rattle.c_api.proofs.Walk.{Heap, Calls, Loops, Atoms, Fun, givenOf, tables, Given, ‵, _$_, _∵_, !, qed, move, enter, FmC, u64, RefT, Room}
-use Rattle.c_api.proofs.Walk.{slice-vals, ptr-vals, uint-vals, valss, typesAt, lawful, Args, Vals, tripleOf, Contract, Triple, starts, slice-fits}
-use Rattle.c_api.proofs.Walk.{pointer-fits, number-fits, lends-field, loads, goes-home, Kinds, slice-in, record-in, number-in, passed, Walked}
-use Rattle.c_api.proofs.Walk.{ends-well, proved-by, stars, served, Param, Xs, Zs, alive, owns, shr-slice, number, shr-record, Shared, SharedRow}
-use Rattle.c_api.proofs.Walk.{SharedRecord, sharedParts, numbersRef, takenRef, Point, PointRow, PointRecord, textlessParts, headRef, tableRef}
+use Rattle.c_api.proofs.Walk.{_≡_, refl, ℕ, _<_, _^_, List, [], _∷_, length, URA, fullShare, w64, Val, SProp, id⊢, Lfts, Shares, Memory}
+use Rattle.c_api.proofs.Walk.{Routine, Heap, Calls, Loops, Atoms, Fun, givenOf, tables, Given, ‵, _$_, _∵_, !, qed, move, enter, FmC, u64, RefT}
+use Rattle.c_api.proofs.Walk.{Room, slice-vals, ptr-vals, uint-vals, valss, typesAt, lawful, Args, Vals, tripleOf, Contract, Triple, starts}
+use Rattle.c_api.proofs.Walk.{slice-fits, pointer-fits, number-fits, lends-field, loads, goes-home, Kinds, slice-in, record-in, number-in, passed}
+use Rattle.c_api.proofs.Walk.{Walked, Exits, ends-well, proved-by, stars, served, Param, Xs, Zs, facts, alive, owns, shr-slice, number, shr-record}
+use Rattle.c_api.proofs.Walk.{Shared, SharedRow, SharedRecord, sharedParts, numbersRef, takenRef, Point, PointRow, PointRecord, textlessParts}
+use Rattle.c_api.proofs.Walk.{headRef, tableRef}
 use Rattle.c_lent.specs.Calls.{locateFor}
 use Rattle.c_lent.specs.declared.Count.{Count}
 use Rattle.c_lent.proofs.Count as N
@@ -63,6 +64,10 @@ module _ {M : Type 1} (𝓤 : URA M) (H : Heap 𝓤) (A : Atoms 𝓤) (W : Given
   abbrev Says : Count → Zs 𝓤 H A params → Type 0
   Says r zs = r ≡ locateFor (x .now) (sharedParts (s .now)) (textlessParts (p .now)) n
 
+  exits : (r : Count) (w : Val) (zs : Zs 𝓤 H A params) → facts 𝓤 H A params zs → Says r zs
+      → Exits f.ended kinds 𝓤 H A (f.clauses 𝓤 H A mem run) κs qs tt a tt w r zs
+  exits r w zs ls e = ends-well f.ended kinds 𝓤 H A (f.clauses 𝓤 H A mem run) κs qs tt a tt W w r zs ls (Says r zs) e (id⊢ 𝓤 _)
+
   module _ (C : Calls 𝓤 H) (Λ : Loops 𝓤 H) (fm : FmC 𝓤 H (W .laws) C) (known : Triple 𝓤 (C #lent) (Lent 𝓤 H A mem run)) where
     walk : Walked f.ended kinds 𝓤 H A (f.clauses 𝓤 H A mem run) κs qs tt a tt C Λ code.function
     walk =
@@ -74,8 +79,7 @@ module _ {M : Type 1} (𝓤 : URA M) (H : Heap 𝓤) (A : Atoms 𝓤) (W : Given
         move ! (18 ∷ 19 ∷ []) $ served ! fm (Lent 𝓤 H A mem run) known params to-lent (λ xs. id⊢ 𝓤 _) (λ r w. N.the-row .own r (w ∷ []))
         ends Says (λ xs w. id⊢ 𝓤 _) (λ xs. loads ! 2 (1 ∷ 5 ∷ 6 ∷ 7 ∷ 8 ∷ 4 ∷ []) refl tt refl) (λ w r zs ls e.
         goes-home ! N.the-row r w (λ is. lawful N.the-type N′.the-laws 𝓤 H A W .typed r _ is .0)
-        (_ ∷ _ ∷ _ ∷ _ ∷ _ ∷ _ ∷ _ ∷ _ ∷ []) refl
-        (ends-well f.ended kinds 𝓤 H A (f.clauses 𝓤 H A mem run) κs qs tt a tt W w r zs ls (Says r zs) e (id⊢ 𝓤 _))))
+        (_ ∷ _ ∷ _ ∷ _ ∷ _ ∷ _ ∷ _ ∷ _ ∷ []) refl (exits r w zs ls e)))
 
 pub store-locate-spec : {M : Type 1} → statement M
 unfolding code.routine

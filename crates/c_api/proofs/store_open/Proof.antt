@@ -1,10 +1,10 @@
 -- `c_api::store_open` meets its contract: a walk of its MIR, as `Walk.antt` says. The records are lent in parts to `open`, and come back. Assumes nothing.
-use Rattle.c_api.proofs.Walk.{_≡_, refl, ℕ, List, [], _∷_, length, URA, fullShare, SProp, id⊢, Lfts, Shares, Memory, Routine, Heap, Calls}
-use Rattle.c_api.proofs.Walk.{Loops, Atoms, Fun, givenOf, tables, Given, ‵, _$_, _∵_, !, qed, move, enter, FmC, u16, u64, RefT, Room, slice-vals}
-use Rattle.c_api.proofs.Walk.{ptr-vals, valss, typesAt, lawful, Args, Vals, tripleOf, Contract, Triple, starts, slice-fits, pointer-fits}
-use Rattle.c_api.proofs.Walk.{lends-field, lends-start, lends-slice, loads, goes-home, Kinds, slice-in, slice-out, record-out, passed, Walked}
-use Rattle.c_api.proofs.Walk.{ends-well, proved-by, stars, served, Param, Xs, Zs, alive, owns, shr-slice, mut-slice, mut-record, Shared, SharedRow}
-use Rattle.c_api.proofs.Walk.{SharedRecord, sharedParts, numbersRef, takenRef, sharedAt}
+use Rattle.c_api.proofs.Walk.{_≡_, refl, ℕ, List, [], _∷_, length, URA, fullShare, Val, SProp, id⊢, Lfts, Shares, Memory, Routine, Heap}
+use Rattle.c_api.proofs.Walk.{Calls, Loops, Atoms, Fun, givenOf, tables, Given, ‵, _$_, _∵_, !, qed, move, enter, FmC, u16, u64, RefT, Room}
+use Rattle.c_api.proofs.Walk.{slice-vals, ptr-vals, valss, typesAt, lawful, Args, Vals, tripleOf, Contract, Triple, starts, slice-fits, pointer-fits}
+use Rattle.c_api.proofs.Walk.{lends-field, lends-start, lends-slice, loads, goes-home, Kinds, slice-in, slice-out, record-out, passed, Walked, Exits}
+use Rattle.c_api.proofs.Walk.{ends-well, proved-by, stars, served, Param, Xs, Zs, facts, alive, owns, shr-slice, mut-slice, mut-record, Shared}
+use Rattle.c_api.proofs.Walk.{SharedRow, SharedRecord, sharedParts, numbersRef, takenRef, sharedAt}
 use Rattle.c_lent.specs.Calls.{OpensFor, sharedFor}
 use Rattle.c_lent.specs.declared.Opened.{Opened}
 use Rattle.c_lent.proofs.Opened as N
@@ -62,6 +62,10 @@ module _ {M : Type 1} (𝓤 : URA M) (H : Heap 𝓤) (A : Atoms 𝓤) (W : Given
   abbrev Says : Opened → Zs 𝓤 H A params → Type 0
   Says r zs = OpensFor (x .now) (y .now) r (zs .1 .0) × (sharedParts (zs .1 .1 .0) ≡ sharedFor (x .now) (y .now))
 
+  exits : (r : Opened) (w : Val) (zs : Zs 𝓤 H A params) → facts 𝓤 H A params zs → Says r zs
+      → Exits f.ended kinds 𝓤 H A (f.clauses 𝓤 H A mem run) κs qs tt a tt w r zs
+  exits r w zs ls e = ends-well f.ended kinds 𝓤 H A (f.clauses 𝓤 H A mem run) κs qs tt a tt W w r zs ls (Says r zs) e (id⊢ 𝓤 _)
+
   module _ (C : Calls 𝓤 H) (Λ : Loops 𝓤 H) (fm : FmC 𝓤 H (W .laws) C) (known : Triple 𝓤 (C #lent) (Lent 𝓤 H A mem run)) where
     walk : Walked f.ended kinds 𝓤 H A (f.clauses 𝓤 H A mem run) κs qs tt a tt C Λ code.function
     walk =
@@ -74,8 +78,7 @@ module _ {M : Type 1} (𝓤 : URA M) (H : Heap 𝓤) (A : Atoms 𝓤) (W : Given
         move ! (16 ∷ 17 ∷ []) $ served ! fm (Lent 𝓤 H A mem run) known params to-lent (λ xs. id⊢ 𝓤 _) (λ r w. N.the-row .own r (w ∷ []))
         ends Says (λ xs w. id⊢ 𝓤 _) (λ xs. loads ! 2 (1 ∷ 5 ∷ 6 ∷ 7 ∷ []) refl tt refl) (λ w r zs ls e.
         goes-home ! N.the-row r w (λ is. lawful N.the-type N′.the-laws 𝓤 H A W .typed r _ is .0)
-        (_ ∷ _ ∷ _ ∷ _ ∷ _ ∷ _ ∷ _ ∷ []) refl
-        (ends-well f.ended kinds 𝓤 H A (f.clauses 𝓤 H A mem run) κs qs tt a tt W w r zs ls (Says r zs) e (id⊢ 𝓤 _))))
+        (_ ∷ _ ∷ _ ∷ _ ∷ _ ∷ _ ∷ _ ∷ []) refl (exits r w zs ls e)))
 
 pub store-open-spec : {M : Type 1} → statement M
 unfolding code.routine

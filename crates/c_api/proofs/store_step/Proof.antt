@@ -1,11 +1,11 @@
 -- `c_api::store_step` meets its contract: a walk of its MIR, as `Walk.antt` says. The records are lent in parts to `step`, and come back. Assumes nothing.
-use Rattle.c_api.proofs.Walk.{_≡_, refl, ℕ, List, [], _∷_, length, URA, fullShare, SProp, id⊢, Lfts, Shares, Memory, Routine, Heap, Calls}
-use Rattle.c_api.proofs.Walk.{Loops, Atoms, Fun, givenOf, tables, Given, ‵, _$_, _∵_, !, qed, move, enter, FmC, u64, RefT, Room, slice-vals}
-use Rattle.c_api.proofs.Walk.{ptr-vals, valss, typesAt, lawful, Args, Vals, tripleOf, Contract, Triple, starts, slice-fits, pointer-fits}
-use Rattle.c_api.proofs.Walk.{lends-field, lends-start, lends-slice, loads, goes-home, Kinds, slice-out, record-out, passed, Walked, ends-well}
-use Rattle.c_api.proofs.Walk.{proved-by, stars, served, Param, Xs, Zs, alive, owns, mut-slice, mut-record, Shared, SharedRow, SharedRecord}
-use Rattle.c_api.proofs.Walk.{sharedParts, numbersRef, takenRef, sharedAt, Point, PointRow, PointRecord, pointParts, headRef, tableRef, textRef}
-use Rattle.c_api.proofs.Walk.{pointAt}
+use Rattle.c_api.proofs.Walk.{_≡_, refl, ℕ, List, [], _∷_, length, URA, fullShare, Val, SProp, id⊢, Lfts, Shares, Memory, Routine, Heap}
+use Rattle.c_api.proofs.Walk.{Calls, Loops, Atoms, Fun, givenOf, tables, Given, ‵, _$_, _∵_, !, qed, move, enter, FmC, u64, RefT, Room}
+use Rattle.c_api.proofs.Walk.{slice-vals, ptr-vals, valss, typesAt, lawful, Args, Vals, tripleOf, Contract, Triple, starts, slice-fits, pointer-fits}
+use Rattle.c_api.proofs.Walk.{lends-field, lends-start, lends-slice, loads, goes-home, Kinds, slice-out, record-out, passed, Walked, Exits}
+use Rattle.c_api.proofs.Walk.{ends-well, proved-by, stars, served, Param, Xs, Zs, facts, alive, owns, mut-slice, mut-record, Shared, SharedRow}
+use Rattle.c_api.proofs.Walk.{SharedRecord, sharedParts, numbersRef, takenRef, sharedAt, Point, PointRow, PointRecord, pointParts, headRef, tableRef}
+use Rattle.c_api.proofs.Walk.{textRef, pointAt}
 use Rattle.c_lent.specs.Calls.{stepLeft, stepFor}
 use Rattle.c_lent.specs.declared.Answer.{Answer}
 use Rattle.c_lent.proofs.Answer as N
@@ -63,6 +63,10 @@ module _ {M : Type 1} (𝓤 : URA M) (H : Heap 𝓤) (A : Atoms 𝓤) (W : Given
   abbrev Says : Answer → Zs 𝓤 H A params → Type 0
   Says r zs = stepLeft r (zs .0) (sharedParts (zs .1 .0)) (pointParts (zs .1 .1 .0)) ≡ stepFor (x .now) (sharedParts (s .now)) (pointParts (p .now))
 
+  exits : (r : Answer) (w : Val) (zs : Zs 𝓤 H A params) → facts 𝓤 H A params zs → Says r zs
+      → Exits f.ended kinds 𝓤 H A (f.clauses 𝓤 H A mem run) κs qs tt a tt w r zs
+  exits r w zs ls e = ends-well f.ended kinds 𝓤 H A (f.clauses 𝓤 H A mem run) κs qs tt a tt W w r zs ls (Says r zs) e (id⊢ 𝓤 _)
+
   module _ (C : Calls 𝓤 H) (Λ : Loops 𝓤 H) (fm : FmC 𝓤 H (W .laws) C) (known : Triple 𝓤 (C #lent) (Lent 𝓤 H A mem run)) where
     walk : Walked f.ended kinds 𝓤 H A (f.clauses 𝓤 H A mem run) κs qs tt a tt C Λ code.function
     walk =
@@ -76,8 +80,7 @@ module _ {M : Type 1} (𝓤 : URA M) (H : Heap 𝓤) (A : Atoms 𝓤) (W : Given
         move ! (22 ∷ 23 ∷ []) $ served ! fm (Lent 𝓤 H A mem run) known params to-lent (λ xs. id⊢ 𝓤 _) (λ r w. N.the-row .own r (w ∷ []))
         ends Says (λ xs w. id⊢ 𝓤 _) (λ xs. loads ! 2 (5 ∷ 6 ∷ 7 ∷ 8 ∷ 9 ∷ 10 ∷ []) refl tt refl) (λ w r zs ls e.
         goes-home ! N.the-row r w (λ is. lawful N.the-type N′.the-laws 𝓤 H A W .typed r _ is .0)
-        (_ ∷ _ ∷ _ ∷ _ ∷ _ ∷ _ ∷ _ ∷ _ ∷ _ ∷ _ ∷ []) refl
-        (ends-well f.ended kinds 𝓤 H A (f.clauses 𝓤 H A mem run) κs qs tt a tt W w r zs ls (Says r zs) e (id⊢ 𝓤 _))))
+        (_ ∷ _ ∷ _ ∷ _ ∷ _ ∷ _ ∷ _ ∷ _ ∷ _ ∷ _ ∷ []) refl (exits r w zs ls e)))
 
 pub store-step-spec : {M : Type 1} → statement M
 unfolding code.routine
