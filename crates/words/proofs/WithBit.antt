@@ -15,7 +15,7 @@ use Rattle.words.proofs.Choice.{upd, upd-same, upd-other}
 use Rattle.words.proofs.Word.{Digit, off, on, bit-digit, bit-zero, bit-suc, withField, bit-set, cleared-in}
 
 -- adding or taking away 2 ^ (j + 1) is doing so with 2 ^ j at half the number, and leaves the lowest bit
-double : (j : ℕ) → 2 ^ suc j ≡ 2 * 2 ^ j
+pub double : (j : ℕ) → 2 ^ suc j ≡ 2 * 2 ^ j
 double j = let e : suc j ≡ 1 + j = omega arith in rw (e, pow-add 2 1 j)
 
 plus-half : (w j : ℕ) → (w + 2 ^ suc j) / 2 ≡ w / 2 + 2 ^ j
@@ -28,7 +28,7 @@ plus-low : (w j : ℕ) → (w + 2 ^ suc j) % 2 ≡ w % 2
 plus-low w j = rw (double j) (omega arith)
 
 -- a number with bit j set is at least 2 ^ j
-bit-le : (w j : ℕ) → bits w j 1 ≡ 1 → 2 ^ j ≤ w
+pub bit-le : (w j : ℕ) → bits w j 1 ≡ 1 → 2 ^ j ≤ w
 bit-le w zero h = omega arith
 bit-le w (suc j) h = let r : 2 ^ j ≤ w / 2 = bit-le (w / 2) j (rw bit-suc at h) in rw (double j) (omega arith)
 
