@@ -1,228 +1,27 @@
--- The run search. One turn weighs the stretch from a start on and goes on behind the taken blocks that end it.
--- What is found is a free run inside, and one is found exactly if there is one: upper layers use these two laws alone, `found-fits` and `found-some`.
-use mathlib.Core.Path.{_≡_, refl, sym, ap, ap₂, subst, _∙_}
+-- What the search finds. Upper layers use two laws alone: what is found is free and inside (`found-fits`), and one is found exactly if there is a run
+-- (`found-some`). `found-best` says which: the shortest stretch that is long enough, the lowest of equals.
+use mathlib.Core.Path.{_≡_, refl, sym, ap, subst, _∙_}
 use mathlib.Core.Logic.{_≢_, _⊎_, inl, inr}
 use mathlib.Core.List.{List, [], _∷_}
-use mathlib.Core.Bool.{Bool, true, false, _&&_, not}
-use Prim.Native.Nat.{ℕ, zero, suc, _+_, _-_, _*_, _/_, _≤_, _<_, min}
-use native.Mathlib.Decide.{decLt, decLe, ℕ-discrete}
+use mathlib.Core.Bool.{Bool, true, false, _&&_}
+use Prim.Native.Nat.{ℕ, zero, suc, _+_, _-_, _≤_, _<_}
+use native.Mathlib.Decide.{decLt, ℕ-discrete}
 use native.Mathlib.Omega.{arith}
-use lib.Dec.{leb, ltb, eqb}
-use lib.ListN.{length}
-use borrow.Author.Tests.{lt-ltb, le-ltb, le-leb, lt-leb, leb-true, eq-eqb, ne-eqb}
+use lib.Dec.{leb, ltb}
+use borrow.Author.Tests.{lt-ltb, le-ltb, le-leb, lt-leb}
 use Rattle.words.specs.declared.map.Stretch.{Stretch}
 use Rattle.words.specs.BlockMap.{taken}
-use Rattle.words.specs.Look.{weighed}
 use Rattle.words.specs.Search.{freeAhead, isStart, stretch, stretchesFrom, shorter, shortest, none, found}
 use Rattle.words.proofs.Choice.{choose-true, choose-false}
-use Rattle.words.proofs.Logic.{and-left}
-use Rattle.words.proofs.Tests.{or-2}
-use Rattle.words.proofs.BlockMap.{taken-past}
-use Rattle.words.proofs.Zeros.{Same, Looked}
-
--- ---- how far a stretch goes
-
-pub ahead-is : (map : List ℕ) (b n j : ℕ) → j ≤ n → Same map false b (b + j) → (j ≡ n) ⊎ (taken map (b + j) ≡ true) → freeAhead map b n ≡ j
-unfolding freeAhead
-ahead-is map b zero j l free e = omega arith
-ahead-is map b (suc n) zero l free (inl e) = absurd (omega arith)
-ahead-is map b (suc n) zero l free (inr e) = let z : b + 0 ≡ b = omega arith in choose-true _ _ _ (ap (taken map) (sym z) ∙ e)
-ahead-is map b (suc n) (suc j) l free e =
-    choose-false _ _ _ (free b (omega arith) (omega arith))
-    ∙ ap suc (ahead-is map (suc b) n j (omega arith) (λ x lo hi. free x (omega arith) (omega arith)) (on e))
-  where
-    on : (suc j ≡ suc n) ⊎ (taken map (b + suc j) ≡ true) → (j ≡ n) ⊎ (taken map (suc b + j) ≡ true)
-    on (inl e) = inl (omega arith)
-    on (inr e) = let z : suc b + j ≡ b + suc j = omega arith in inr (rw z e)
-
--- ---- where stretches start
-
-module _ (map : List ℕ) where
-  -- block 1, or a block behind a taken one
-  abbrev pub Begins : ℕ → Type 0
-  Begins s = (s ≡ 1) ⊎ (taken map (s - 1) ≡ true)
-
-  is-start : (b : ℕ) → Begins b → taken map b ≡ false → isStart map b ≡ true
-  unfolding isStart
-  is-start b (inl e) f = rw (f, eq-eqb b 1 e)
-  is-start b (inr e) f = rw f (or-2 (eqb b 1) (taken map (b - 1)) e)
-
-  no-start-taken : (b : ℕ) → taken map b ≡ true → isStart map b ≡ false
-  unfolding isStart
-  no-start-taken b e = rw e
-
-  no-start-free : (b : ℕ) → b ≢ 1 → taken map (b - 1) ≡ false → isStart map b ≡ false
-  unfolding isStart
-  no-start-free b ne e = rw (ne-eqb b 1 ne, e) (never (not (taken map b)))
-    where
-      never : (x : Bool) → x && false ≡ false
-      never true = refl
-      never false = refl
-
--- ---- one turn
-
-module _ (map : List ℕ) (blocks : ℕ) where
-  from-at : (b c n m : ℕ) → b ≡ c → n ≡ m → stretchesFrom map blocks b n ≡ stretchesFrom map blocks c m
-  from-at b c n m e f = rw (e, f)
-
-  -- blocks at which no stretch starts are passed over
-  skip : (b n j : ℕ) → j ≤ n → ((x : ℕ) → b ≤ x → x < b + j → isStart map x ≡ false)
-      → stretchesFrom map blocks b n ≡ stretchesFrom map blocks (b + j) (n - j)
-  unfolding stretchesFrom
-  skip b n zero l h = from-at b (b + 0) n (n - 0) (omega arith) (omega arith)
-  skip b zero (suc j) l h = absurd (omega arith)
-  skip b (suc n) (suc j) l h =
-      choose-false _ _ _ (h b (omega arith) (omega arith)) ∙ skip (suc b) n j (omega arith) (λ x lo hi. h x (omega arith) (omega arith))
-      ∙ from-at (suc b + j) (b + suc j) (n - j) (suc n - suc j) (omega arith) (omega arith)
-
-  -- up to block t, or to the last one where that comes first
-  skip-to : (b t : ℕ) → b ≤ t → ((x : ℕ) → b ≤ x → x < t → x < blocks → isStart map x ≡ false)
-      → stretchesFrom map blocks b (blocks - b) ≡ stretchesFrom map blocks t (blocks - t)
-  unfolding stretchesFrom
-  skip-to b t l h = go (decLe t blocks)
-    where
-      go : Dec (t ≤ blocks) → stretchesFrom map blocks b (blocks - b) ≡ stretchesFrom map blocks t (blocks - t)
-      go (yes le) =
-          skip b (blocks - b) (t - b) (omega arith) (λ x lo hi. h x lo (omega arith) (omega arith))
-          ∙ from-at (b + (t - b)) t ((blocks - b) - (t - b)) (blocks - t) (omega arith) (omega arith)
-      go (no gt) =
-          let z : blocks - t ≡ 0 = omega arith in
-          let a : (blocks - b) - (blocks - b) ≡ 0 = omega arith in
-          skip b (blocks - b) (blocks - b) (omega arith) (λ x lo hi. h x lo (omega arith) (omega arith))
-          ∙ ap (stretchesFrom map blocks (b + (blocks - b))) a ∙ ap (stretchesFrom map blocks t) (sym z)
-
-  -- from a start: free blocks to before e, taken ones to before t
-  module _ (s e t : ℕ) (begins : Begins map s) (inside : s < blocks) (low : 1 ≤ s) (se : s ≤ e) (last : e ≤ blocks) (et : e ≤ t)
-      (free : Same map false s e) (held : (x : ℕ) → e ≤ x → x < t → x < blocks → taken map x ≡ true) (ends : (e ≡ blocks) ⊎ (e < t)) where
-    -- no other stretch starts before t
-    passed : (x : ℕ) → s < x → x < t → x < blocks → isStart map x ≡ false
-    passed x lo hi l = go (decLt x e)
-      where
-        go : Dec (x < e) → isStart map x ≡ false
-        go (yes h) = no-start-free map x (omega arith) (free (x - 1) (omega arith) (omega arith))
-        go (no h) = no-start-taken map x (held x (omega arith) hi l)
-
-    length-is : s < e → freeAhead map s (blocks - s) ≡ e - s
-    length-is h = ahead-is map s (blocks - s) (e - s) (omega arith) (λ x lo hi. free x lo (omega arith)) (end ends)
-      where
-        end : (e ≡ blocks) ⊎ (e < t) → (e - s ≡ blocks - s) ⊎ (taken map (s + (e - s)) ≡ true)
-        end (inl q) = inl (omega arith)
-        end (inr q) = go (ℕ-discrete e blocks)
-          where
-            go : Dec (e ≡ blocks) → (e - s ≡ blocks - s) ⊎ (taken map (s + (e - s)) ≡ true)
-            go (yes d) = inl (omega arith)
-            go (no d) = let z : s + (e - s) ≡ e = omega arith in inr (rw z (held e (omega arith) q (omega arith)))
-
-    first-is : s < e → stretchesFrom map blocks s (blocks - s) ≡ record { start = s; length = e - s } ∷ stretchesFrom map blocks t (blocks - t)
-    unfolding stretchesFrom
-    first-is h =
-        let n : blocks - s ≡ suc (blocks - suc s) = omega arith in
-        ap (stretchesFrom map blocks s) n ∙ choose-true _ _ _ (is-start map s begins (free s (omega arith) h))
-        ∙ ap₂ (λ (l : ℕ) (ss : List Stretch). record { start = s; length = l } ∷ ss) (length-is h)
-        (skip-to (suc s) t (omega arith) (λ x lo hi l. passed x lo hi l))
-
-    is-weighed : (n : ℕ) (best : Stretch) → s < e → weighed n best s e ≡ shorter n best (record { start = s; length = e - s })
-    unfolding weighed shorter
-    is-weighed n best h = rw (lt-ltb 0 (e - s) (omega arith), weighed, shorter)
-
-    not-weighed : (n : ℕ) (best : Stretch) → e ≤ s → weighed n best s e ≡ best
-    unfolding weighed
-    not-weighed n best h = rw (le-ltb 0 (e - s) (omega arith), weighed)
-
-    -- the stretch is weighed, and the search goes on from t
-    pub turn : (n : ℕ) (best : Stretch)
-        → shortest n best (stretchesFrom map blocks s (blocks - s)) ≡ shortest n (weighed n best s e) (stretchesFrom map blocks t (blocks - t))
-    unfolding shortest
-    turn n best = go (decLt s e)
-      where
-        go : Dec (s < e) → shortest n best (stretchesFrom map blocks s (blocks - s)) ≡ shortest n (weighed n best s e) (stretchesFrom map blocks t (blocks - t))
-        go (yes h) =
-            ap (shortest n best) (first-is h)
-            ∙ ap (λ (x : Stretch). shortest n x (stretchesFrom map blocks t (blocks - t))) (sym (is-weighed n best h))
-        go (no h) =
-            ap (shortest n best) (skip-to s t (omega arith) (λ x lo hi l. no-start-taken map x (held x (omega arith) hi l)))
-            ∙ ap (λ (x : Stretch). shortest n x (stretchesFrom map blocks t (blocks - t))) (sym (not-weighed n best (omega arith)))
-
--- ---- one look at a map word
-
--- the blocks so far are free, and the rest of this word's
-pub on-free : (map : List ℕ) (s k low : ℕ) → Same map false s (64 * k + low) → Same map false (64 * k + low) (64 * k + 64)
-    → Same map false s (64 * (k + 1) + 0)
-on-free map s k low h g b lo hi = go (decLt b (64 * k + low))
-  where
-    go : Dec (b < 64 * k + low) → taken map b ≡ false
-    go (yes l) = h b lo l
-    go (no l) = g b (omega arith) (omega arith)
-
--- no map word is left
-pub free-to-end : (map : List ℕ) (blocks s k low words : ℕ) → Same map false s (64 * k + low) → words ≡ min ((blocks + 63) / 64) (length map)
-    → words ≤ k → Same map false s blocks
-free-to-end map blocks s k low words h e l b lo hi = go (decLt b (64 * k + low))
-  where
-    go : Dec (b < 64 * k + low) → taken map b ≡ false
-    go (yes t) = h b lo t
-    go (no t) = taken-past map b (omega arith)
-
-module _ (map : List ℕ) (blocks s k low j n : ℕ) (begins : Begins map s) (inside : s < blocks) (one : 1 ≤ s)
-    (ahead : s ≤ 64 * k + low) (free : Same map false s (64 * k + low)) (look : Looked map k low j n) where
-  pub begins-on : Begins map (64 * k + j + n)
-  begins-on = inr (look .isTaken (64 * k + j + n - 1) (omega (arith, look .some)) (omega (arith, look .some)))
-
-  pub turn-on : (m : ℕ) (best : Stretch) → shortest m best (stretchesFrom map blocks s (blocks - s))
-      ≡ shortest m (weighed m best s (min (64 * k + j) blocks)) (stretchesFrom map blocks (64 * k + j + n) (blocks - (64 * k + j + n)))
-  turn-on m best =
-      turn map blocks s (min (64 * k + j) blocks) (64 * k + j + n) begins inside one (omega (arith, look .from)) (omega arith) (omega arith)
-      before (λ x lo hi l. look .isTaken x (omega arith) (omega arith)) (ends (decLt (64 * k + j) blocks)) m best
-    where
-      before : Same map false s (min (64 * k + j) blocks)
-      before x lo hi = go (decLt x (64 * k + low))
-        where
-          go : Dec (x < 64 * k + low) → taken map x ≡ false
-          go (yes l) = free x lo l
-          go (no l) = look .isFree x (omega arith) (omega arith)
-
-      ends : Dec (64 * k + j < blocks) → (min (64 * k + j) blocks ≡ blocks) ⊎ (min (64 * k + j) blocks < 64 * k + j + n)
-      ends (yes l) = inr (omega (arith, look .some))
-      ends (no l) = inl (omega arith)
-
--- the last stretch goes to the last block
-pub turn-last : (map : List ℕ) (blocks s : ℕ) → Begins map s → s < blocks → 1 ≤ s → Same map false s blocks → (n : ℕ) (best : Stretch)
-    → shortest n best (stretchesFrom map blocks s (blocks - s)) ≡ weighed n best s blocks
-unfolding shortest stretchesFrom
-turn-last map blocks s begins inside one free n best =
-    let z : blocks - blocks ≡ 0 = omega arith in
-    turn map blocks s blocks blocks begins inside one (omega arith) (omega arith) (omega arith) free (λ x lo hi l. absurd (omega arith)) (inl refl) n best
-    ∙ ap (λ (k : ℕ). shortest n (weighed n best s blocks) (stretchesFrom map blocks blocks k)) z
-
--- and behind it there is none
-pub turn-none : (map : List ℕ) (blocks s n : ℕ) (best : Stretch) → blocks ≤ s → shortest n best (stretchesFrom map blocks s (blocks - s)) ≡ best
-unfolding shortest stretchesFrom
-turn-none map blocks s n best h = let z : blocks - s ≡ 0 = omega arith in ap (λ (k : ℕ). shortest n best (stretchesFrom map blocks s k)) z
-
-pub weighed-same : (n : ℕ) {b c : Stretch} {s t d e : ℕ} → b ≡ c → s ≡ t → d ≡ e → weighed n b s d ≡ weighed n c t e
-weighed-same n p q r = rw (p, q, r)
-
--- ---- which is found
-
--- a stretch as long as asked for is not bettered
-pub settled : (n : ℕ) (best : Stretch) (ss : List Stretch) → best .length ≤ n → shortest n best ss ≡ best
-unfolding shortest shorter
-settled n best [] h = refl
-settled n best (s ∷ ss) h = ap (λ (x : Stretch). shortest n x ss) (kept (decLt (s .length) n)) ∙ settled n best ss h
-  where
-    kept : Dec (s .length < n) → shorter n best s ≡ best
-    kept (yes l) = let e : leb n (s .length) && ltb (s .length) (best .length) ≡ false = rw (lt-leb n (s .length) l) in choose-false _ s best e
-    kept (no l) =
-        let e : leb n (s .length) && ltb (s .length) (best .length) ≡ false =
-        rw (le-leb n (s .length) (omega arith), le-ltb (s .length) (best .length) (omega arith)) in
-        choose-false _ s best e
-
--- ---- what is found
+use Rattle.words.proofs.Stretches.{Begins, is-start}
+use Rattle.words.proofs.Zeros.{Same}
 
 -- a run of n free blocks from r on, inside
 pub record Fits (map : List ℕ) (blocks r n : ℕ) : Type 0 where
   pub inImage : r + n ≤ blocks
   pub isFree : (i : ℕ) → i < n → taken map (r + i) ≡ false
+
+-- ---- how far a stretch goes
 
 module _ (map : List ℕ) where
   ahead-le : (b n : ℕ) → freeAhead map b n ≤ n
@@ -239,7 +38,8 @@ module _ (map : List ℕ) where
   ahead-free b zero i h = absurd (omega arith)
   ahead-free b (suc n) i h = go (taken map b) refl i h (λ j l. ahead-free (suc b) n j l)
     where
-      go : (t : Bool) → taken map b ≡ t → (i : ℕ) → i < freeAhead map b (suc n) → ((j : ℕ) → j < freeAhead map (suc b) n → taken map (suc b + j) ≡ false)
+      go : (t : Bool) → taken map b ≡ t → (i : ℕ) → i < freeAhead map b (suc n)
+          → ((j : ℕ) → j < freeAhead map (suc b) n → taken map (suc b + j) ≡ false)
           → taken map (b + i) ≡ false
       go true e i h r = absurd (omega (arith, choose-true _ 0 (suc (freeAhead map (suc b) n)) e))
       go false e zero h r = let z : b + 0 ≡ b = omega arith in rw z e
@@ -256,15 +56,45 @@ module _ (map : List ℕ) where
       let h = ahead-ge (suc b) n j (omega arith) (λ x lo hi. free x (omega arith) (omega arith)) in
       omega (arith, h, choose-false _ 0 (suc (freeAhead map (suc b) n)) (free b (omega arith) (omega arith)))
 
+-- ---- of two stretches
+
+-- the new one, where it is long enough and shorter, or the best so far
+pub data Chosen (n : ℕ) (best s : Stretch) : Type 0 where
+  new : shorter n best s ≡ s → n ≤ s .length → s .length < best .length → Chosen n best s
+  kept : shorter n best s ≡ best → (n ≤ s .length → best .length ≤ s .length) → Chosen n best s
+
+chosen : (n : ℕ) (best s : Stretch) → Chosen n best s
+unfolding shorter
+chosen n best s = go (decLt (s .length) n) (decLt (s .length) (best .length))
+  where
+    test : Bool
+    test = leb n (s .length) && ltb (s .length) (best .length)
+
+    go : Dec (s .length < n) → Dec (s .length < best .length) → Chosen n best s
+    go (yes l) m = let e : test ≡ false = rw (lt-leb n (s .length) l) in kept (choose-false _ s best e) (λ h. absurd (omega arith))
+    go (no l) (yes m) =
+        let e : test ≡ true = rw (le-leb n (s .length) (omega arith), lt-ltb (s .length) (best .length) m) in new (choose-true _ s best e) (omega arith) m
+    go (no l) (no m) =
+        let e : test ≡ false = rw (le-leb n (s .length) (omega arith), le-ltb (s .length) (best .length) (omega arith)) in
+        kept (choose-false _ s best e) (λ h. omega arith)
+
+-- what comes later is the best so far, or shorter
+later : (n : ℕ) (best : Stretch) (ss : List Stretch) → (shortest n best ss ≡ best) ⊎ (shortest n best ss .length < best .length)
+unfolding shortest
+later n best [] = inl refl
+later n best (s ∷ ss) = go (chosen n best s) (later n (shorter n best s) ss)
+  where
+    go : Chosen n best s → (shortest n best (s ∷ ss) ≡ shorter n best s) ⊎ (shortest n best (s ∷ ss) .length < shorter n best s .length)
+        → (shortest n best (s ∷ ss) ≡ best) ⊎ (shortest n best (s ∷ ss) .length < best .length)
+    go (new e l m) (inl f) = inr (omega (arith, m, ap (λ (x : Stretch). x .length) (f ∙ e)))
+    go (new e l m) (inr f) = inr (omega (arith, m, f, ap (λ (x : Stretch). x .length) e))
+    go (kept e l) (inl f) = inl (f ∙ e)
+    go (kept e l) (inr f) = inr (omega (arith, f, ap (λ (x : Stretch). x .length) e))
+
 module _ (map : List ℕ) (blocks n : ℕ) where
-  -- one of two
-  shorter-is : (best s : Stretch) → (shorter n best s ≡ best) ⊎ ((shorter n best s ≡ s) × (n ≤ s .length))
-  unfolding shorter
-  shorter-is best s = go (leb n (s .length) && ltb (s .length) (best .length)) refl
-    where
-      go : (t : Bool) → leb n (s .length) && ltb (s .length) (best .length) ≡ t → (shorter n best s ≡ best) ⊎ ((shorter n best s ≡ s) × (n ≤ s .length))
-      go true e = inr (choose-true _ s best e, leb-true n (s .length) (and-left (leb n (s .length)) _ e))
-      go false e = inl (choose-false _ s best e)
+  -- how many blocks the stretch from b on has
+  abbrev pub reach : ℕ → ℕ
+  reach b = freeAhead map b (blocks - b)
 
   -- the stretches from b on, by whether one starts there
   by-start : (P : List Stretch → Type 0) (b k : ℕ) → (isStart map b ≡ true → P (stretch map blocks b ∷ stretchesFrom map blocks (suc b) k))
@@ -272,46 +102,49 @@ module _ (map : List ℕ) (blocks n : ℕ) where
   unfolding stretchesFrom
   by-start P b k here past = go (isStart map b) refl
     where
+      rest : List Stretch
+      rest = stretchesFrom map blocks (suc b) k
+
       go : (t : Bool) → isStart map b ≡ t → P (stretchesFrom map blocks b (suc k))
-      go true e = subst P (sym (choose-true _ (stretch map blocks b ∷ stretchesFrom map blocks (suc b) k) (stretchesFrom map blocks (suc b) k) e)) (here e)
-      go false e = subst P (sym (choose-false _ (stretch map blocks b ∷ stretchesFrom map blocks (suc b) k) (stretchesFrom map blocks (suc b) k) e)) past
+      go true e = subst P (sym (choose-true _ (stretch map blocks b ∷ rest) rest e)) (here e)
+      go false e = subst P (sym (choose-false _ (stretch map blocks b ∷ rest) rest e)) past
 
-  -- ---- what is found is free and inside
-
-  -- none yet, or a stretch that is long enough
-  abbrev Met : Stretch → Type 0
-  Met s = (s .start ≡ 0) ⊎ ((n ≤ s .length) × Fits map blocks (s .start) (s .length))
-
-  met-shorter : (best : Stretch) (b : ℕ) → b < blocks → Met best → Met (shorter n best (stretch map blocks b))
-  met-shorter best b l m = go (shorter-is best (stretch map blocks b))
-    where
-      go : (shorter n best (stretch map blocks b) ≡ best) ⊎ ((shorter n best (stretch map blocks b) ≡ stretch map blocks b) × (n ≤ freeAhead map b (blocks - b)))
-          → Met (shorter n best (stretch map blocks b))
-      go (inl e) = subst Met (sym e) m
-      go (inr e) =
-          let f : Fits map blocks b (freeAhead map b (blocks - b)) =
-          record { inImage = omega (arith, ahead-le map b (blocks - b)); isFree = ahead-free map b (blocks - b) } in
-          let g : Met (stretch map blocks b) = inr (e .1, f) in
-          subst Met (sym (e .0)) g
-
-  met-from : (b k : ℕ) (best : Stretch) → k ≤ blocks - b → Met best → Met (shortest n best (stretchesFrom map blocks b k))
+  -- what holds of the best so far, and of each stretch that is long enough, holds of the best
+  keeps : (P : Stretch → Type 0) → ((b : ℕ) → 1 ≤ b → b < blocks → isStart map b ≡ true → n ≤ reach b → P (stretch map blocks b))
+      → (b k : ℕ) (best : Stretch) → 1 ≤ b → k ≤ blocks - b → P best → P (shortest n best (stretchesFrom map blocks b k))
   unfolding shortest stretchesFrom
-  met-from b zero best l m = m
-  met-from b (suc k) best l m =
-      by-start (λ ss. Met (shortest n best ss)) b k
-      (λ e. met-from (suc b) k (shorter n best (stretch map blocks b)) (omega arith) (met-shorter best b (omega arith) m))
-      (met-from (suc b) k best (omega arith) m)
+  keeps P each b zero best l h p = p
+  keeps P each b (suc k) best l h p =
+      by-start (λ ss. P (shortest n best ss)) b k
+      (λ e. keeps P each (suc b) k (shorter n best (stretch map blocks b)) (omega arith) (omega arith) (go e (chosen n best (stretch map blocks b))))
+      (keeps P each (suc b) k best (omega arith) (omega arith) p)
+    where
+      go : isStart map b ≡ true → Chosen n best (stretch map blocks b) → P (shorter n best (stretch map blocks b))
+      go e (new f m s) = subst P (sym f) (each b l (omega arith) e m)
+      go e (kept f m) = subst P (sym f) p
 
-  met : Met (shortest n (none blocks) (stretchesFrom map blocks 1 (blocks - 1)))
-  met = met-from 1 (blocks - 1) (none blocks) (omega arith) (inl refl)
+  abbrev result : Stretch
+  result = shortest n (none blocks) (stretchesFrom map blocks 1 (blocks - 1))
+
+  -- ---- what is found is a stretch that is long enough, so free and inside
+
+  -- none yet, or such a stretch
+  abbrev Met : Stretch → Type 0
+  Met s = (s .start ≡ 0) ⊎ ((s .length ≡ reach (s .start)) × (isStart map (s .start) ≡ true) × (n ≤ s .length) × (s .start < blocks))
+
+  met : Met result
+  met = keeps Met (λ b l h e m. inr (refl, e, m, h)) 1 (blocks - 1) (none blocks) (omega arith) (omega arith) (inl refl)
 
   pub found-fits : found map blocks n ≢ 0 → Fits map blocks (found map blocks n) n
   unfolding found
   found-fits ne = go met
     where
-      go : Met (shortest n (none blocks) (stretchesFrom map blocks 1 (blocks - 1))) → Fits map blocks (found map blocks n) n
+      go : Met result → Fits map blocks (result .start) n
       go (inl z) = absurd (ne z)
-      go (inr f) = record { inImage = omega (arith, f .0, f .1 .inImage); isFree = λ i l. f .1 .isFree i (omega (arith, f .0)) }
+      go (inr m) =
+          let r = result .start in
+          let far = ahead-le map r (blocks - r) in
+          record { inImage = omega (arith, far, m .0, m .2, m .3); isFree = λ i l. ahead-free map r (blocks - r) i (omega (arith, m .0, m .2)) }
 
   pub found-le : found map blocks n ≤ blocks
   found-le = go (ℕ-discrete (found map blocks n) 0)
@@ -320,65 +153,71 @@ module _ (map : List ℕ) (blocks n : ℕ) where
       go (yes z) = omega arith
       go (no ne) = omega (arith, found-fits ne .inImage)
 
-  -- ---- one is found where there is a run
+  -- ---- the shortest, and the lowest of equals
 
-  -- what has been met stays, and what is long enough is taken where nothing has
-  abbrev Open : Stretch → Type 0
-  Open best = (1 ≤ best .start) ⊎ (best .length ≡ blocks)
+  module _ (a : ℕ) (starts : isStart map a ≡ true) (long : n ≤ reach a) where
+    Better : Stretch → Type 0
+    Better s = (s .length < reach a) ⊎ ((s .length ≡ reach a) × (s .start ≤ a))
 
-  open-shorter : (best : Stretch) (b : ℕ) → 1 ≤ b → Open best → Open (shorter n best (stretch map blocks b))
-  open-shorter best b l o = go (shorter-is best (stretch map blocks b))
-    where
-      go : (shorter n best (stretch map blocks b) ≡ best) ⊎ ((shorter n best (stretch map blocks b) ≡ stretch map blocks b) × (n ≤ freeAhead map b (blocks - b)))
-          → Open (shorter n best (stretch map blocks b))
-      go (inl e) = subst Open (sym e) o
-      go (inr e) = let g : Open (stretch map blocks b) = inl l in subst Open (sym (e .0)) g
-
-  Some : Stretch → Type 0
-  Some best = 1 ≤ best .start
-
-  some-shorter : (best : Stretch) (b : ℕ) → 1 ≤ b → Some best → Some (shorter n best (stretch map blocks b))
-  unfolding Some
-  some-shorter best b l o = go (shorter-is best (stretch map blocks b))
-    where
-      go : (shorter n best (stretch map blocks b) ≡ best) ⊎ ((shorter n best (stretch map blocks b) ≡ stretch map blocks b) × (n ≤ freeAhead map b (blocks - b)))
-          → Some (shorter n best (stretch map blocks b))
-      go (inl e) = subst Some (sym e) o
-      go (inr e) = let g : Some (stretch map blocks b) = l in subst Some (sym (e .0)) g
-
-  some-from : (b k : ℕ) (best : Stretch) → 1 ≤ b → Some best → Some (shortest n best (stretchesFrom map blocks b k))
-  unfolding shortest stretchesFrom
-  some-from b zero best l o = o
-  some-from b (suc k) best l o =
-      by-start (λ ss. Some (shortest n best ss)) b k
-      (λ e. some-from (suc b) k (shorter n best (stretch map blocks b)) (omega arith) (some-shorter best b l o))
-      (some-from (suc b) k best (omega arith) o)
-
-  -- a stretch that is long enough
-  module _ (a : ℕ) (one : 1 ≤ a) (inside : a < blocks) (starts : isStart map a ≡ true) (long : n ≤ freeAhead map a (blocks - a)) where
-    here : (best : Stretch) → Open best → Some (shorter n best (stretch map blocks a))
-    unfolding Some shorter
-    here best (inl o) = some-shorter best a one o
-    here best (inr e) =
-        let less : freeAhead map a (blocks - a) < best .length = omega (arith, ahead-le map a (blocks - a)) in
-        let t : leb n (freeAhead map a (blocks - a)) && ltb (freeAhead map a (blocks - a)) (best .length) ≡ true =
-        rw (le-leb n (freeAhead map a (blocks - a)) long, lt-ltb (freeAhead map a (blocks - a)) (best .length) less) in
-        let g : Some (stretch map blocks a) = one in
-        subst Some (sym (choose-true _ (stretch map blocks a) best t)) g
-
-    some-met : (b k : ℕ) (best : Stretch) → 1 ≤ b → b ≤ a → a < b + k → Open best → Some (shortest n best (stretchesFrom map blocks b k))
-    unfolding shortest stretchesFrom
-    some-met b zero best l lo hi o = absurd (omega arith)
-    some-met b (suc k) best l lo hi o =
-        go (ℕ-discrete b a) (λ x q ne. some-met (suc b) k x (omega arith) (omega arith) (omega arith) q)
+    -- where the stretch from a on is weighed
+    better-here : (k : ℕ) (best : Stretch) → best .start ≤ a → Better (shortest n best (stretch map blocks a ∷ stretchesFrom map blocks (suc a) k))
+    unfolding Better shortest
+    better-here k best lo = go (chosen n best (stretch map blocks a)) (later n (shorter n best (stretch map blocks a)) (stretchesFrom map blocks (suc a) k))
       where
-        go : Dec (b ≡ a) → ((x : Stretch) → Open x → b ≢ a → Some (shortest n x (stretchesFrom map blocks (suc b) k)))
-            → Some (shortest n best (stretchesFrom map blocks b (suc k)))
-        go (yes e) r =
-            rw (e, choose-true (isStart map a) (stretch map blocks a ∷ stretchesFrom map blocks (suc a) k) (stretchesFrom map blocks (suc a) k) starts)
-            (some-from (suc a) k (shorter n best (stretch map blocks a)) (omega arith) (here best o))
+        x : Stretch
+        x = shorter n best (stretch map blocks a)
+
+        end : Stretch
+        end = shortest n x (stretchesFrom map blocks (suc a) k)
+
+        go : Chosen n best (stretch map blocks a) → (end ≡ x) ⊎ (end .length < x .length) → Better end
+        go (new e l m) (inl f) = inr (ap (λ (y : Stretch). y .length) (f ∙ e), omega (arith, ap (λ (y : Stretch). y .start) (f ∙ e)))
+        go (new e l m) (inr f) = inl (omega (arith, f, ap (λ (y : Stretch). y .length) e))
+        go (kept e l) (inl f) = by (decLt (best .length) (reach a))
+          where
+            by : Dec (best .length < reach a) → Better end
+            by (yes h) = inl (omega (arith, ap (λ (y : Stretch). y .length) (f ∙ e)))
+            by (no h) = inr (omega (arith, l long, ap (λ (y : Stretch). y .length) (f ∙ e)), omega (arith, ap (λ (y : Stretch). y .start) (f ∙ e)))
+        go (kept e l) (inr f) = inl (omega (arith, f, l long, ap (λ (y : Stretch). y .length) e))
+
+    better-from : (b k : ℕ) (best : Stretch) → b ≤ a → a < b + k → best .start ≤ b → Better (shortest n best (stretchesFrom map blocks b k))
+    unfolding shortest stretchesFrom
+    better-from b zero best lo hi l = absurd (omega arith)
+    better-from b (suc k) best lo hi l = go (ℕ-discrete b a) (λ x ne s. better-from (suc b) k x (omega arith) (omega arith) s)
+      where
+        lower : Chosen n best (stretch map blocks b) → shorter n best (stretch map blocks b) .start ≤ suc b
+        lower (new e m s) = omega (arith, ap (λ (y : Stretch). y .start) e)
+        lower (kept e m) = omega (arith, ap (λ (y : Stretch). y .start) e)
+
+        go : Dec (b ≡ a) → ((x : Stretch) → b ≢ a → x .start ≤ suc b → Better (shortest n x (stretchesFrom map blocks (suc b) k)))
+            → Better (shortest n best (stretchesFrom map blocks b (suc k)))
+        go (yes e) r = rw e (subst (λ (ss : List Stretch). Better (shortest n best ss))
+            (sym (choose-true _ (stretch map blocks a ∷ stretchesFrom map blocks (suc a) k) (stretchesFrom map blocks (suc a) k) starts))
+            (better-here k best (omega arith)))
         go (no ne) r =
-            by-start (λ ss. Some (shortest n best ss)) b k (λ e. r (shorter n best (stretch map blocks b)) (open-shorter best b l o) ne) (r best o ne)
+            by-start (λ ss. Better (shortest n best ss)) b k
+            (λ e. r (shorter n best (stretch map blocks b)) ne (lower (chosen n best (stretch map blocks b)))) (r best ne (omega arith))
+
+  -- the stretch that r starts is long enough; every other that is, is longer, or as long and higher
+  pub record Shortest (r : ℕ) : Type 0 where
+    pub starts : isStart map r ≡ true
+    pub long : n ≤ reach r
+    pub best : (a : ℕ) → 1 ≤ a → a < blocks → isStart map a ≡ true → n ≤ reach a
+        → (reach r < reach a) ⊎ ((reach r ≡ reach a) × (r ≤ a))
+
+  pub found-best : found map blocks n ≢ 0 → Shortest (found map blocks n)
+  unfolding found Better
+  found-best ne = go met
+    where
+      go : Met result → Shortest (result .start)
+      go (inl z) = absurd (ne z)
+      go (inr m) = record {
+        starts = m .1;
+        long = omega (arith, m .0, m .2);
+        best = λ a one inside e l. rw (← m .0) (better-from a e l 1 (blocks - 1) (none blocks) one (omega arith) (omega arith));
+      }
+
+  -- ---- one is found exactly if there is a run
 
   -- the stretch that a run to before e is in starts at the run's start or before
   record Start (e : ℕ) : Type 0 where
@@ -395,8 +234,7 @@ module _ (map : List ℕ) (blocks n : ℕ) where
     where
       go : (t : Bool) → taken map (suc r) ≡ t → (Same map false (suc r) e → Start e) → Start e
       go true t rest =
-          let z : suc (suc r) - 1 ≡ suc r = omega arith in
-          record { at = suc (suc r); one = one; long = l; begins = inr (rw z t); free = free }
+          let z : suc (suc r) - 1 ≡ suc r = omega arith in record { at = suc (suc r); one = one; long = l; begins = inr (rw z t); free = free }
       go false t rest = rest before
         where
           before : Same map false (suc r) e
@@ -407,14 +245,30 @@ module _ (map : List ℕ) (blocks n : ℕ) where
               by (no q) = free x (omega arith) hi
 
   pub found-some : (r : ℕ) → 1 ≤ n → 1 ≤ r → Fits map blocks r n → found map blocks n ≢ 0
-  unfolding found Some
-  found-some r some one f z = absurd (omega (arith, z, result (back r (r + n) one (omega arith) free)))
+  unfolding found Better
+  found-some r some one f z = go (back r (r + n) one (omega arith) free) unmet
     where
       free : Same map false r (r + n)
       free x lo hi = let e : r + (x - r) ≡ x = omega arith in rw (← e) (f .isFree (x - r) (omega arith))
 
-      result : Start (r + n) → 1 ≤ found map blocks n
-      result s =
-          let far = ahead-ge map (s .at) (blocks - s .at) (r + n - s .at) (omega (arith, f .inImage)) (λ x lo hi. s .free x lo (omega (arith, s .long))) in
-          some-met (s .at) (s .one) (omega (arith, s .long, f .inImage)) (is-start map (s .at) (s .begins) (s .free (s .at) (omega arith) (omega (arith, s .long))))
-          (omega (arith, s .long, far)) 1 (blocks - 1) (none blocks) (omega arith) (s .one) (omega (arith, s .long, f .inImage)) (inr refl)
+      -- where nothing was found the length is that of no stretch
+      unmet : (1 ≤ result .start) ⊎ (result .length ≡ blocks)
+      unmet =
+          keeps (λ s. (1 ≤ s .start) ⊎ (s .length ≡ blocks)) (λ b l h e m. inl l) 1 (blocks - 1) (none blocks) (omega arith) (omega arith) (inr refl)
+
+      go : Start (r + n) → (1 ≤ result .start) ⊎ (result .length ≡ blocks) → ⊥
+      go s (inl h) = omega (arith, z, h)
+      go s (inr h) = by (better-from (s .at) starts (omega (arith, s .long, far)) 1 (blocks - 1) (none blocks) (s .one) (omega (arith, less)) (omega arith))
+        where
+          less : s .at < blocks
+          less = omega (arith, s .long, f .inImage)
+
+          starts : isStart map (s .at) ≡ true
+          starts = is-start map (s .at) (s .begins) (s .free (s .at) (omega arith) (omega (arith, s .long)))
+
+          far : r + n - s .at ≤ reach (s .at)
+          far = ahead-ge map (s .at) (blocks - s .at) (r + n - s .at) (omega (arith, f .inImage)) (λ x lo hi. s .free x lo (omega (arith, s .long)))
+
+          by : (result .length < reach (s .at)) ⊎ ((result .length ≡ reach (s .at)) × (result .start ≤ s .at)) → ⊥
+          by (inl l) = omega (arith, l, h, less, s .one, ahead-le map (s .at) (blocks - s .at))
+          by (inr l) = omega (arith, l .0, h, less, s .one, ahead-le map (s .at) (blocks - s .at))

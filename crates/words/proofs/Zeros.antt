@@ -25,7 +25,8 @@ unfolding trailingZeros
 below zero n i h = absurd (omega arith)
 below (suc k) n i h = go (n % 2) refl i h (λ j l. below k (n / 2) j l)
   where
-    go : (d : ℕ) → n % 2 ≡ d → (i : ℕ) → i < under d (trailingZeros k (n / 2)) → ((j : ℕ) → j < trailingZeros k (n / 2) → bits (n / 2) j 1 ≡ 0)
+    go : (d : ℕ) → n % 2 ≡ d → (i : ℕ) → i < under d (trailingZeros k (n / 2))
+        → ((j : ℕ) → j < trailingZeros k (n / 2) → bits (n / 2) j 1 ≡ 0)
         → bits n i 1 ≡ 0
     go zero e zero l r = bit-zero n ∙ e
     go zero e (suc i) l r = bit-suc n i ∙ r i (omega arith)
@@ -36,7 +37,8 @@ unfolding trailingZeros
 lowest zero n h = absurd (omega arith)
 lowest (suc k) n h = go (n % 2) refl h (λ l. lowest k (n / 2) l)
   where
-    go : (d : ℕ) → n % 2 ≡ d → under d (trailingZeros k (n / 2)) < suc k → (trailingZeros k (n / 2) < k → bits (n / 2) (trailingZeros k (n / 2)) 1 ≡ 1)
+    go : (d : ℕ) → n % 2 ≡ d → under d (trailingZeros k (n / 2)) < suc k
+        → (trailingZeros k (n / 2) < k → bits (n / 2) (trailingZeros k (n / 2)) 1 ≡ 1)
         → bits n (under d (trailingZeros k (n / 2))) 1 ≡ 1
     go zero e l r = bit-suc n (trailingZeros k (n / 2)) ∙ r (omega arith)
     go (suc d) e l r = bit-zero n ∙ omega arith

@@ -10,7 +10,7 @@ use Rattle.words.specs.declared.map.Stretch.{Stretch}
 use Rattle.words.specs.Look.{weighed}
 use Rattle.words.specs.Search.{stretchesFrom, shortest, found}
 use Rattle.words.proofs.Zeros.{Same, Looked, none-taken, from-low, few-ones, looked}
-use Rattle.words.proofs.Search.{Begins, on-free, free-to-end, begins-on, turn-on, turn-last, turn-none, settled, weighed-same}
+use Rattle.words.proofs.Stretches.{Begins, on-free, free-to-end, begins-on, turn-on, turn-last, turn-none, settled, weighed-same}
 use Rattle.words.proofs.map.best_start.Statement.{statement}
 use Rattle.words.proofs.map.best_start.Tie as tie
 
@@ -159,7 +159,8 @@ returns-2 : tie.Need-returns-2 Inv-loop μ-loop Inv-starts μ-starts
 returns-2 c =
     let o = c .before .before .before .starts in
     let a = start (c .before .before .before) .args in
-    sym (o .inv .2 ∙ ap (λ (x : Stretch). x .start) (settled (a .n) (o .best) (stretchesFrom (a .map .now) (a .blocks) (o .s) (a .blocks - o .s)) (omega arith)))
+    let rest = stretchesFrom (a .map .now) (a .blocks) (o .s) (a .blocks - o .s) in
+    sym (o .inv .2 ∙ ap (λ (x : Stretch). x .start) (settled (a .n) (o .best) rest (omega arith)))
 
 returns-3 : tie.Need-returns-3 Inv-loop μ-loop Inv-starts μ-starts
 returns-3 c =
@@ -168,7 +169,8 @@ returns-3 c =
     let a = start (outside l) .args in
     let m = a .map .now in
     let i = l .loop .inv in
-    let free = free-to-end m (a .blocks) (o .s) (l .loop .k) (l .loop .low) (outside l .before .least .result) (i .4) (outside l .before .least .ensures) (omega arith) in
+    let words = outside l .before .least in
+    let free = free-to-end m (a .blocks) (o .s) (l .loop .k) (l .loop .low) (words .result) (i .4) (words .ensures) (omega arith) in
     let e : c .weigh2 .result ≡ weighed (a .n) (o .best) (o .s) (a .blocks) = c .weigh2 .ensures ∙ weighed-same (a .n) (i .0) (i .1) refl in
     sym (o .inv .2 ∙ ap (λ (x : Stretch). x .start)
     (turn-last m (a .blocks) (o .s) (o .inv .1 (omega arith)) (omega arith) (o .inv .0) free (a .n) (o .best) ∙ sym e))
