@@ -141,7 +141,7 @@ module _ (E : Edition) {words scratch table : List ℕ} {size : ℕ} (h : Held E
               length = size;
               entries = n;
               free = free;
-              shared = record { blocks = blockCount E words; taken = map; joined = 0; next = 1 };
+              shared = record { blocks = blockCount E words; taken = map; joined = 0 };
             }
         unfolding openedWith sharedAtOpening
         out-opened map n free ek en efr = done-opened E words scratch none ∙ (rw (en, efr, ek, table-is, size-is))
