@@ -11,6 +11,7 @@ use lib.Seq.{paste, paste-suc, take-length}
 use Rattle.words.specs.Edition.{Edition, one}
 use Rattle.words.specs.Logic.{Reason, isZero, first, _when_}
 use Rattle.words.specs.Memory.{memory}
+use Rattle.words.specs.BlockMap.{setRun}
 use Rattle.words.proofs.Choice.{chosen-zero}
 use Rattle.words.proofs.Tests.{not-zero}
 use Rattle.log.specs.declared.Shared.{Shared}
@@ -22,7 +23,7 @@ use Rattle.points.specs.declared.Head.{Head}
 use Rattle.points.specs.declared.Point.{Point}
 use Rattle.points.specs.declared.Begun.{Begun}
 use Rattle.points.specs.Record.{noText, isIdle, badText, pastEnd, span, fileAt, caughtUp, unfit}
-use Rattle.points.specs.Search.{search, taking}
+use Rattle.points.specs.Search.{search, withTaken}
 use Rattle.points.specs.Start.{Started}
 use Rattle.points.specs.Calls.{beginRefusal, beginning, textOf, newWrite}
 use Rattle.points.proofs.RecordFacts.{TextFits, text-facts, shared-facts}
@@ -143,7 +144,7 @@ module _ (E : Edition) (words : List ℕ) (s : Shared) (p : Point) (offset : ℕ
       → place ≡ placeAfter (p .head .place) (ahead E (memory E words) (s .blocks) (p .head .place)) → run ≡ search s (span E offset (length text))
       → record { table = table; size = size } ≡ replayOn E (fileAt (p .head) (p .table)) (ahead E (memory E words) (s .blocks) (p .head .place) .entries)
       → bytes ≡ textOf text → head ≡ record { number = p .head .number; length = size; place = place; write = newWrite offset (length text) run }
-      → n ≡ span E offset (length text) → t ≡ taking s run n
+      → n ≡ span E offset (length text) → t ≡ withTaken s (setRun true (s .taken) run n)
       → record { reply = Done; shared = t; point = record { head = head; table = table; text = bytes } } ≡ beginning E words s p offset text
   unfolding beginning caughtUp
   begin-done r place run n size table bytes head t ep er ef eb eh en et =
@@ -154,7 +155,7 @@ module _ (E : Edition) (words : List ℕ) (s : Shared) (p : Point) (offset : ℕ
       begun f =
           record {
             reply = Done;
-            shared = taking s (search s (span E offset (length text))) (span E offset (length text));
+            shared = withTaken s (setRun true (s .taken) (search s (span E offset (length text))) (span E offset (length text)));
             point =
                 record {
                   head =

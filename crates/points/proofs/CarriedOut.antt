@@ -1,6 +1,6 @@
 -- What a step leaves that carries out the plan of each thing that it may do: answer, records and store, written out.
 use mathlib.Core.Path.{_≡_, refl, ap}
-use mathlib.Core.Bool.{false}
+use mathlib.Core.Bool.{true, false}
 use mathlib.Core.Option.{none, some}
 use Prim.Native.Nat.{ℕ, zero, suc, _<_}
 use native.Mathlib.Omega.{arith}
@@ -18,7 +18,7 @@ use Rattle.points.specs.declared.Point.{Point}
 use Rattle.points.specs.declared.StepAnswer.the-variants.{Stored, Moved, Extending, Committed, Refused}
 use Rattle.points.specs.declared.plan.Plan.{Plan}
 use Rattle.points.specs.Record.{noWrite, noText, fileAt, pointOf, standing, writing, withHead, caughtUp}
-use Rattle.points.specs.Search.{withTaken, taking, takingOne}
+use Rattle.points.specs.Search.{withTaken}
 use Rattle.points.specs.Fill.{newWord}
 use Rattle.points.specs.Plan.{Outcome, carriedOut, readIn, freed, withoutRun, replaced, wordFrom}
 use Rattle.points.specs.Stepping.{turned, toCommit, retried, filled, refillAfter, nextSlot, entering, entryFor}
@@ -41,7 +41,7 @@ module _ (E : Edition) (m : Memory) (s : Shared) (p : Point) where
   afterRefusal n = record { step = Refused n; shared = s; point = p; store = none }
 
   pub refusal-leaves : (n : ℕ) → out (refused E h n) ≡ afterRefusal n
-  unfolding carriedOut readIn freed takingOne afterRefusal
+  unfolding carriedOut readIn freed setAll afterRefusal
   refusal-leaves n = refl
 
   -- ---- filling
@@ -56,7 +56,7 @@ module _ (E : Edition) (m : Memory) (s : Shared) (p : Point) where
       }
 
   pub fill-leaves : (k : ℕ) → out (fill E m s p k) ≡ afterFill k
-  unfolding carriedOut readIn freed takingOne fill afterFill
+  unfolding carriedOut readIn freed setAll fill afterFill
   fill-leaves k = refl
 
   -- ---- committing
@@ -74,7 +74,7 @@ module _ (E : Edition) (m : Memory) (s : Shared) (p : Point) where
       }
 
   pub commit-leaves : h .place .slot < E .blockWords → out (commit E h) ≡ afterCommit
-  unfolding carriedOut readIn freed takingOne commit afterCommit
+  unfolding carriedOut readIn freed setAll commit afterCommit
   commit-leaves l = let at = in-block E (h .place .block) (h .place .slot) l in rw (at .0, at .1)
 
   unfoldable pub afterGiveUp : ℕ → Outcome
@@ -82,7 +82,7 @@ module _ (E : Edition) (m : Memory) (s : Shared) (p : Point) where
       record { step = Refused n; shared = withTaken s (withoutRun E (s .taken) w); point = pointOf (writing h noWrite) (p .table) noText; store = none }
 
   pub give-up-leaves : (n : ℕ) → out (giveUp E h n) ≡ afterGiveUp n
-  unfolding carriedOut readIn freed takingOne giveUp afterGiveUp
+  unfolding carriedOut readIn freed setAll giveUp afterGiveUp
   give-up-leaves n = refl
 
   -- ---- moving on
@@ -96,17 +96,17 @@ module _ (E : Edition) (m : Memory) (s : Shared) (p : Point) where
       record { step = Moved; shared = s; point = withHead c (writing (c .head) (refillAfter E (walked .entries) w)); store = none }
 
   pub move-leaves : broken E (s .blocks) walked ≡ false → out (moveOn E m h (s .blocks)) ≡ afterMove
-  unfolding carriedOut readIn freed takingOne caughtUp
+  unfolding carriedOut readIn freed setAll caughtUp
   move-leaves e = ap out (go-on E m h (s .blocks) e)
 
   -- ---- extending
 
   unfoldable pub afterExtend : ℕ → Outcome
   afterExtend b =
-      record { step = Extending; shared = taking s b 1; point = withHead p (writing h (turned w Zeroing 0 b (w .retries))); store = none }
+      record { step = Extending; shared = withTaken s (setBlock true (s .taken) b); point = withHead p (writing h (turned w Zeroing 0 b (w .retries))); store = none }
 
   pub extend-leaves : (b : ℕ) → (b ≡ 0 → ⊥) → out (extend E h b) ≡ afterExtend b
-  unfolding carriedOut readIn freed takingOne extend afterExtend
+  unfolding carriedOut readIn freed setAll extend afterExtend
   extend-leaves zero n = absurd (n refl)
   extend-leaves (suc b) n = refl
 
@@ -120,7 +120,7 @@ module _ (E : Edition) (m : Memory) (s : Shared) (p : Point) where
       }
 
   pub zero-leaves : w .position < E .blockWords → out (zeroOut E h) ≡ afterZero
-  unfolding carriedOut readIn freed takingOne zeroOut afterZero
+  unfolding carriedOut readIn freed setAll zeroOut afterZero
   zero-leaves l = let at = in-block E (w .zeroing) (w .position) l in rw (at .0, at .1)
 
   unfoldable pub afterLink : Outcome
@@ -133,7 +133,7 @@ module _ (E : Edition) (m : Memory) (s : Shared) (p : Point) where
       }
 
   pub link-leaves : out (link E h) ≡ afterLink
-  unfolding carriedOut readIn freed takingOne link afterLink
+  unfolding carriedOut readIn freed setAll link afterLink
   link-leaves = let at = in-block E (h .place .block) 0 (omega arith) in rw (at .0, at .1)
 
   unfoldable pub afterGiveBack : Outcome
@@ -146,5 +146,5 @@ module _ (E : Edition) (m : Memory) (s : Shared) (p : Point) where
       }
 
   pub give-back-leaves : out (giveBack E h) ≡ afterGiveBack
-  unfolding carriedOut readIn freed takingOne giveBack afterGiveBack
+  unfolding carriedOut readIn freed setAll giveBack afterGiveBack
   give-back-leaves = refl

@@ -1,5 +1,5 @@
 -- Small cases of the definitions, computed, at the borders where a definition that is off by one would differ.
--- When a record fits; the search's order and its last start; an entry's used bytes; the retry count; what leaving frees; what is filled again.
+-- When a record fits; what the search finds; an entry's used bytes; the retry count; what leaving frees; what is filled again.
 use Prim.Native.Nat.{ℕ}
 use mathlib.Core.Path.{_≡_, refl}
 use mathlib.Core.List.{List, [], _∷_, _++_, map}
@@ -15,7 +15,7 @@ use Rattle.points.specs.declared.Phase.the-variants.{Idle, Filling, Refi
 use Rattle.points.specs.declared.Write.{Write}
 use Rattle.points.specs.declared.Head.{Head}
 use Rattle.points.specs.Record.{noTable, phaseNumber, fits}
-use Rattle.points.specs.Search.{search, taking}
+use Rattle.points.specs.Search.{search}
 use Rattle.points.specs.Calls.{withoutHeld}
 use Rattle.points.specs.Stepping.{retried, refillAfter, entryFor}
 
@@ -81,25 +81,20 @@ table-fits = refl
 -- ---- the search
 
 -- 8 blocks; the map's word has a bit for each taken block
-abbrev shared : ℕ → ℕ → Shared
-shared bits next = record { blocks = 8; taken = bits ∷ replicate 15 0; joined = 0; next = next }
+abbrev shared : ℕ → Shared
+shared bits = record { blocks = 8; taken = bits ∷ replicate 15 0; joined = 0 }
 
--- blocks 0 and 1 taken: from the next place on; the last start; back to 1, passing it by, where the run would not fit
-search-order : search (shared 3 4) 2 ∷ search (shared 3 6) 2 ∷ search (shared 3 7) 2 ∷ search (shared 3 7) 1 ∷ search (shared 3 1) 3
-    ∷ search (shared 3 5) 3 ∷ search (shared 3 6) 3 ∷ [] ≡ 4 ∷ 6 ∷ 2 ∷ 7 ∷ 2 ∷ 5 ∷ 2 ∷ []
+-- blocks 0 and 1 taken: the first blocks of the one stretch, 2 to 7; seven are not there. Block 0 is in no stretch, taken or not
+search-first : map (search (shared 3)) (1 ∷ 2 ∷ 3 ∷ 6 ∷ 7 ∷ []) ++ map (search (shared 0)) (1 ∷ 7 ∷ 8 ∷ []) ++ (search (shared 2) 1 ∷ [])
+    ≡ 2 ∷ 2 ∷ 2 ∷ 2 ∷ 0 ∷ 1 ∷ 1 ∷ 0 ∷ 2 ∷ []
 unfolding computing
-search-order = refl
+search-first = refl
 
--- block 4 taken too: a run over it is none, at either of its blocks; with all but 7 taken only one block is found, with all taken none
-search-taken : search (shared 0x13 3) 2 ∷ search (shared 0x13 4) 1 ∷ search (shared 0x13 2) 3 ∷ search (shared 0x7F 1) 1 ∷ search (shared 0x7F 1) 2
-    ∷ search (shared 0xFF 1) 1 ∷ [] ≡ 5 ∷ 5 ∷ 5 ∷ 7 ∷ 0 ∷ 0 ∷ []
+-- block 4 taken too: a run over it is none; with all but 7 taken only one block is found, with all taken none
+search-taken : map (search (shared 0x13)) (1 ∷ 2 ∷ 3 ∷ 4 ∷ []) ++ map (search (shared 0x7F)) (1 ∷ 2 ∷ []) ++ (search (shared 0xFF) 1 ∷ [])
+    ≡ 2 ∷ 2 ∷ 5 ∷ 0 ∷ 7 ∷ 0 ∷ 0 ∷ []
 unfolding computing
 search-taken = refl
-
--- the run is taken whole, and the next place is the block after it, or 1 past the end
-run-taken : take 1 (taking (shared 3 2) 3 3 .taken) ++ (taking (shared 3 2) 3 3 .next ∷ taking (shared 3 2) 5 3 .next ∷ []) ≡ 0x3B ∷ 6 ∷ 1 ∷ []
-unfolding computing
-run-taken = refl
 
 -- ---- the entry of a write
 

@@ -50,12 +50,9 @@ ors-any a (b ∷ bs) = ors-any (a || b) bs ∙ or-assoc a b (any bs)
 
 pub shared-tests :
     (E : Edition) (words : List ℕ) (s : Shared)
-    → (not (between 4 (s .blocks) 1024) || not (eqb (E .blockWords * s .blocks) (length words))) || not (leb 1 (s .next) && ltb (s .next) (s .blocks))
-    ≡ badShared E words s
+    → not (between 4 (s .blocks) 1024) || not (eqb (E .blockWords * s .blocks) (length words)) ≡ badShared E words s
 unfolding badShared
-shared-tests E words s =
-    ors-any (not (between 4 (s .blocks) 1024))
-    (not (eqb (E .blockWords * s .blocks) (length words)) ∷ not (leb 1 (s .next) && ltb (s .next) (s .blocks)) ∷ [])
+shared-tests E words s = ors-any (not (between 4 (s .blocks) 1024)) (not (eqb (E .blockWords * s .blocks) (length words)) ∷ [])
 
 -- ---- the head
 

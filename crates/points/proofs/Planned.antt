@@ -2,11 +2,12 @@
 use Prim.Native.Nat.{ℕ, zero, suc, _^_, _<_}
 use mathlib.Core.Path.{_≡_, refl, sym, ap, subst, _∙_}
 use mathlib.Core.Bool.{Bool, true, false}
-use mathlib.Core.List.{List}
+use mathlib.Core.List.{List, [], _∷_}
 use lib.Dec.{ltb}
 use Rattle.words.specs.Edition.{Edition}
 use Rattle.words.specs.Logic.{isZero, first}
 use Rattle.words.specs.Memory.{Memory, memory, put}
+use Rattle.words.specs.BlockMap.{setAll}
 use Rattle.words.proofs.Sizes.{from-block}
 use Rattle.log.specs.declared.Shared.{Shared}
 use Rattle.log.specs.Chain.{nextIndex}
@@ -19,7 +20,7 @@ use Rattle.points.specs.declared.LentStepped.{LentStepped}
 use Rattle.points.specs.declared.Stepped.{Stepped}
 use Rattle.points.specs.declared.plan.Plan.{Plan}
 use Rattle.points.specs.Record.{isZeroing, runWords, fileAt, pointOf, standing}
-use Rattle.points.specs.Search.{sharedOf, numbersOf, withNext, takingOne}
+use Rattle.points.specs.Search.{sharedOf, numbersOf, withTaken}
 use Rattle.points.specs.Fill.{nextWord}
 use Rattle.points.specs.Plan.{readIn, textAfter, freed, wordFrom, answered, carriedOut}
 use Rattle.points.specs.Stepping.{commit, giveUp, extend, zeroOut, link, giveBack, moveOn, atEnd, committing, extending}
@@ -113,28 +114,28 @@ word-from-put E words b i value = rw (from-block E b i)
 
 pub carried-out :
     (E : Edition) (m : Memory) (n : Numbers) (taken : List ℕ) (plan : Plan) (p : Point) (h : Head)
-    (released taken′ table text : List ℕ) (next length word : ℕ)
+    (released taken′ table text : List ℕ) (length word : ℕ)
     → released ≡ freed (plan .frees) E taken (p .head .write) (p .table)
-    → sharedOf (withNext n next) taken′ ≡ takingOne (sharedOf n released) (plan .takes)
+    → taken′ ≡ setAll true released (plan .takes ∷ [])
     → record { table = table; size = length } ≡ readIn (plan .reads) E m (n .blocks) (p .head .place) (plan .value) (fileAt (p .head) (p .table))
     → text ≡ textAfter (plan .clears) (p .text) → h ≡ standing (p .head) length (plan .place) (plan .write)
-    → steppedOf n (record { step = plan .step; next = next; head = h; word = word }) taken′ table text
+    → steppedOf n (record { step = plan .step; head = h; word = word }) taken′ table text
     ≡ answered (carriedOut E m (sharedOf n taken) p plan)
 unfolding carriedOut
-carried-out E m n taken plan p h released taken′ table text next length word r k f t e = rw (e, t, k, r) (ap left-by f)
+carried-out E m n taken plan p h released taken′ table text length word r k f t e = rw (e, t, k, r) (ap left-by f)
   where
     left-by : Mapped → Stepped
     left-by g =
         record {
           step = plan .step;
-          shared = takingOne (sharedOf n (freed (plan .frees) E taken (p .head .write) (p .table))) (plan .takes);
+          shared = sharedOf n (setAll true (freed (plan .frees) E taken (p .head .write) (p .table)) (plan .takes ∷ []));
           point = pointOf (standing (p .head) (g .size) (plan .place) (plan .write)) (g .table) (textAfter (plan .clears) (p .text));
         }
 
 -- the same with a whole shared record
 pub whole-step :
     (words : List ℕ) (s : Shared) (p : Point) (n : Numbers) (r : LentStepped) (taken table text image : List ℕ) (t : Shared) → n ≡ numbersOf s
-    → t ≡ sharedOf (withNext (numbersOf s) (r .next)) taken
+    → t ≡ withTaken s taken
     → StepLeaves words (sharedOf n (s .taken)) p (steppedOf n r taken table text) image
     → StepLeaves words s p (record { step = r .step; shared = t; point = pointOf (r .head) table text }) image
 whole-step words s p n r taken table text image t e f h = rw f (rw e at h)

@@ -6,13 +6,12 @@ use mathlib.Core.Bool.{true, false, _&&_}
 use mathlib.Core.List.{List, [], _∷_}
 use lib.ListN.{length, getD}
 use lib.Dec.{leb, ltb}
-use borrow.Author.Tests.{leb-true, ltb-true, ltb-false, eqb-true, not-true, not-false, le-leb, lt-ltb, eq-eqb}
+use borrow.Author.Tests.{leb-true, ltb-true, ltb-false, eqb-true, not-true, not-false, le-leb, eq-eqb}
 use Rattle.words.specs.Edition.{Edition, fileEnd, chainMax}
 use Rattle.points.proofs.Spans.{lies}
 use Rattle.words.specs.Logic.{between, all-of}
 use Rattle.words.proofs.Logic.{and-left, and-right, and-both, every-all, any-none, none-any}
 use Rattle.words.proofs.Tests.{not-of}
-use Rattle.points.proofs.Free.{Searchable}
 use Rattle.words.proofs.Choice.{choose-true, choose-false}
 use Rattle.log.specs.declared.Place.{Place}
 use Rattle.log.specs.declared.Shared.{Shared}
@@ -35,34 +34,25 @@ pub record SharedFits (E : Edition) (words : List ℕ) (s : Shared) : Type 0 whe
   pub some-blocks : 4 ≤ s .blocks
   pub few-blocks : s .blocks ≤ 1024
   pub whole : E .blockWords * s .blocks ≡ length words
-  pub next-some : 1 ≤ s .next
-  pub next-inside : s .next < s .blocks
 
 pub shared-facts : (E : Edition) (words : List ℕ) (s : Shared) → badShared E words s ≡ false → SharedFits E words s
 unfolding badShared
 shared-facts E words s e =
     let f = any-none _ e in
     let b = between-facts 4 (s .blocks) 1024 (not-false _ (f .0)) in
-    let n : leb 1 (s .next) && ltb (s .next) (s .blocks) ≡ true = not-false _ (f .1 .1 .0) in
     record {
       some-blocks = b .0;
       few-blocks = b .1;
       whole = eqb-true (E .blockWords * s .blocks) (length words) (not-false _ (f .1 .0));
-      next-some = leb-true 1 (s .next) (and-left (leb 1 (s .next)) (ltb (s .next) (s .blocks)) n);
-      next-inside = ltb-true (s .next) (s .blocks) (and-right (leb 1 (s .next)) (ltb (s .next) (s .blocks)) n);
     }
 
 -- and back
 pub shared-fits :
-    (E : Edition) (words : List ℕ) (s : Shared) → 4 ≤ s .blocks → s .blocks ≤ 1024 → E .blockWords * s .blocks ≡ length words → Searchable s
-    → badShared E words s ≡ false
+    (E : Edition) (words : List ℕ) (s : Shared) → 4 ≤ s .blocks → s .blocks ≤ 1024 → E .blockWords * s .blocks ≡ length words → badShared E words s ≡ false
 unfolding badShared
-shared-fits E words s some few whole next = none-any _ (
+shared-fits E words s some few whole = none-any _ (
   not-of _ (and-both _ _ (le-leb 4 (s .blocks) some) (le-leb (s .blocks) 1024 few)),
-  (
-    not-of _ (eq-eqb (E .blockWords * s .blocks) (length words) whole),
-    (not-of _ (and-both _ _ (le-leb 1 (s .next) (next .0)) (lt-ltb (s .next) (s .blocks) (next .1))), tt),
-  ),
+  (not-of _ (eq-eqb (E .blockWords * s .blocks) (length words) whole), tt),
 )
 
 -- ---- 16 and 17

@@ -29,7 +29,7 @@ use Rattle.points.specs.declared.plan.Frees.{Frees}
 use Rattle.points.specs.declared.plan.Frees.the-variants.{NoBlock, Run, Replaced, Zeroed}
 use Rattle.points.specs.declared.plan.Plan.{Plan}
 use Rattle.points.specs.Record.{textMax, runFirst, runBlocks, runWords, pointOf, recordReasons, brokenAhead}
-use Rattle.points.specs.Search.{sharedOf, withNext}
+use Rattle.points.specs.Search.{sharedOf}
 use Rattle.points.specs.Plan.{storedAt}
 use Rattle.points.specs.Stepping.{stepRefusal, stepping, StepLeaves}
 use Rattle.points.specs.Reading.{seen}
@@ -39,10 +39,10 @@ use Rattle.points.specs.Reading.{seen}
 abbrev pub begunOf : LentBegun → List ℕ → List ℕ → Begun
 begunOf left table text = record { reply = left .reply; shared = left .shared; point = pointOf (left .head) table text }
 
--- a step changes the next place and the map alone of the shared record
+-- a step changes the map alone of the shared record
 abbrev pub steppedOf : Numbers → LentStepped → List ℕ → List ℕ → List ℕ → Stepped
 steppedOf n left taken table text =
-    record { step = left .step; shared = sharedOf (withNext n (left .next)) taken; point = pointOf (left .head) table text }
+    record { step = left .step; shared = sharedOf n taken; point = pointOf (left .head) table text }
 
 -- the image after a store, if there is one, and which word of it was stored
 pub record Stores (words : List ℕ) (store : Option Store) (image : List ℕ) (word : ℕ) : Type 0 where

@@ -1,7 +1,7 @@
 -- A plan: what a step is to do, a field for each thing, settled before anything changes; and what carrying it out leaves.
 use Prim.Native.Nat.{ℕ, _+_, _*_, _/_, _%_}
 use mathlib.Core.Bool.{Bool, true, false}
-use mathlib.Core.List.{List}
+use mathlib.Core.List.{List, [], _∷_}
 use mathlib.Core.Option.{Option, none, some}
 use lib.ListN.{take, drop}
 use Rattle.words.specs.Edition.{Edition}
@@ -24,7 +24,7 @@ use Rattle.points.specs.declared.plan.Kind.{Kind}
 use Rattle.points.specs.declared.plan.Kind.the-variants.{NoStore, Fill, Zero, Entry, Link}
 use Rattle.points.specs.declared.plan.Plan.{Plan}
 use Rattle.points.specs.Record.{noText, runFirst, runBlocks, fileAt, standing, pointOf}
-use Rattle.points.specs.Search.{withTaken, takingOne}
+use Rattle.points.specs.Search.{withTaken}
 
 -- ---- two kinds of plan
 
@@ -123,14 +123,14 @@ pub record Outcome : Type 0 where
 abbrev pub answered : Outcome → Stepped
 answered o = record { step = o .step; shared = o .shared; point = o .point }
 
--- what carrying out a plan leaves: blocks become free, then one is taken; an own entry that is read in is the value stored
+-- what carrying out a plan leaves: blocks become free, then one is taken, 0 for none; an own entry that is read in is the value stored
 unfoldable pub carriedOut : Edition → Memory → Shared → Point → Plan → Outcome
 carriedOut E m s p plan =
     let h = p .head in
     let f = readIn (plan .reads) E m (s .blocks) (h .place) (plan .value) (fileAt h (p .table)) in
     record {
       step = plan .step;
-      shared = takingOne (withTaken s (freed (plan .frees) E (s .taken) (h .write) (p .table))) (plan .takes);
+      shared = withTaken s (setAll true (freed (plan .frees) E (s .taken) (h .write) (p .table)) (plan .takes ∷ []));
       point = pointOf (standing h (f .size) (plan .place) (plan .write)) (f .table) (textAfter (plan .clears) (p .text));
       store = storeOf E (plan .kind) (plan .block) (plan .word) (plan .value);
     }

@@ -165,7 +165,7 @@ fn at_end(numbers: Numbers, taken: &[u64; 16], head: Head) -> Plan
     if 64 <= head.place.passed {
         return give_up(head, crate::LOG_FULL);
     }
-    let b = crate::shared::search_lent(numbers, taken, 1);
+    let b = words::map::search(taken, numbers.blocks, 1);
     if b == 0 {
         return give_up(head, crate::NO_LOG_BLOCK);
     }

@@ -38,13 +38,11 @@ fn inside(blocks: u32, b: u32, n: u32) -> bool
     (1 <= b) & (b as u64 + n as u64 <= blocks as u64)
 }
 
-// 10. The shared record's block count is not 4 to 1,024, 64 times it is not the image's length, or the next place is not a block from 1 on.
+// 10. The shared record's block count is not 4 to 1,024, or 64 times it is not the image's length.
 pub fn bad_numbers(image: &[u64], numbers: Numbers) -> bool
     ensures { λ r. ⌜ ((taken : List ℕ) → r ≡ badShared one (now (image .entry)) (sharedOf numbers taken)) ⌝ }
 {
-    !between(4, numbers.blocks, 1024)
-        | (64 * numbers.blocks as usize != image.len())
-        | !((1 <= numbers.next) & (numbers.next < numbers.blocks))
+    !between(4, numbers.blocks, 1024) | (64 * numbers.blocks as usize != image.len())
 }
 
 // The same of a whole shared record.

@@ -1,9 +1,10 @@
 // Changes of the shared record: points that join or leave, blocks that are taken or become free.
 ghost use mathlib.Core.Path.{_≡_};
 ghost use mathlib.Core.Bool.{true, false};
+ghost use mathlib.Core.List.{[], _∷_};
 ghost use Prim.Native.Nat.{_<_};
-ghost use Rattle.words.specs.BlockMap.{withBit};
-ghost use Rattle.points.specs.Search.{search, nextAfter, taking, takingOne, withJoined, withTaken, withNext, numbersOf, sharedOf};
+ghost use Rattle.words.specs.BlockMap.{withBit, setRun, setAll};
+ghost use Rattle.points.specs.Search.{search, withJoined, withTaken, numbersOf};
 use crate::Numbers;
 use log::Shared;
 
@@ -48,69 +49,30 @@ pub fn numbers(shared: Shared) -> Numbers
     Numbers {
         blocks: shared.blocks,
         joined: shared.joined,
-        next: shared.next,
     }
 }
 
 // A run of n free blocks: its first block, 0 where there is none.
-pub(crate) fn search_lent(numbers: Numbers, taken: &[u64; 16], n: u32) -> u32
-    ensures { λ r. ⌜ r ≡ search (sharedOf numbers (now (taken .entry))) n ⌝ }
-{
-    words::map::search(
-        taken,
-        numbers.blocks as usize,
-        numbers.next as usize,
-        n as usize,
-    ) as u32
-}
-
-// The same in a whole shared record.
 pub(crate) fn search(shared: Shared, n: u32) -> u32
     ensures { λ r. ⌜ r ≡ search shared n ⌝ }
 {
-    search_lent(numbers(shared), &shared.taken, n)
+    words::map::search(&shared.taken, shared.blocks, n)
 }
 
-// The next place: a block, or 1 past the end.
-pub(crate) fn next_after(blocks: u32, b: u64) -> u32
-    ensures { λ r. ⌜ r ≡ nextAfter blocks b ⌝ }
-{
-    if b < blocks as u64 {
-        return b as u32;
-    }
-    1
-}
-
-// The shared record with another map and next place.
-pub(crate) fn with_map(shared: Shared, taken: [u64; 16], next: u32) -> Shared
-    ensures { λ r. ⌜ r ≡ sharedOf (withNext (numbersOf shared) next) taken ⌝ }
-{
-    let mut s = shared;
-    s.taken = taken;
-    s.next = next;
-    s
-}
-
-// The shared record with a run taken, and the next place after it.
+// The shared record with a run taken.
 pub(crate) fn take(shared: Shared, run: u32, n: u32) -> Shared
-    ensures { λ r. ⌜ r ≡ taking shared run n ⌝ }
+    ensures { λ r. ⌜ r ≡ withTaken shared (setRun true (shared .taken) run n) ⌝ }
 {
     let mut map = shared.taken;
     words::map::take_run(&mut map, run as usize, n as usize);
-    with_map(
-        shared,
-        map,
-        next_after(shared.blocks, run as u64 + n as u64),
-    )
+    with_taken(shared, map)
 }
 
-// A block is taken, 0 for none, and the next place answered.
-pub(crate) fn take_one(numbers: Numbers, taken: &mut [u64; 16], b: u32) -> u32
-    ensures { λ r. ⌜ sharedOf (withNext numbers r) (now (taken .exit)) ≡ takingOne (sharedOf numbers (now (taken .entry))) b ⌝ }
+// A block is taken, 0 for none.
+pub(crate) fn take_one(taken: &mut [u64; 16], b: u32)
+    ensures { λ _. ⌜ now (taken .exit) ≡ setAll true (now (taken .entry)) (b ∷ []) ⌝ }
 {
-    if b == 0 {
-        return numbers.next;
+    if b != 0 {
+        words::map::take_block(taken, b as usize);
     }
-    words::map::take_run(taken, b as usize, 1);
-    next_after(numbers.blocks, b as u64 + 1)
 }

@@ -167,7 +167,7 @@ pub fn step_lent(
     let plan = settle(image, numbers, taken, head, table, text);
     let frees = plan.frees;
     crate::release::release(taken, frees, head.write, table);
-    let next = crate::shared::take_one(numbers, taken, plan.takes);
+    crate::shared::take_one(taken, plan.takes);
     let reads = plan.reads;
     let length = read_in(
         image,
@@ -185,7 +185,6 @@ pub fn step_lent(
     let answer = plan.step;
     LentStepped {
         step: answer,
-        next,
         head: left,
         word,
     }
@@ -205,7 +204,7 @@ pub fn step(image: &mut [u64], shared: Shared, point: Point) -> Stepped
     let head = left.head;
     Stepped {
         step: answer,
-        shared: crate::shared::with_map(shared, taken, left.next),
+        shared: crate::shared::with_taken(shared, taken),
         point: Point { head, table, text },
     }
 }

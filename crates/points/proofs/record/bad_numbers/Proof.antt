@@ -16,7 +16,7 @@ mul-result : tie.Need-mul-result
 mul-result c = search needs
 
 returns : tie.Need-returns
-returns c taken = let a = c .before .before .before .before .before .args in cc (shared-tests one (a .image .now) (sharedOf (a .numbers) taken))
+returns c taken = let a = c .before .before .before .args in cc (shared-tests one (a .image .now) (sharedOf (a .numbers) taken))
 
 pub bad-numbers-spec : {M : Type 1} → statement M
 bad-numbers-spec = tie.close (tie.spec between-requires cast-result mul-result returns)

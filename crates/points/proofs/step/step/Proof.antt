@@ -5,7 +5,7 @@ use Rattle.points.proofs.step.step.Statement.{statement}
 use Rattle.points.proofs.step.step.Tie as tie
 
 -- the way back, call by call
-abbrev stepped : tie.After-with-map → tie.After-step-lent
+abbrev stepped : tie.After-with-taken → tie.After-step-lent
 stepped c = c .before .before .before .before
 
 abbrev lent : tie.After-step-lent → tie.After-text
@@ -20,8 +20,8 @@ numbers-requires c κs = search needs
 step-lent-requires : tie.Need-step-lent-requires
 step-lent-requires c κs = search needs
 
-with-map-requires : tie.Need-with-map-requires
-with-map-requires c κs = search needs
+with-taken-requires : tie.Need-with-taken-requires
+with-taken-requires c κs = search needs
 
 same-length : tie.Need-same-length
 same-length c = search needs
@@ -31,8 +31,8 @@ returns c =
     let s = stepped c in
     let n = numbered (lent s) in
     let a = n .before .before .args in
-    whole-step (a .image .now) (a .shared) (a .point) (n .numbers .result) (s .step-lent .result) _ _ _ _ (c .with-map .result)
-    (n .numbers .ensures) (c .with-map .ensures) (s .step-lent .ensures .leaves)
+    whole-step (a .image .now) (a .shared) (a .point) (n .numbers .result) (s .step-lent .result) _ _ _ _ (c .with-taken .result)
+    (n .numbers .ensures) (c .with-taken .ensures) (s .step-lent .ensures .leaves)
 
 pub step-spec : {M : Type 1} → statement M
-step-spec = tie.close (tie.spec numbers-requires step-lent-requires with-map-requires same-length returns)
+step-spec = tie.close (tie.spec numbers-requires step-lent-requires with-taken-requires same-length returns)

@@ -89,7 +89,7 @@ returns c =
       leaves =
           record {
             answers = carried-out one m (a .numbers) (a .taken .now) (plan .settle .result) p (c .head-of .result) (map .release .last .0)
-                (block .take-one .last .1 .0) (table .read-in .last .1 .1 .1 .0) (text .keep-text .last .0) (block .take-one .result)
+                (block .take-one .last .0) (table .read-in .last .1 .1 .1 .0) (text .keep-text .last .0)
                 (table .read-in .result) (put .result) (map .release .ensures) (block .take-one .ensures) (table .read-in .ensures)
                 (text .keep-text .ensures) (c .head-of .ensures)
                 ∙ ap (λ (x : Plan). answered (carriedOut one m s p x)) e;
