@@ -10,7 +10,7 @@ use mathlib.Core.Bool.{Bool, true, false, not, _&&_}
 use mathlib.Core.List.{List, [], _∷_, _++_}
 use mathlib.Core.Option.{Option, none, some}
 use lib.ListN.{length, drop, length-set, length-drop, take-append-drop}
-use lib.Dec.{leb, ltb, eqb}
+use lib.Dec.{ltb, eqb}
 use borrow.Author.Tests.{eqb-true, ltb-true}
 use Rattle.words.specs.Edition.{Edition, blocksMin, blocksMax}
 use Rattle.words.specs.Logic.{between, any, every, first, _when_}
@@ -77,11 +77,7 @@ pub record CutServed : Type 0 where
 
 -- `badShared` by how many words the image has
 unfoldable pub badSharedIn : Edition → ℕ → Shared → Bool
-badSharedIn E n s =
-    any (not (between blocksMin (s .blocks) blocksMax)
-    ∷ not (eqb (E .blockWords * s .blocks) n)
-    ∷ not (leb 1 (s .next) && ltb (s .next) (s .blocks))
-    ∷ [])
+badSharedIn E n s = any (not (between blocksMin (s .blocks) blocksMax) ∷ not (eqb (E .blockWords * s .blocks) n) ∷ [])
 
 -- `stepRefusal` by how many words the image has, and by whether the table fits; and the step
 unfoldable pub refusalIn : Edition → ℕ → Bool → Shared → Head → ℕ

@@ -15,7 +15,7 @@ use Rattle.log.specs.Chain.{log}
 use Rattle.log.specs.Opening.{numberOf, layoutRefusal, layout, openRefusal, fileOf, nobodyJoined, opened, openedFile}
 use Rattle.points.specs.declared.Head.{Head}
 use Rattle.points.specs.Record.{headOf, noPoint, noWrite, noTable, unfit}
-use Rattle.points.specs.Search.{sharedOf, numbersOf, withNext, withJoined}
+use Rattle.points.specs.Search.{withJoined, search}
 use Rattle.recovery.specs.World.{World, Call, join, begin, Event, world, events}
 use Rattle.recovery.specs.History.{enough, openWorld, alone, finishes}
 use Rattle.recovery.specs.Claim.{runMost, loneSteps}
@@ -71,8 +71,9 @@ sessionCases E W es w =
     ∷ (fields E 0x00200A0200020000 ++ fields E 0x0040180100040001 is 0 ∷ 2 ∷ 2 ∷ 10 ∷ 1 ∷ 0 ∷ 1 ∷ 4 ∷ 1 ∷ 24 ∷ 2 ∷ 0 ∷ [])
     -- both texts, with bytes 10 and 11 of virtual block 1 between them
     ∷ (openedFile E (w .words) is replicate (8 * W - 10) 0 ++ firstText ++ (0 ∷ 0 ∷ []) ++ secondText)
-    -- the length; block 3 is free again in the map
-    ∷ (fileOf E (memory E (w .words)) .size ∷ freeCount (w .shared .taken) 8 ∷ w .shared .next ∷ [] is (8 * W + 24) ∷ 4 ∷ 5 ∷ [])
+    -- the length; block 3 is free again in the map, and the next to be taken; two free blocks are 5 and 6
+    ∷ (fileOf E (memory E (w .words)) .size ∷ freeCount (w .shared .taken) 8 ∷ search (w .shared) 1 ∷ search (w .shared) 2 ∷ []
+    is (8 * W + 24) ∷ 4 ∷ 3 ∷ 5 ∷ [])
     -- block 4: bytes 11 to 18 of point 1's text, copied; its 19 and 20, two zeros, 101 to 104; 105 to 112, point 2's alone
     ∷ (wordAt (memory E (w .words)) 4 0 ∷ wordAt (memory E (w .words)) 4 1 ∷ wordAt (memory E (w .words)) 4 2 ∷ wordAt (memory E (w .words)) 4 3 ∷ []
     is 0x1211100F0E0D0C0B ∷ 0x6867666500001413 ∷ 0x706F6E6D6C6B6A69 ∷ 0 ∷ [])
@@ -109,9 +110,7 @@ abbrev pub headWith : ℕ → ℕ → Head
 headWith length slot = headOf 0 length (record { block = 1; slot = slot; passed = 1 }) noWrite
 
 abbrev pub leaveReason : Edition → ℕ → ℕ → ℕ → ℕ
-leaveReason E blocks length slot =
-    let s = withJoined (nobodyJoined blocks (3 ∷ replicate 15 0)) 1 in
-    unfit E (laid two 4) (sharedOf (withNext (numbersOf s) 2) (s .taken)) (headWith length slot) noTable
+leaveReason E blocks length slot = unfit E (laid two 4) (withJoined (nobodyJoined blocks (3 ∷ replicate 15 0)) 1) (headWith length slot) noTable
 
 -- a point joins on 4 blocks and begins a write of two bytes at this offset, then one of a single byte
 abbrev pub twoOrOne : Edition → ℕ → List ℕ

@@ -51,7 +51,7 @@ is-inside B b n h k = and-both (leb 1 b) (leb (b + n) B) (le-leb 1 b h) (le-leb 
 
 module _ {E : Edition} {L : List ℕ} (w : W.World) (bk : Book) (h : Tied E L w bk) where
   pub shared-ok : badShared E (w .words) (w .shared) ≡ false
-  shared-ok = shared-fits E (w .words) (w .shared) (h .inv .core .image .least) (h .inv .core .image .most) (sym (h .inv .core .image .size)) (h .searchable)
+  shared-ok = shared-fits E (w .words) (w .shared) (h .inv .core .image .least) (h .inv .core .image .most) (sym (h .inv .core .image .size))
 
   from-1 : (b : ℕ) → h .inv .own b ≢ super → 1 ≤ b
   from-1 b x = go (decLe 1 b)

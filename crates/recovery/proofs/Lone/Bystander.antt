@@ -13,7 +13,6 @@ use Rattle.points.specs.declared.Joined.{Joined}
 use Rattle.points.specs.declared.Begun.{Begun}
 use Rattle.points.specs.declared.Left.{Left}
 use Rattle.points.specs.Record.{isJoined, isIdle, unfit}
-use Rattle.points.specs.Search.{taking}
 use Rattle.points.specs.Calls.{joining, joinRefusal, beginning, beginRefusal, leaving}
 use Rattle.recovery.specs.World.{World, join, begin, leave, handed, withNewest, joinedAs, serve}
 use Rattle.recovery.specs.Book.{Book}
@@ -48,7 +47,7 @@ module _ {E : Edition} {L : List ℕ} (w : World) (bk : Book) (h : Tied E L w bk
 
   pub begin-kept : (k : ℕ) (p : PP.Point) (o : ℕ) (text : List ℕ) → ((i : ℕ) → getD text i 0 < 256)
       → Kept w (serve E w (begin k p o text) .world) n
-  unfolding serve taking
+  unfolding serve
   begin-kept k p o text bytes = go (beginRefusal E (w .words) (w .shared) (y .head) (y .table) o (length text)) refl
     where
       y : PP.Point
