@@ -1,5 +1,6 @@
 //! Times of the store beside others, in one run with the same inputs.
 
+pub mod beginning;
 pub mod column;
 pub mod growth;
 #[cfg(feature = "library")]

@@ -1,5 +1,6 @@
 /* The loops that call the library, as a C program writes them. Records are lent as memory of the caller; Rust sees only their sizes. */
 #include <cpuid.h>
+#include <string.h>
 
 #include "store.h"
 
@@ -39,6 +40,15 @@ uint32_t bench_step(uint64_t *image, size_t words, store_shared *shared, store_p
 }
 
 void bench_rewind(store_point *points, uint32_t number) { points[number].head.position = 0; }
+
+void bench_map(const store_shared *shared, uint64_t map[16]) { memcpy(map, shared->taken, sizeof shared->taken); }
+
+/* The point is idle, as if it had begun nothing, and the map is that one. */
+void bench_put_back(store_shared *shared, store_point *points, uint32_t number, const uint64_t map[16])
+{
+    memcpy(shared->taken, map, sizeof shared->taken);
+    points[number].head.phase = STORE_IDLE;
+}
 
 /* The 64 fills of a write of a whole block, that many times; 0, or 1 when a step did not store. */
 uint32_t bench_fill_block(uint64_t *image, size_t words, store_shared *shared, store_point *points, size_t times)

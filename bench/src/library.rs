@@ -22,6 +22,8 @@ extern "C" {
     ) -> u32;
     fn bench_step(image: *mut u64, words: usize, shared: *mut u64, points: *mut u64, number: u32) -> u32;
     fn bench_rewind(points: *mut u64, number: u32);
+    fn bench_map(shared: *const u64, map: *mut u64);
+    fn bench_put_back(shared: *mut u64, points: *mut u64, number: u32, map: *const u64);
     fn bench_fill_block(image: *mut u64, words: usize, shared: *mut u64, points: *mut u64, times: usize) -> u32;
     fn bench_turns(
         image: *mut u64,
@@ -188,5 +190,15 @@ impl Store for Library {
 
     fn tally(&self) -> [u64; 6] {
         self.tally
+    }
+
+    fn map(&self) -> Map {
+        let mut map = [0; 16];
+        unsafe { bench_map(self.shared.as_ptr(), map.as_mut_ptr()) };
+        map
+    }
+
+    fn put_back(&mut self, number: usize, map: &Map) {
+        unsafe { bench_put_back(self.shared.as_mut_ptr(), self.points.as_mut_ptr(), number as u32, map.as_ptr()) }
     }
 }

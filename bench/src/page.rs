@@ -1,5 +1,6 @@
 //! The page: its sections, and what the run says of itself.
 
+use crate::beginning::{self, beginnings};
 use crate::column::LOG_ENTRIES;
 use crate::growth::{Image, Log, Points};
 use crate::measure::*;
@@ -173,6 +174,7 @@ pub struct Page {
     #[cfg(feature = "library")]
     written_back: (WrittenBack, Place),
     steps: (Row, Place),
+    beginnings: (Vec<Row>, Place),
     opened: (Opened, Place),
     read: (Row, Place),
     points: (Points, Place),
@@ -192,6 +194,7 @@ impl Page {
         #[cfg(feature = "library")]
         let written_back = (WrittenBack::plan(run, &writes), references.again(run, &all));
         let steps = (steps(run), references.again(run, &all));
+        let beginnings = (beginnings(run), references.again(run, &all));
         let opened = (Opened::plan(run, folder), references.again(run, &all));
         let read = (reads(run, &columns_of("read")), references.again(run, &all));
         let points = (Points::plan(run, &all, &writes), references.again(run, &all));
@@ -204,6 +207,7 @@ impl Page {
             #[cfg(feature = "library")]
             written_back,
             steps,
+            beginnings,
             opened,
             read,
             points,
@@ -222,6 +226,7 @@ impl Page {
             text += &(self.written_back.0.text(run) + &reference(self.written_back.1));
         }
         text += &(steps_text(run, &self.steps.0) + &reference(self.steps.1));
+        text += &(beginning::text(run, &self.beginnings.0) + &reference(self.beginnings.1));
         text += &(self.opened.0.text(run, &self.columns) + &reference(self.opened.1));
         text += "## Reading\n\n";
         text += &table::text(&head("", &self.columns), &[self.read.0.cells(run)]);

@@ -5,7 +5,7 @@ use crate::store::*;
 use ::second::calls;
 use ::second::image::lay_out;
 use ::second::open::open;
-use ::second::record::{Record, Shared};
+use ::second::record::{Phase, Record, Shared};
 use ::second::step::{step, Answer};
 
 pub struct Second {
@@ -104,5 +104,14 @@ impl Store for Second {
 
     fn tally(&self) -> [u64; 6] {
         self.tally
+    }
+
+    fn map(&self) -> Map {
+        self.shared.map
+    }
+
+    fn put_back(&mut self, number: usize, map: &Map) {
+        self.shared.map = *map;
+        self.points[number].write.phase = Phase::Idle;
     }
 }

@@ -11,6 +11,9 @@ pub const EXTENDING: usize = 3;
 pub const COMMITTED: usize = 4;
 pub const REFUSED: usize = 5;
 
+/// A map of taken blocks, a bit each.
+pub type Map = [u64; 16];
+
 /// An implementation with its image, its records and a tally of its steps'
 /// answers by kind. Every call panics where the implementation refuses.
 pub trait Store {
@@ -36,6 +39,17 @@ pub trait Store {
     fn turns(&mut self, first: usize, count: usize, text: &[u8]);
     fn read(&self, number: usize, offset: usize, buffer: &mut [u8]) -> usize;
     fn tally(&self) -> [u64; 6];
+    fn map(&self) -> Map;
+    /// The point is idle, as if it had begun nothing, and the map is that one.
+    fn put_back(&mut self, number: usize, map: &Map);
+
+    /// Steps of a point until its write is committed.
+    fn finish(&mut self, number: usize) {
+        let committed = self.tally()[COMMITTED];
+        while self.tally()[COMMITTED] == committed {
+            self.step(number);
+        }
+    }
 
     /// Laid out, and that many log entries, all by point 0 and at the writers'
     /// places in turn: the first write has `first` bytes, the others 64.
@@ -45,10 +59,7 @@ pub trait Store {
         for i in 0..entries {
             let text = text_of(if i == 0 { first } else { 64 });
             self.begin(0, APART * (i % MOST_WRITERS), &text);
-            let committed = self.tally()[COMMITTED];
-            while self.tally()[COMMITTED] == committed {
-                self.step(0);
-            }
+            self.finish(0);
         }
     }
 

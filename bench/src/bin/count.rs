@@ -2,11 +2,13 @@
 //! `count IMPLEMENTATION CALL TIMES`. Only what runs inside `measured_call`
 //! counts; everything else is put back outside of it. With the feature
 //! `bytes` it prints the calls and bytes of memcpy, memmove and memset inside.
+//! `count beginnings` prints the calls that are beginnings on different maps.
 
+use bench::beginning::{Again, Beginning};
 use bench::column::text_of;
 use bench::rows::Port;
 use bench::second::Second;
-use bench::store::Store;
+use bench::store::{Map, Store};
 
 /// The calls that can be counted.
 trait Calls {
@@ -15,10 +17,19 @@ trait Calls {
     fn call(&mut self, call: &str);
 }
 
-/// A store, and what it is put back to before each call.
+/// What a store is put back to before each call.
+enum Back<S> {
+    Nothing,
+    All(S),
+    Map(Map),
+}
+
+/// A store, and the write that is begun in it.
 struct Kept<S> {
     store: S,
-    kept: Option<S>,
+    back: Back<S>,
+    point: usize,
+    offset: usize,
     text: Vec<u8>,
     buffer: Vec<u8>,
 }
@@ -40,22 +51,29 @@ impl<S: Store> Kept<S> {
             "open" => S::with_entries(1_000, 64),
             _ => S::with_entries(0, 64),
         };
-        let kept = ["fill", "commit", "begin"].contains(&call).then(make);
-        Kept { store: make(), kept, text: text_of(512), buffer: vec![0; 1_024] }
+        let back = if ["fill", "commit", "begin"].contains(&call) { Back::All(make()) } else { Back::Nothing };
+        Kept { store: make(), back, point: 0, offset: 0, text: text_of(512), buffer: vec![0; 1_024] }
+    }
+
+    fn beginning(beginning: &Beginning) -> Kept<S> {
+        let Again { store, point, map, offset, text } = Again::of(beginning);
+        Kept { store, back: Back::Map(map), point, offset, text, buffer: Vec::new() }
     }
 }
 
 impl<S: Store> Calls for Kept<S> {
     fn prepare(&mut self) {
-        if let Some(kept) = &self.kept {
-            self.store.restore(kept);
+        match &self.back {
+            Back::Nothing => {}
+            Back::All(kept) => self.store.restore(kept),
+            Back::Map(map) => self.store.put_back(self.point, map),
         }
     }
 
     fn call(&mut self, call: &str) {
         match call {
             "fill" | "commit" => self.store.step(0),
-            "begin" => self.store.begin(0, 0, &self.text),
+            "begin" => self.store.begin(self.point, self.offset, &self.text),
             "open" => assert_eq!(self.store.open(), 1_000),
             "read" => assert_eq!(self.store.read(0, 0, &mut self.buffer), 1_024),
             _ => {}
@@ -89,6 +107,11 @@ impl Calls for ByReference {
             self.0.step_by_reference();
         }
     }
+}
+
+/// A store's calls.
+fn calls_of<S: Store + 'static>(beginning: Option<&Beginning>, call: &str) -> Box<dyn Calls> {
+    Box::new(beginning.map_or_else(|| Kept::<S>::new(call), Kept::beginning))
 }
 
 /// What callgrind counts; `nothing` is the driver's own part.
@@ -148,12 +171,18 @@ mod bytes {
 
 fn main() {
     let arguments: Vec<String> = std::env::args().skip(1).collect();
+    if arguments == ["beginnings"] {
+        Beginning::all().iter().for_each(|beginning| println!("{}", beginning.label));
+        return;
+    }
     let [implementation, call, times] = &arguments[..] else { panic!("count IMPLEMENTATION CALL TIMES") };
     let times: u64 = times.parse().expect("a number");
+    let beginning = Beginning::named(call);
+    let call = if beginning.is_some() { "begin" } else { call };
     let mut calls: Box<dyn Calls> = match implementation.as_str() {
         #[cfg(feature = "library")]
-        "library" => Box::new(Kept::<bench::library::Library>::new(call)),
-        "second" => Box::new(Kept::<Second>::new(call)),
+        "library" => calls_of::<bench::library::Library>(beginning.as_ref(), call),
+        "second" => calls_of::<Second>(beginning.as_ref(), call),
         "value" => Box::new(ByValue(Port::new())),
         "reference" => Box::new(ByReference(Port::new())),
         _ => panic!("no such implementation"),
