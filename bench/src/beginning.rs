@@ -167,11 +167,11 @@ pub fn text(run: &Run, rows: &[Row]) -> String {
     let cells: Vec<_> = rows.iter().map(|row| row.cells(run)).collect();
     format!(
         "## Beginning\n\n\
-         What the search for free blocks costs, on an image of {} blocks: a write of 512 bytes is begun that spans one block, or one of 1,024 bytes that spans three, \
-         by a point that has caught up. Empty: laid out, nothing written. Checkered: every other block is taken, the last three are free. \
-         Nearly full: all blocks are taken but three side by side. Ordinary: what {} writes of {POINTS} points leave, of which some 70 % span one block, 20 % two \
-         and 10 % three; {} other writes are under way. Before each beginning the map of taken blocks is put back and the point made idle, which is timed \
-         with it: 128 bytes are copied.\n\n",
+         What the search for free blocks costs, on an image of {} blocks: a write of 512 bytes is begun that spans one block, or one of 1,024 bytes \
+         that spans three, by a point that has caught up. Empty: laid out, nothing written. Checkered: every other block is taken, the last three \
+         are free. Nearly full: all blocks are taken but three side by side. Ordinary: what {} writes of {POINTS} points leave, of which some 70 % \
+         span one block, 20 % two and 10 % three; {} other writes are under way. Before each beginning the map of taken blocks is put back and \
+         the point made idle, which is timed with it: 128 bytes are copied.\n\n",
         table::grouped(BLOCKS),
         table::grouped(WRITES),
         POINTS - 1
