@@ -242,9 +242,6 @@ impl Bench {
         if record.view.passed == 64 {
             self.tally.event("begun in a caught-up chain of 64");
         }
-        if record.write.run < self.shared.next {
-            self.tally.event("search wrapped");
-        }
     }
 
     /// Up to `count` steps: "one line for each longest stretch of equal
@@ -429,8 +426,8 @@ impl Bench {
     }
 
     fn show_shared(&self) -> Option<String> {
-        let Shared { blocks, joined, next, map } = &self.shared;
-        Some(format!("shared {blocks} {joined} {next} {}", digest_words(map)))
+        let Shared { blocks, joined, map } = &self.shared;
+        Some(format!("shared {blocks} {joined} {}", digest_words(map)))
     }
 
     /// "the count of blocks below the shared record's block count (at most
@@ -466,7 +463,6 @@ impl Bench {
         match field {
             b"blocks" => self.shared.blocks = value,
             b"joined" => self.shared.joined = value as u32,
-            b"next" => self.shared.next = value,
             _ => return None,
         }
         Some(())

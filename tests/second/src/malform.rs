@@ -38,6 +38,7 @@ const SHAPES: [(&str, &[u64]); 26] = [
     ("free", &[]),
 ];
 
+/// Fields of both records, and words that are none; `next` is none since K2.
 const FIELDS: [&str; 18] = [
     "number", "length", "block", "slot", "passed", "offset", "textlength", "run", "position",
     "zeroing", "retries", "phase", "blocks", "joined", "next", "table", "Number", "",

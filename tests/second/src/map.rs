@@ -1,35 +1,46 @@
-//! Document 01, "A write, step by step": the search for free blocks.
+//! Document 02, K2, "Keep the long stretches": the search for free blocks.
 
 use crate::record::Shared;
 
-/// "Starts are tried from the next place up to the last fitting one, then the
-/// fitting ones from 1 to below the next place." For a fit shared record and
-/// 1 to 3 blocks.
-fn starts(shared: &Shared, count: usize) -> Vec<usize> {
-    let last = shared.blocks - count;
-    let mut starts: Vec<usize> = (shared.next..=last).collect();
-    starts.extend((1..shared.next).filter(|&start| start <= last));
-    starts
+/// Free blocks side by side: the first of them and how many they are.
+#[derive(Clone, Copy, Debug, PartialEq, Eq)]
+pub struct Stretch {
+    pub start: usize,
+    pub length: usize,
 }
 
-/// The first start whose blocks are all free.
-fn find(shared: &Shared, count: usize) -> Option<usize> {
-    starts(shared, count)
+/// "a stretch goes, from block 1 on, as far as no block is taken": all of
+/// them in the image, ascending. For a fit shared record.
+pub fn stretches(shared: &Shared) -> Vec<Stretch> {
+    let mut stretches = Vec::new();
+    let mut start = 1;
+    while start < shared.blocks {
+        let free = (start..shared.blocks).take_while(|&block| !shared.is_taken(block));
+        let length = free.count();
+        if length > 0 {
+            stretches.push(Stretch { start, length });
+        }
+        // The block behind it is taken, or past the end.
+        start += length + 1;
+    }
+    stretches
+}
+
+/// "the shortest free stretch that is long enough, the lowest of equals"
+pub fn find(shared: &Shared, count: usize) -> Option<Stretch> {
+    stretches(shared)
         .into_iter()
-        .find(|&start| (start..start + count).all(|block| !shared.is_taken(block)))
+        .filter(|stretch| stretch.length >= count)
+        .min_by_key(|stretch| (stretch.length, stretch.start))
 }
 
-/// Takes a run of `count` blocks: its first block and the shared record then.
+/// Takes a run of `count` blocks, the found stretch's "first blocks": its
+/// first block and the shared record then.
 pub fn take_run(shared: &Shared, count: usize) -> Option<(usize, Shared)> {
-    let start = find(shared, count)?;
+    let Stretch { start, .. } = find(shared, count)?;
     let mut after = shared.clone();
     for block in start..start + count {
         after.take(block);
-    }
-    // "The next place becomes the block after the run, or 1 past the end."
-    after.next = start + count;
-    if after.next == shared.blocks {
-        after.next = 1;
     }
     Some((start, after))
 }

@@ -185,7 +185,7 @@ pub fn open(image: &[u64], scratch: &mut [u16]) -> Result<Opened, Refusal> {
     };
     let marks = shown.marks();
     scratch[..MOST_BLOCKS].copy_from_slice(&marks);
-    let mut shared = Shared { blocks: block_count(image), map: [0; 16], joined: 0, next: 1 };
+    let mut shared = Shared { blocks: block_count(image), map: [0; 16], joined: 0 };
     for block in (0..MOST_BLOCKS).filter(|&block| marks[block] != 0) {
         shared.take(block);
     }

@@ -1,30 +1,27 @@
 //! Document 01, "The opened file": the shared record and the points' records.
+//! Document 02, K2: "The next place goes from the shared record and from 10."
 
 use crate::image::*;
 
 /// "a shared record: block count; a map of taken blocks, one bit each in
-/// 64-bit words; the joined points; the next place"
+/// 64-bit words; the joined points"
 #[derive(Clone, Debug, PartialEq, Eq)]
 pub struct Shared {
     pub blocks: usize,
     pub map: [u64; 16],
     /// Bit p for point p.
     pub joined: u32,
-    pub next: usize,
 }
 
 impl Shared {
     /// What a refused opening answers.
     pub fn zero() -> Shared {
-        Shared { blocks: 0, map: [0; 16], joined: 0, next: 0 }
+        Shared { blocks: 0, map: [0; 16], joined: 0 }
     }
 
     /// Refusal 10 with an image of that many words.
     pub fn is_fit(&self, words: usize) -> bool {
-        is_block_count(self.blocks)
-            && BLOCK_WORDS * self.blocks == words
-            && self.next >= 1
-            && self.next < self.blocks
+        is_block_count(self.blocks) && BLOCK_WORDS * self.blocks == words
     }
 
     /// A number above 31 is never joined.

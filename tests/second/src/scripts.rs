@@ -291,10 +291,10 @@ fn alter_any(maker: &mut Maker, p: usize) {
         1 => format!("table {p} {} {}", maker.random.below(4), maker.random.below(8)),
         2 => format!("text {p} {} {}", maker.random.below(1_024), maker.random.below(256)),
         3 => {
-            let field = *maker.random.pick(&["blocks", "joined", "next"]);
+            let field = *maker.random.pick(&["blocks", "joined"]);
             format!("altershared {field} {border}")
         }
-        4 => format!("altershared next {}", maker.random.below(8)),
+        4 => format!("map 0 {}", maker.random.any() & maker.random.any()),
         5 => {
             let any = maker.random.any();
             let word = *maker.random.pick(&[0, u64::MAX, any]);

@@ -27,7 +27,7 @@ pub const TABLE: [(&str, &[&str], &[u64]); 10] = [
 ];
 
 /// What happens inside the calls and is to be met too.
-pub const EVENTS: [&str; 18] = [
+pub const EVENTS: [&str; 17] = [
     "linked",
     "moved by a lost link",
     "moved, refills nothing",
@@ -43,7 +43,6 @@ pub const EVENTS: [&str; 18] = [
     "20 after work",
     "21 after work",
     "begun in a caught-up chain of 64",
-    "search wrapped",
     "left while zeroing",
     "left while filling",
 ];
