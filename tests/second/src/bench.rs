@@ -8,6 +8,7 @@ use crate::log::{catch_up, Broken};
 use crate::open::open;
 use crate::record::*;
 use crate::refusal::Refusal;
+use crate::searches::*;
 use crate::step::{step, Answer};
 use crate::tally::Tally;
 use crate::words::*;
@@ -233,15 +234,21 @@ impl Bench {
                 if why == Refusal::LogBroken {
                     self.broken_event(&before);
                 }
+                if why == Refusal::NoRun {
+                    let write = Write { offset, text_length: length, ..Write::idle() };
+                    self.tally.events(&no_run_events(&self.shared, write.span()));
+                }
                 self.refused("begin", why)
             }
         })
     }
 
+    /// While the shared record is still the one handed in.
     fn begin_events(&mut self, record: &Record) {
         if record.view.passed == 64 {
             self.tally.event("begun in a caught-up chain of 64");
         }
+        self.tally.events(&found_events(&self.shared, record.write.span()));
     }
 
     /// Up to `count` steps: "one line for each longest stretch of equal
@@ -269,12 +276,13 @@ impl Bench {
     pub fn one_step(&mut self, p: usize) -> Answer {
         let before = self.records[p].clone();
         let (answer, shared, record) = step(&mut self.image, &self.shared, &before);
-        self.shared = shared;
         self.step_events(answer, &before, &record);
+        self.shared = shared;
         self.records[p] = record;
         answer
     }
 
+    /// While the shared record is still the one handed in.
     fn step_events(&mut self, answer: Answer, before: &Record, after: &Record) {
         match answer {
             Answer::Stored => {
@@ -283,7 +291,11 @@ impl Bench {
                     self.tally.event("linked");
                 }
             }
-            Answer::Extending => self.tally.count("step", "extending"),
+            Answer::Extending => {
+                self.tally.count("step", "extending");
+                self.tally.events(&found_events(&self.shared, 1));
+                self.tally.events(&extending_events(&self.shared));
+            }
             Answer::Moved => {
                 self.tally.count("step", "moved");
                 self.moved_events(before, after);
@@ -301,7 +313,10 @@ impl Bench {
                 self.tally.refused("step", why.number());
                 match why {
                     Refusal::LogFull => self.tally.event("20 after work"),
-                    Refusal::NoLogBlock => self.tally.event("21 after work"),
+                    Refusal::NoLogBlock => {
+                        self.tally.event("21 after work");
+                        self.tally.events(&no_log_block_events(&self.shared));
+                    }
                     Refusal::LogBroken => self.broken_event(before),
                     _ => {}
                 }

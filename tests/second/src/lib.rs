@@ -1,5 +1,5 @@
-//! A second implementation of the store, written from document 01 and its
-//! readings alone. Plainness goes before speed: each sentence is written down
+//! A second implementation of the store, written from documents 01 and 02 and
+//! their readings alone. Plainness goes before speed: each sentence is written down
 //! as directly as it can be.
 
 pub mod acts;
@@ -15,12 +15,14 @@ pub mod log;
 pub mod map;
 pub mod maker;
 pub mod malform;
+pub mod maps;
 pub mod open;
 pub mod outside;
 pub mod random;
 pub mod record;
 pub mod refusal;
 pub mod scripts;
+pub mod searches;
 pub mod step;
 pub mod tally;
 pub mod words;

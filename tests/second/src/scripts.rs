@@ -4,10 +4,11 @@ use crate::acts::*;
 use crate::forge::*;
 use crate::image::*;
 use crate::maker::Maker;
+use crate::maps::a_map;
 use crate::random::Random;
 
 /// The kinds of scripts.
-pub const KINDS: [&str; 10] = [
+pub const KINDS: [&str; 11] = [
     "ordinary work",
     "nearly full log",
     "nearly full image",
@@ -18,6 +19,7 @@ pub const KINDS: [&str; 10] = [
     "conflicts",
     "openings",
     "mixed",
+    "stretches",
 ];
 
 /// A script of a kind.
@@ -34,7 +36,8 @@ pub fn make(random: Random, kind: usize) -> Vec<u8> {
         6 => return malformed(maker, lines),
         7 => conflicts(&mut maker),
         8 => openings(&mut maker),
-        _ => mixed(&mut maker, lines),
+        9 => mixed(&mut maker, lines),
+        _ => stretches(&mut maker, lines),
     }
     look_at_all(&mut maker);
     maker.script
@@ -294,7 +297,12 @@ fn alter_any(maker: &mut Maker, p: usize) {
             let field = *maker.random.pick(&["blocks", "joined"]);
             format!("altershared {field} {border}")
         }
-        4 => format!("map 0 {}", maker.random.any() & maker.random.any()),
+        4 => {
+            let blocks = maker.blocks();
+            let map = a_map(&mut maker.random, blocks);
+            let i = *maker.random.pick(&[0, 0, (blocks - 1) / 64]);
+            format!("map {i} {}", map[i])
+        }
         5 => {
             let any = maker.random.any();
             let word = *maker.random.pick(&[0, u64::MAX, any]);
@@ -424,6 +432,71 @@ fn mixed(maker: &mut Maker, lines: usize) {
             cut_and_open(maker);
         }
     }
+}
+
+/// Maps broken into stretches of many kinds, and searches in them.
+fn stretches(maker: &mut Maker, lines: usize) {
+    let blocks = match maker.random.below(6) {
+        0 => 1_024,
+        1 => *maker.random.pick(&[1_023, 961, 960, 192, 129, 128, 127, 65, 64, 63]),
+        2 => maker.random.between(4, 8),
+        3 => maker.random.between(4, 1_024),
+        _ => maker.random.between(9, 200),
+    };
+    laid_out(maker, blocks);
+    for _ in 0..lines / 20 + 1 {
+        put_map(maker, blocks);
+        for _ in 0..maker.random.between(1, 6) {
+            search(maker);
+        }
+        if maker.random.once_in(4) {
+            maker.say("layout");
+            maker.say("open 1024");
+            join_some(maker);
+            join_some(maker);
+        }
+    }
+}
+
+/// The words of a random map that are not there yet.
+fn put_map(maker: &mut Maker, blocks: usize) {
+    let map = a_map(&mut maker.random, blocks);
+    for (i, word) in map.iter().enumerate() {
+        if maker.bench.shared.map[i] != *word {
+            maker.say(&format!("map {i} {word}"));
+        }
+    }
+}
+
+/// A point begins a write of 1 to 3 blocks; then it goes on, extends the log
+/// or leaves.
+fn search(maker: &mut Maker) {
+    let idle = maker.joined_idle(true);
+    let p = if idle.is_empty() { a_point(maker) } else { *maker.random.pick(&idle) };
+    let count = maker.random.between(1, 3);
+    let offset = 512 * maker.random.below(8) + 511;
+    let length = [1, 2, 514][count - 1];
+    maker.say(&format!("begin {p} {offset} {length} 9"));
+    maker.say("shared");
+    match maker.random.below(12) {
+        0 => drop(maker.say(&format!("step {p} 200"))),
+        1..=5 => extend(maker, p, count),
+        _ => {}
+    }
+    if maker.random.once_in(2) {
+        maker.say(&format!("leave {p}"));
+        maker.say(&format!("join {p}"));
+    }
+}
+
+/// Makes the point stand at a full log's end with its run filled, and lets it
+/// look for a log block.
+fn extend(maker: &mut Maker, p: usize, count: usize) {
+    maker.say(&format!("alter {p} slot 64"));
+    maker.say(&format!("alter {p} position {}", 64 * count));
+    maker.say(&format!("step {p} 1"));
+    maker.say(&format!("record {p}"));
+    maker.say("shared");
 }
 
 /// Malformed lines among good ones; sometimes an input of the greatest

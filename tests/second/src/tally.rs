@@ -27,7 +27,7 @@ pub const TABLE: [(&str, &[&str], &[u64]); 10] = [
 ];
 
 /// What happens inside the calls and is to be met too.
-pub const EVENTS: [&str; 17] = [
+pub const EVENTS: [&str; 35] = [
     "linked",
     "moved by a lost link",
     "moved, refills nothing",
@@ -43,6 +43,24 @@ pub const EVENTS: [&str; 17] = [
     "20 after work",
     "21 after work",
     "begun in a caught-up chain of 64",
+    "found, not the first that fits",
+    "found, lowest of equals",
+    "found, not the longest",
+    "found, first blocks of a longer one",
+    "found, up to the last block",
+    "found, beside a clear bit 0",
+    "found, before clear bits past the end",
+    "found, before set bits past the end",
+    "found, run across map words",
+    "found, over a whole map word",
+    "found, among 100 stretches",
+    "extending, not the lowest free block",
+    "19 for 2 blocks, enough free",
+    "19 for 3 blocks, enough free",
+    "19 beside a clear bit 0",
+    "19 before clear bits past the end",
+    "21 beside a clear bit 0",
+    "21 before clear bits past the end",
     "left while zeroing",
     "left while filling",
 ];
@@ -62,6 +80,12 @@ impl Tally {
 
     pub fn event(&mut self, event: &str) {
         self.count("event", event);
+    }
+
+    pub fn events(&mut self, events: &[&str]) {
+        for event in events {
+            self.event(event);
+        }
     }
 
     pub fn of(&self, call: &str, answer: &str) -> u64 {

@@ -17,7 +17,7 @@ use second::{images, scripts};
 
 const USAGE: &str = "compare [--session PATH] [--listing PATH] [--self] [--seed S] \
                      [--scripts N] [--images N] [--jobs N] [--brief]";
-const SCRIPTS: usize = 2_400;
+const SCRIPTS: usize = 2_640;
 const IMAGES: usize = 4_800;
 /// How long a script that differs may be made smaller.
 const SHRINKING: Duration = Duration::from_secs(30);
