@@ -74,6 +74,18 @@ fn long_input() {
     assert_eq!(run(&script), b"error long\n");
 }
 
+/// K2: `shared` writes no next place, and `altershared next V` is an `error`.
+#[test]
+fn no_next_place() {
+    let opened = "image 256\nlayout\nopen 1024\njoin 3\n";
+    let asked = "altershared next 1\nshared\naltershared next\nalter 3 next 1";
+    let output = says(&format!("{opened}{asked}"));
+    let mut map = [0; 16];
+    map[0] = 3;
+    let lines: Vec<&str> = output.lines().skip(4).collect();
+    assert_eq!(lines, ["error", &format!("shared 4 8 {}", digest_words(&map)), "error", "error"]);
+}
+
 #[test]
 fn p2_on_the_bench() {
     let script = "image 256\nlayout\nopen 1024\njoin 3\nbegin 3 510 4 65\nstep 3 500\nshow 3 509 64\nfree";
@@ -91,9 +103,27 @@ fn kept(path: &str) -> Vec<u8> {
 
 #[test]
 fn the_gate_script_gives_its_output() {
-    let mut bench = Bench::new();
-    let output = bench.script(&kept("../../crates/session/stdin"));
+    let output = run(&kept("../../crates/session/stdin"));
     assert!(output == kept("../../crates/session/stdout"), "the gate's output differs");
+}
+
+/// The outputs were worked out by hand.
+#[test]
+fn the_kept_scripts_give_their_output() {
+    for name in ["stretches", "strangers"] {
+        let output = run(&kept(&format!("tests/{name}.script")));
+        let expected = kept(&format!("tests/{name}.expected"));
+        let [output, expected] = [output, expected].map(|bytes| String::from_utf8(bytes).unwrap());
+        assert_eq!(output, expected, "{name}");
+    }
+}
+
+#[test]
+fn the_gate_script_and_the_kept_ones_meet_everything() {
+    let mut bench = Bench::new();
+    bench.script(&kept("../../crates/session/stdin"));
+    bench.script(&kept("tests/stretches.script"));
+    bench.script(&kept("tests/strangers.script"));
     assert_eq!(bench.tally.missing(), Vec::<String>::new());
 }
 
