@@ -144,6 +144,8 @@ pub fn a_line(random: &mut Random, places: usize) -> Vec<u8> {
         7 => line = vec![b' '; random.between(1, 300)],
         8 => line = random_bytes(random),
         9 => line.extend(b" # no remark"),
+        // "The next place goes from the shared record": no field any more.
+        10 => line = format!("altershared next {}", random.below(8)).into_bytes(),
         _ => {}
     }
     line
