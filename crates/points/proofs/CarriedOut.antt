@@ -1,6 +1,7 @@
 -- What a step leaves that carries out the plan of each thing that it may do: answer, records and store, written out.
 use mathlib.Core.Path.{_≡_, refl, ap}
 use mathlib.Core.Bool.{true, false}
+use mathlib.Core.List.{List}
 use mathlib.Core.Option.{none, some}
 use Prim.Native.Nat.{ℕ, zero, suc, _<_}
 use native.Mathlib.Omega.{arith}
@@ -22,7 +23,7 @@ use Rattle.points.specs.Search.{withTaken}
 use Rattle.points.specs.Fill.{newWord}
 use Rattle.points.specs.Plan.{Outcome, carriedOut, readIn, freed, withoutRun, replaced, wordFrom}
 use Rattle.points.specs.Stepping.{turned, toCommit, retried, filled, refillAfter, nextSlot, entering, entryFor}
-use Rattle.points.specs.Stepping.{refused, commit, giveUp, extend, zeroOut, link, giveBack, moveOn, fill}
+use Rattle.points.specs.Stepping.{refused, commit, giveUp, extend, zeroOut, link, giveBack, moveOn, fill, stepping}
 use Rattle.points.proofs.StepCases.{go-on}
 
 module _ (E : Edition) (m : Memory) (s : Shared) (p : Point) where
@@ -148,3 +149,8 @@ module _ (E : Edition) (m : Memory) (s : Shared) (p : Point) where
   pub give-back-leaves : out (giveBack E h) ≡ afterGiveBack
   unfolding carriedOut readIn freed setAll giveBack afterGiveBack
   give-back-leaves = refl
+
+-- a step changes the map alone of the shared record
+pub step-map : (E : Edition) (words : List ℕ) (s : Shared) (p : Point) → withTaken s (stepping E words s p .shared .taken) ≡ stepping E words s p .shared
+unfolding stepping carriedOut
+step-map E words s p = refl
