@@ -58,7 +58,7 @@ abbrev pub numbersRef : RefT SharedRecord → Names (Shared .ms) → RefT (List 
 numbersRef s ns = part (s .ptr) 0 (ns .0 .1) (s .now .numbers)
 
 abbrev pub takenRef : RefT SharedRecord → Names (Shared .ms) → RefT (List ℕ)
-takenRef s ns = part (s .ptr) 16 (ns .1 .0 .1) (s .now .taken)
+takenRef s ns = part (s .ptr) 8 (ns .1 .0 .1) (s .now .taken)
 
 abbrev pub headRef : RefT PointRecord → Names (Point .ms) → RefT (List ℕ)
 headRef p ns = part (p .ptr) 0 (ns .0 .1) (p .now .head)

@@ -11,10 +11,10 @@ use c_lent::Answer;
 use c_lent::Count;
 use c_lent::Opened;
 
-// The shared record: blocks, joined points and next place, and the map. In C the three numbers have names.
+// The shared record: blocks and joined points, and the map. In C the two numbers have names.
 #[repr(C)]
 pub struct SharedRecord {
-    pub numbers: [u32; 3],
+    pub numbers: [u32; 2],
     pub taken: [u64; 16],
 }
 
@@ -31,7 +31,7 @@ pub struct PointRecord {
 pub extern "C" fn store_version() -> u32
     ensures { λ r. ⌜ r ≡ version ⌝ }
 {
-    1
+    2
 }
 
 #[no_mangle]

@@ -1,6 +1,6 @@
 -- The ways out of each call: refused where the record's numbers are none, else as the call with the record answers. Assumes nothing.
 use Prim.Native.Nat.{ℕ}
-use mathlib.Core.Path.{_≡_, refl, sym, _∙_, ap}
+use mathlib.Core.Path.{_≡_, sym, _∙_, ap}
 use mathlib.Core.Bool.{Bool, true, false, not}
 use mathlib.Core.List.{List}
 use mathlib.Core.Option.{Option}
@@ -24,12 +24,12 @@ use Rattle.points.specs.Record.{badShared, pointOf}
 use Rattle.points.specs.Calls.{joining, beginning, leaving}
 use Rattle.points.specs.Plan.{storedAt}
 use Rattle.points.specs.Stepping.{stepping}
-use Rattle.points.specs.Search.{sharedOf, withNext}
+use Rattle.points.specs.Search.{sharedOf}
 use Rattle.points.specs.Lent.{StepTells, begunOf, steppedOf}
 use Rattle.points.specs.Reading.{reading, bufferAfter, locating}
 use Rattle.c_lent.specs.declared.Answer.{Answer}
 use Rattle.c_lent.specs.declared.Count.{Count}
-use Rattle.c_lent.specs.Numbers.{answerNumbers, countNumbers, headNumbers, headFrom, isKnown, leadNumbers, sharedNumbers, leadFrom, sharedFrom}
+use Rattle.c_lent.specs.Numbers.{answerNumbers, countNumbers, headNumbers, headFrom, isKnown, sharedNumbers, leadFrom, sharedFrom}
 use Rattle.c_lent.specs.Numbers.{SharedLent, PointLent, sharedIn, lendShared, lendPoint}
 use Rattle.c_lent.specs.Calls.{StepLeft, left, pointLeft, stepLeft, sharedLeft, readLeft, unknown, ifKnown}
 use Rattle.c_lent.specs.Calls.{joinFor, beginFor, stepFor, leaveFor, readFor, locateFor}
@@ -81,16 +81,16 @@ module _ (words : List ℕ) (s : SharedLent) (p : PointLent) where
         (lead : Numbers) → lead ≡ leadFrom (s .numbers) → (y : LentStepped) (taken table text image : List ℕ)
         → StepTells words (sharedOf lead (s .taken)) (pointOf h (p .table) (p .text)) (steppedOf lead y taken table text) image (y .word)
         → (a : Answer) → a ≡ answerNumbers (y .step) (y .word)
-        → (xs hs : List ℕ) → xs ≡ leadNumbers (withNext lead (y .next)) → hs ≡ headNumbers (y .head)
-        → stepLeft a image (lentAs xs taken) (pointAs hs table text) ≡ stepFor words s p
-    step-known lead el y taken table text image e a ea xs hs ex eh′ =
-        rw (ea, ex, eh′, e .place, e .leaves .stored) (ap left-by (e .leaves .answers) ∙ rw (el, eh) (is-known _ _))
+        → (hs : List ℕ) → hs ≡ headNumbers (y .head) → stepLeft a image (lentAs (s .numbers) taken) (pointAs hs table text) ≡ stepFor words s p
+    step-known lead el y taken table text image e a ea hs eh′ =
+        rw (ea, eh′, e .place, e .leaves .stored) (ap left-by (e .leaves .answers) ∙ rw (el, eh) (is-known _ _))
       where
         store : Option Store
         store = stepping one words (sharedOf lead (s .taken)) (pointOf h (p .table) (p .text)) .store
 
         left-by : Stepped → StepLeft
-        left-by x = stepLeft (answerNumbers (x .step) (storedAt one store)) (after one words store) (lendShared (x .shared)) (lendPoint (x .point))
+        left-by x =
+            stepLeft (answerNumbers (x .step) (storedAt one store)) (after one words store) (lentAs (s .numbers) (x .shared .taken)) (lendPoint (x .point))
 
     module _ (x : Shared) (ex : x ≡ sharedIn s) where
       pub begin-known :

@@ -101,11 +101,12 @@ module _ (words : List ℕ) (s : SharedLent) (p : PointLent) where
       let b = beginning one words (sharedIn s) (pointIn p) offset bytes in
       ifKnown (pointLeft (b .reply) (b .shared) (b .point)) (λ n. left n s p)
 
+  -- a step changes the map alone of the shared record: its numbers stay
   abbrev pub stepFor : StepLeft
   stepFor =
       let o = stepping one words (sharedIn s) (pointIn p) in
       let answer = answerNumbers (o .step) (storedAt one (o .store)) in
-      ifKnown (stepLeft answer (after one words (o .store)) (lendShared (o .shared)) (lendPoint (o .point)))
+      ifKnown (stepLeft answer (after one words (o .store)) (record { numbers = s .numbers; taken = o .shared .taken }) (lendPoint (o .point)))
       (λ n. stepLeft (answerNumbers (Refused n) 0) words s p)
 
   abbrev pub leaveFor : SharedLeft

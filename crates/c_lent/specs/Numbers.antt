@@ -15,7 +15,7 @@ use Rattle.points.specs.declared.Point.{Point}
 use Rattle.points.specs.declared.Count as counted
 use Rattle.points.specs.Record.{phaseNumber, phaseOf, noText, pointOf}
 use Rattle.points.specs.Stepping.{stepKind, stepValue}
-use Rattle.points.specs.Search.{sharedOf, numbersOf}
+use Rattle.points.specs.Search.{sharedOf}
 use Rattle.c_lent.specs.declared.Opened.{Opened}
 use Rattle.c_lent.specs.declared.Answer.{Answer}
 use Rattle.c_lent.specs.declared.Count.{Count}
@@ -59,21 +59,18 @@ abbrev pub isKnown : List ℕ → Bool
 isKnown xs = leb (getD xs 8 0) 5 && leb (getD xs 11 0) 65535
 
 -- the shared record's numbers, beside its map
-abbrev pub leadNumbers : Numbers → List ℕ
-leadNumbers n = n .blocks ∷ n .joined ∷ n .next ∷ []
-
 abbrev pub sharedNumbers : Shared → List ℕ
-sharedNumbers s = leadNumbers (numbersOf s)
+sharedNumbers s = s .blocks ∷ s .joined ∷ []
 
 abbrev pub leadFrom : List ℕ → Numbers
-leadFrom xs = record { blocks = getD xs 0 0; joined = getD xs 1 0; next = getD xs 2 0 }
+leadFrom xs = record { blocks = getD xs 0 0; joined = getD xs 1 0 }
 
 abbrev pub sharedFrom : List ℕ → List ℕ → Shared
 sharedFrom xs taken = sharedOf (leadFrom xs) taken
 
 -- ---- records as they are lent
 
--- the shared record: its three numbers, and its map
+-- the shared record: its two numbers, and its map
 pub record SharedLent : Type 0 where
   pub numbers : List ℕ
   pub taken : List ℕ

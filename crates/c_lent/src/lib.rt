@@ -1,5 +1,5 @@
-// The calls with records and answers in numbers, and each record lent in parts, arrays all of them: `shared` is blocks, joined points and next place,
-// `taken` the map; `head` the twelve numbers of a point's record, beside `table` and `text`. Crate `c_api` exports them to C, on whole records.
+// The calls with records and answers in numbers, and each record lent in parts, arrays all of them: `shared` is blocks and joined points, `taken`
+// the map; `head` the twelve numbers of a point's record, beside `table` and `text`. Crate `c_api` exports them to C, on whole records.
 ghost use mathlib.Core.Path.{_≡_};
 ghost use Rattle.c_lent.specs.Numbers.{sharedLent, pointLent, textless};
 ghost use Rattle.c_lent.specs.Calls.{OpensFor, left, stepLeft, sharedLeft, readLeft};
@@ -35,7 +35,7 @@ pub mod numbers;
 pub fn open(
     image: &[u64],
     scratch: &mut [u16],
-    shared: &mut [u32; 3],
+    shared: &mut [u32; 2],
     taken: &mut [u64; 16],
 ) -> Opened
     ensures { λ r. ⌜ OpensFor (now (image .entry)) (now (scratch .entry)) r (now (scratch .exit))
@@ -51,7 +51,7 @@ pub fn open(
 
 pub fn join(
     image: &[u64],
-    shared: &mut [u32; 3],
+    shared: &mut [u32; 2],
     taken: &mut [u64; 16],
     number: u32,
     head: &mut [u32; 12],
@@ -79,7 +79,7 @@ pub fn join(
 
 pub fn begin(
     image: &[u64],
-    shared: &mut [u32; 3],
+    shared: &mut [u32; 2],
     taken: &mut [u64; 16],
     head: &mut [u32; 12],
     table: &mut [u16; 256],
@@ -114,7 +114,7 @@ pub fn begin(
 
 pub fn step(
     image: &mut [u64],
-    shared: &mut [u32; 3],
+    shared: &mut [u32; 2],
     taken: &mut [u64; 16],
     head: &mut [u32; 12],
     table: &mut [u16; 256],
@@ -126,19 +126,17 @@ pub fn step(
     if !numbers::is_known(head) {
         return numbers::of_step(StepAnswer::Refused(numbers::unknown(image, shared)), 0);
     }
-    let mut lead = numbers::lead(shared);
+    let lead = numbers::lead(shared);
     let stepped = points::step::step_lent(image, lead, taken, numbers::head(head), table, text);
     let step = stepped.step;
     let left = stepped.head;
-    lead.next = stepped.next;
-    *shared = numbers::of_lead(lead);
     *head = numbers::of_head(left);
     numbers::of_step(step, stepped.word)
 }
 
 pub fn leave(
     image: &[u64],
-    shared: &mut [u32; 3],
+    shared: &mut [u32; 2],
     taken: &mut [u64; 16],
     head: &[u32; 12],
     table: &[u16; 256],
@@ -165,7 +163,7 @@ pub fn leave(
 
 pub fn read(
     image: &[u64],
-    shared: &[u32; 3],
+    shared: &[u32; 2],
     taken: &[u64; 16],
     head: &[u32; 12],
     table: &[u16; 256],
@@ -190,7 +188,7 @@ pub fn read(
 
 pub fn locate(
     image: &[u64],
-    shared: &[u32; 3],
+    shared: &[u32; 2],
     taken: &[u64; 16],
     head: &[u32; 12],
     table: &[u16; 256],

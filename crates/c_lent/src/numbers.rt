@@ -6,7 +6,7 @@ ghost use Prim.Native.Nat.{ℕ};
 ghost use Rattle.log.specs.Opening.{numberOf};
 ghost use Rattle.points.specs.Stepping.{stepKind, stepValue};
 ghost use Rattle.c_lent.specs.Numbers.{openedNumbers, answerNumbers, countNumbers, headNumbers, headFrom, isKnown};
-ghost use Rattle.c_lent.specs.Numbers.{leadNumbers, sharedNumbers, leadFrom, sharedFrom};
+ghost use Rattle.c_lent.specs.Numbers.{sharedNumbers, leadFrom, sharedFrom};
 ghost use Rattle.c_lent.specs.Calls.{unknown, noCount};
 use crate::Answer;
 use crate::Count;
@@ -146,31 +146,24 @@ pub(crate) fn head(numbers: &[u32; 12]) -> points::Head
     }
 }
 
-// The three numbers of a shared record, in the order of C's record; and back.
-pub(crate) fn of_lead(lead: points::Numbers) -> [u32; 3]
-    ensures { λ r. ⌜ r ≡ leadNumbers lead ⌝ }
-{
-    [lead.blocks, lead.joined, lead.next]
-}
-
-pub(crate) fn of_shared(shared: Shared) -> [u32; 3]
+// The two numbers of a shared record, in the order of C's record; and back.
+pub(crate) fn of_shared(shared: Shared) -> [u32; 2]
     ensures { λ r. ⌜ r ≡ sharedNumbers shared ⌝ }
 {
-    of_lead(points::shared::numbers(shared))
+    [shared.blocks, shared.joined]
 }
 
-pub(crate) fn lead(numbers: &[u32; 3]) -> points::Numbers
+pub(crate) fn lead(numbers: &[u32; 2]) -> points::Numbers
     ensures { λ r. ⌜ r ≡ leadFrom (now (numbers .entry)) ⌝ }
 {
     points::Numbers {
         blocks: numbers[0],
         joined: numbers[1],
-        next: numbers[2],
     }
 }
 
 // The shared record of its numbers and its map.
-pub(crate) fn shared(numbers: &[u32; 3], taken: &[u64; 16]) -> Shared
+pub(crate) fn shared(numbers: &[u32; 2], taken: &[u64; 16]) -> Shared
     ensures { λ r. ⌜ r ≡ sharedFrom (now (numbers .entry)) (now (taken .entry)) ⌝ }
 {
     let map = *taken;
@@ -178,12 +171,11 @@ pub(crate) fn shared(numbers: &[u32; 3], taken: &[u64; 16]) -> Shared
         blocks: numbers[0],
         taken: map,
         joined: numbers[1],
-        next: numbers[2],
     }
 }
 
 // Why a record is refused whose numbers are no head's: it does not fit, and 10 comes before.
-pub(crate) fn unknown(image: &[u64], shared: &[u32; 3]) -> u32
+pub(crate) fn unknown(image: &[u64], shared: &[u32; 2]) -> u32
     ensures { λ r. ⌜ ((taken : List ℕ) → r ≡ unknown (now (image .entry)) (now (shared .entry)) taken) ⌝ }
 {
     if points::record::bad_numbers(image, lead(shared)) {

@@ -16,6 +16,7 @@ use Rattle.points.specs.Calls.{joinRefusal, joining, beginRefusal, beginning, l
 use Rattle.points.specs.Plan.{answered, storedAt}
 use Rattle.points.specs.Stepping.{stepping}
 use Rattle.points.specs.Reading.{readRefusal, reading, locateRefusal, locating}
+use Rattle.points.proofs.CarriedOut.{step-map}
 use Rattle.points.proofs.StoredAt.{told-none}
 use Rattle.points.proofs.Replies.{number-back, join-replies, begin-replies, leave-replies}
 use Rattle.recovery.proofs.Served.{open-served, opened-replies, join-served, begin-served, step-served, leave-served, read-served, locate-served}
@@ -80,8 +81,9 @@ module _ (words : List ℕ) (s : SharedLent) where
     step-for l e known =
         let o = stepping one words (sharedIn s) (pointIn p) in
         let answer = answerNumbers (o .step) (storedAt one (o .store)) in
-        let served = stepLeft answer (after one words (o .store)) (lendShared (o .shared)) (lendPoint (o .point)) in
-        let back : steppedFrom served ≡ answered o = rw (answer-back (o .step), point-back (o .point)) in
+        let served = stepLeft answer (after one words (o .store)) (record { numbers = s .numbers; taken = o .shared .taken }) (lendPoint (o .point)) in
+        let back : steppedFrom served ≡ answered o =
+        rw (answer-back (o .step), point-back (o .point), step-map one words (sharedIn s) (pointIn p)) in
         rw (e ∙ is-known _ _ known) (
           step-known one words (sharedIn s) (p .head) (p .table) (p .text) known,
           is-answer (o .step),

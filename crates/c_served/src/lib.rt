@@ -11,7 +11,7 @@ use c_lent::Opened;
 pub fn open(
     image: &[u64],
     scratch: &mut [u16],
-    shared: &mut [u32; 3],
+    shared: &mut [u32; 2],
     taken: &mut [u64; 16],
 ) -> Opened
     ensures { λ r. ⌜ OpenServedFor (now (image .entry)) (now (scratch .entry)) (r .refused) (sharedLent (shared .exit) (taken .exit)) ⌝ }
@@ -21,7 +21,7 @@ pub fn open(
 
 pub fn join(
     image: &[u64],
-    shared: &mut [u32; 3],
+    shared: &mut [u32; 2],
     taken: &mut [u64; 16],
     number: u32,
     head: &mut [u32; 12],
@@ -36,7 +36,7 @@ pub fn join(
 
 pub fn begin(
     image: &[u64],
-    shared: &mut [u32; 3],
+    shared: &mut [u32; 2],
     taken: &mut [u64; 16],
     head: &mut [u32; 12],
     table: &mut [u16; 256],
@@ -52,7 +52,7 @@ pub fn begin(
 
 pub fn step(
     image: &mut [u64],
-    shared: &mut [u32; 3],
+    shared: &mut [u32; 2],
     taken: &mut [u64; 16],
     head: &mut [u32; 12],
     table: &mut [u16; 256],
@@ -66,7 +66,7 @@ pub fn step(
 
 pub fn leave(
     image: &[u64],
-    shared: &mut [u32; 3],
+    shared: &mut [u32; 2],
     taken: &mut [u64; 16],
     head: &[u32; 12],
     table: &[u16; 256],
@@ -79,7 +79,7 @@ pub fn leave(
 
 pub fn read(
     image: &[u64],
-    shared: &[u32; 3],
+    shared: &[u32; 2],
     taken: &[u64; 16],
     head: &[u32; 12],
     table: &[u16; 256],
@@ -94,7 +94,7 @@ pub fn read(
 
 pub fn locate(
     image: &[u64],
-    shared: &[u32; 3],
+    shared: &[u32; 2],
     taken: &[u64; 16],
     head: &[u32; 12],
     table: &[u16; 256],

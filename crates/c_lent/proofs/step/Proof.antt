@@ -7,7 +7,7 @@ use Rattle.c_lent.proofs.step.Tie as tie
 
 -- the way back, call by call
 abbrev stepped : tie.After-of-step2 → tie.After-step-lent
-stepped c = c .before .before .before .before .before .before
+stepped c = c .before .before .before .before .before
 
 abbrev headed : tie.After-step-lent → tie.After-head
 headed c = c .before .before .before
@@ -50,9 +50,6 @@ head-requires c κs = let t = tested (c .before .before .before) in tests-known 
 step-lent-requires : tie.Need-step-lent-requires
 step-lent-requires c κs = search needs
 
-of-lead-requires : tie.Need-of-lead-requires
-of-lead-requires c κs = search needs
-
 of-head-requires : tie.Need-of-head-requires
 of-head-requires c κs = search needs
 
@@ -73,7 +70,7 @@ returns-2 c =
     step-known (a .image .now) (sharedLent (a .shared) (a .taken)) (pointLent (a .head) (a .table) (a .text))
     (tests-known (t .before .is-known .ensures) (t .if1 .left)) _ (h .head .ensures) _ (l .lead .ensures)
     (y .result) (y .last .1 .1 .0) (y .last .1 .1 .1 .1 .0) (y .last .1 .1 .1 .1 .1 .0) _ (y .ensures)
-    _ (c .of-step2 .ensures) _ _ (c .before .before .of-lead .ensures) (c .before .of-head .ensures)
+    _ (c .of-step2 .ensures) _ (c .before .of-head .ensures)
 
 pub step-spec : {M : Type 1} → statement M
 step-spec =
@@ -87,7 +84,6 @@ step-spec =
     lead-requires
     head-requires
     step-lent-requires
-    of-lead-requires
     of-head-requires
     of-step-requires-2
     same-length-2
