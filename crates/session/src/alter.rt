@@ -58,10 +58,8 @@ fn shared_field(shared: Shared, o: Order) -> Shared {
     let x = o.b as u32;
     if o.a == 0 {
         after.blocks = x;
-    } else if o.a == 1 {
-        after.joined = x;
     } else {
-        after.next = x;
+        after.joined = x;
     }
     print::altered();
     after

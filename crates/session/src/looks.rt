@@ -106,7 +106,6 @@ fn record(places: &Places, point: Point, p: usize)
 fn print_shared(shared: Shared) {
     print::labelled(b"shared ", shared.blocks as u64);
     print::labelled(b" ", shared.joined as u64);
-    print::labelled(b" ", shared.next as u64);
     print::line(b" ", digest::of_words(&shared.taken));
 }
 

@@ -232,9 +232,6 @@ fn shared_field(name: &[u8]) -> Number {
     if scan::is(name, b"joined") {
         return Number::Value(1);
     }
-    if scan::is(name, b"next") {
-        return Number::Value(2);
-    }
     Number::Malformed
 }
 

@@ -174,6 +174,5 @@ pub fn no_shared() -> Shared {
         blocks: 0,
         taken: taken,
         joined: 0,
-        next: 0,
     }
 }
