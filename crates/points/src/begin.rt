@@ -80,16 +80,15 @@ fn settle(
     }
 }
 
-// The text in the record's array, 0 after its end.
-fn text_of(text: &[u8]) -> [u8; 1024]
+// The record's array gets the text, and 0 after its end.
+fn put_text(kept: &mut [u8; 1024], text: &[u8])
     requires { ⌜ length (now text) ≤ 1024 ⌝ }
-    ensures { λ r. ⌜ r ≡ textOf (now (text .entry)) ⌝ }
+    ensures { λ _. ⌜ now (kept .exit) ≡ textOf (now (text .entry)) ⌝ }
 {
-    let mut bytes = crate::record::no_text();
+    *kept = crate::record::no_text();
     for i in 0..text.len() {
-        bytes[i] = text[i];
+        kept[i] = text[i];
     }
-    bytes
 }
 
 // The write as it begins.
@@ -129,7 +128,7 @@ pub fn begin_lent(
         };
     }
     let length = log::ahead::catch_up(image, shared.blocks, head.place, table, head.length);
-    *text = text_of(bytes);
+    put_text(text, bytes);
     let at = offset as u32;
     let size = bytes.len() as u32;
     LentBegun {

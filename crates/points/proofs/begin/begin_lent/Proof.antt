@@ -11,7 +11,7 @@ use Rattle.points.proofs.begin.begin_lent.Tie as tie
 
 -- the way back: where nothing was refused, and the start
 abbrev not-refused : tie.After-take → tie.Else1
-not-refused c = c .before .before .before .before .before
+not-refused c = c .before .before .before .before .before .before
 
 abbrev start : tie.Else1 → tie.Start
 start c = c .before .before .before .before .before .before
@@ -38,14 +38,14 @@ returns c =
 catch-up-requires : tie.Need-catch-up-requires
 catch-up-requires c κs = search needs
 
-text-of-requires : tie.Need-text-of-requires
-text-of-requires c κs = passed (c .before .before) .fits .few-text
+put-text-requires : tie.Need-put-text-requires
+put-text-requires c κs = passed (c .before .before .before) .fits .few-text
 
 cast-at : tie.Need-cast-at
-cast-at c = let r = passed (c .before .before .before) in record { fits = omega (arith, r .fits .ends-inside) }
+cast-at c = let r = passed (c .before .before .before .before) in record { fits = omega (arith, r .fits .ends-inside) }
 
 cast-size : tie.Need-cast-size
-cast-size c = let r = passed (c .before .before .before) in record { fits = omega (arith, r .fits .few-text) }
+cast-size c = let r = passed (c .before .before .before .before) in record { fits = omega (arith, r .fits .few-text) }
 
 span-requires : tie.Need-span-requires
 span-requires c κs = search needs
@@ -68,12 +68,12 @@ returns-2 c =
     let r = passed e in
     let a = start e .args in
     begin-done one (a .image .now) (a .shared) (pointOf (a .head) (a .table .now) (a .text .now)) (a .offset) (a .bytes .now) r _ _ _ _ _ _ _ _
-    (q .ensures .tail z) (q .ensures .found z) (taken .before .before .before .catch-up .ensures (r .few) (r .sound))
-    (taken .before .before .text-of .ensures) (rw (c .before .new-write .ensures) at (c .head-of .ensures))
+    (q .ensures .tail z) (q .ensures .found z) (taken .before .before .before .before .catch-up .ensures (r .few) (r .sound))
+    (taken .before .before .put-text .ensures) (rw (c .before .new-write .ensures) at (c .head-of .ensures))
     (taken .before .span .ensures) (taken .take .ensures)
 
 pub begin-lent-spec : {M : Type 1} → statement M
 begin-lent-spec =
     tie.close
-    (tie.spec settle-requires returns catch-up-requires text-of-requires cast-at cast-size span-requires take-requires new-write-requires head-of-requires
+    (tie.spec settle-requires returns catch-up-requires put-text-requires cast-at cast-size span-requires take-requires new-write-requires head-of-requires
     returns-2)

@@ -1,4 +1,4 @@
--- `points::begin::text_of` meets its contract: the invariant is that the first bytes are copied into an array of zeros. Assumes nothing.
+-- `points::begin::put_text` meets its contract: the invariant is that the first bytes are copied into an array of zeros. Assumes nothing.
 use Prim.Native.Nat.{_≤_, _-_}
 use native.Mathlib.Omega.{arith}
 use mathlib.Core.Path.{_≡_, refl, _∙_, ap}
@@ -7,14 +7,14 @@ use lib.Seq.{paste}
 use borrow.Author.Needs.{needs}
 use Rattle.points.specs.Record.{noText}
 use Rattle.points.proofs.Begins.{text-next, text-end}
-use Rattle.points.proofs.begin.text_of.Statement.{statement}
-use Rattle.points.proofs.begin.text_of.Tie as tie
+use Rattle.points.proofs.begin.put_text.Statement.{statement}
+use Rattle.points.proofs.begin.put_text.Tie as tie
 
 abbrev Inv-loop : tie.InvT-loop
-Inv-loop text bytes₀ i₀ i-end bytes i = (i ≤ length text) × (i-end ≡ length text) × (bytes ≡ paste noText 0 text i)
+Inv-loop kept₀ text i₀ i-end kept i = (i ≤ length text) × (i-end ≡ length text) × (kept ≡ paste noText 0 text i)
 
 abbrev μ-loop : tie.MeasureT-loop
-μ-loop text bytes₀ i₀ i-end bytes i = length text - i
+μ-loop kept₀ text i₀ i-end kept i = length text - i
 
 no-text-requires : tie.Need-no-text-requires Inv-loop μ-loop
 no-text-requires c κs = search needs
@@ -22,11 +22,11 @@ no-text-requires c κs = search needs
 loop-holds : tie.Need-loop-holds Inv-loop μ-loop
 loop-holds c = search needs
 
-shared-slice-read-bytes : tie.Need-shared-slice-read-bytes Inv-loop μ-loop
-shared-slice-read-bytes c = search needs
+shared-slice-read-kept : tie.Need-shared-slice-read-kept Inv-loop μ-loop
+shared-slice-read-kept c = search needs
 
-array-write-bytes : tie.Need-array-write-bytes Inv-loop μ-loop
-array-write-bytes c = search needs
+element-write-kept : tie.Need-element-write-kept Inv-loop μ-loop
+element-write-kept c = let h = c .before .before .before .before .before .pre in omega arith
 
 add-i : tie.Need-add-i Inv-loop μ-loop
 add-i c = search needs
@@ -38,7 +38,7 @@ loop-again : tie.Need-loop-again Inv-loop μ-loop
 loop-again c =
     let a = c .before .before .before .before .before .args in
     let l = c .before .before .loop in
-    (omega arith, refl, text-next (a .text .now) (l .i) (l .bytes) (omega arith) (c .before .before .before .before .before .pre) (l .inv .2))
+    (omega arith, refl, text-next (a .text .now) (l .i) (l .kept) (omega arith) (c .before .before .before .before .before .pre) (l .inv .2))
 
 returns : tie.Need-returns Inv-loop μ-loop
 returns c =
@@ -47,16 +47,16 @@ returns c =
     let e : l .i ≡ length (a .text .now) = omega arith in
     l .inv .2 ∙ ap (paste noText 0 (a .text .now)) e ∙ text-end (a .text .now)
 
-pub text-of-spec : {M : Type 1} → statement M
-text-of-spec =
+pub put-text-spec : {M : Type 1} → statement M
+put-text-spec =
     tie.close
     (tie.spec
     Inv-loop
     μ-loop
     no-text-requires
     loop-holds
-    shared-slice-read-bytes
-    array-write-bytes
+    shared-slice-read-kept
+    element-write-kept
     add-i
     loop-less
     loop-again
