@@ -42,7 +42,7 @@ enum {
 
 /* The version of this header: it rises when a call, a record or the image changes. A program compares it with what the library that
    it is linked with answers, before any other call: a library of another version may take its records for something else. */
-enum { STORE_VERSION = 1 };
+enum { STORE_VERSION = 2 };
 uint32_t store_version(void);
 
 /* Why a call is refused; store_reason has a sentence for each. */
@@ -86,7 +86,7 @@ static inline const char *store_reason(uint32_t number)
         "an entry of the log breaks the rules of entries",
         "two blocks of the file share a block of the image, or one is a log block",
         "a byte at or past the file's end in its last block is not 0",
-        "the shared record's block count or next place does not fit the image",
+        "the shared record's block count does not fit the image",
         "the point's record does not fit: a number of it lies outside its range, phase and retries too",
         "the point number is above 31",
         "the point is joined already",
@@ -126,7 +126,6 @@ enum {
 typedef struct store_shared {
     uint32_t blocks;     /* the image's blocks */
     uint32_t joined;     /* a bit for each point that is joined */
-    uint32_t next;       /* where the search for free blocks begins */
     uint64_t taken[16];  /* a bit for each block that is taken */
 } store_shared;
 
@@ -167,8 +166,8 @@ typedef struct store_count {
 } store_count;
 
 /* The library takes the records as structs of arrays: each part stands at its place, the numbers side by side from the beginning on. */
-typedef char store_records_stand_so[offsetof(store_shared, next) == 8 && offsetof(store_shared, taken) == 16 &&
-                                            sizeof(store_shared) == 144 && sizeof(store_head) == 48 &&
+typedef char store_records_stand_so[offsetof(store_shared, joined) == 4 && offsetof(store_shared, taken) == 8 &&
+                                            sizeof(store_shared) == 136 && sizeof(store_head) == 48 &&
                                             offsetof(store_point, table) == 48 && offsetof(store_point, text) == 560 &&
                                             sizeof(store_point) == 1584 && offsetof(store_answer, word) == 8 &&
                                             sizeof(store_answer) == 16 && sizeof(size_t) == 8
