@@ -62,10 +62,10 @@ static void all_calls(store_point *point)
 static void unfit_records(size_t p)
 {
     two_points();
-    shared.next = 0;
+    shared.blocks++;
     all_calls(&points[p]);
     join(9, &points[2]);
-    shared.next = 1;
+    shared.blocks--;
     points[p].head.slot = 65;
     all_calls(&points[p]);
     points[p].head.slot = 2;

@@ -56,15 +56,12 @@ static size_t a_place(const store_head *head)
 
 static void alter_shared(void)
 {
-    switch (below(5)) {
+    switch (below(4)) {
     case 0:
         shared.blocks = a_number();
         break;
     case 1:
         shared.joined = (uint32_t)any();
-        break;
-    case 2:
-        shared.next = a_number();
         break;
     default:
         shared.taken[below(16)] = below(3) ? any() : UINT64_MAX;

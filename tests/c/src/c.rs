@@ -8,7 +8,6 @@ use std::mem::{align_of, offset_of, size_of};
 pub struct Shared {
     pub blocks: u32,
     pub joined: u32,
-    pub next: u32,
     pub taken: [u64; 16],
 }
 
@@ -62,12 +61,8 @@ pub struct Count {
 }
 
 const _: () = {
-    assert!(size_of::<Shared>() == 144 && align_of::<Shared>() == 8);
-    assert!(
-        offset_of!(Shared, joined) == 4
-            && offset_of!(Shared, next) == 8
-            && offset_of!(Shared, taken) == 16
-    );
+    assert!(size_of::<Shared>() == 136 && align_of::<Shared>() == 8);
+    assert!(offset_of!(Shared, joined) == 4 && offset_of!(Shared, taken) == 8);
     assert!(size_of::<Head>() == 48 && align_of::<Head>() == 4 && offset_of!(Head, retries) == 44);
     assert!(size_of::<Point>() == 1_584 && offset_of!(Point, table) == 48 && offset_of!(Point, text) == 560);
     assert!(size_of::<Opened>() == 16 && size_of::<Answer>() == 16 && size_of::<Count>() == 8);

@@ -24,7 +24,6 @@ fn shared_of(shared: &Shared) -> record::Shared {
         blocks: shared.blocks as usize,
         map: shared.taken,
         joined: shared.joined,
-        next: shared.next as usize,
     }
 }
 
@@ -33,7 +32,6 @@ fn c_shared(shared: &record::Shared) -> Shared {
         blocks: shared.blocks as u32,
         taken: shared.map,
         joined: shared.joined,
-        next: shared.next as u32,
     }
 }
 

@@ -93,13 +93,12 @@ impl Run {
 
     fn alter_shared(&mut self) {
         let (value, word) = (self.a_number(), self.random.any());
-        let (field, i) = (self.random.below(6), self.random.below(16));
+        let (field, i) = (self.random.below(5), self.random.below(16));
         self.world.alter_shared(|shared| match field {
             0 => shared.blocks = value,
-            1 => shared.next = value,
-            2 => shared.joined = value,
-            3 => shared.taken = [u64::MAX; 16],
-            4 => shared.next = value % shared.blocks.max(1),
+            1 => shared.joined = value,
+            2 => shared.taken = [u64::MAX; 16],
+            3 => shared.taken[0] = word,
             _ => shared.taken[i] = word,
         });
     }

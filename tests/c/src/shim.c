@@ -9,11 +9,10 @@
 #define PLACE_IS(type, field, width, place) \
     _Static_assert(offsetof(type, field) == (place) && sizeof(((type *)0)->field) == (width), "the place of " #type "." #field)
 
-SIZE_IS(store_shared, 144, 8);
+SIZE_IS(store_shared, 136, 8);
 PLACE_IS(store_shared, blocks, 4, 0);
 PLACE_IS(store_shared, joined, 4, 4);
-PLACE_IS(store_shared, next, 4, 8);
-PLACE_IS(store_shared, taken, 128, 16);
+PLACE_IS(store_shared, taken, 128, 8);
 
 SIZE_IS(store_head, 48, 4);
 PLACE_IS(store_head, number, 4, 0);
