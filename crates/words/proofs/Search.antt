@@ -11,10 +11,11 @@ use lib.Dec.{leb, ltb}
 use borrow.Author.Tests.{lt-ltb, le-ltb, le-leb, lt-leb}
 use Rattle.words.specs.declared.map.Stretch.{Stretch}
 use Rattle.words.specs.BlockMap.{taken}
+use Rattle.words.specs.Look.{Begins}
 use Rattle.words.specs.Search.{freeAhead, isStart, stretch, stretchesFrom, shorter, shortest, none, found}
 use Rattle.words.proofs.Choice.{choose-true, choose-false}
-use Rattle.words.proofs.Stretches.{Begins, is-start}
-use Rattle.words.proofs.Zeros.{Same}
+use Rattle.words.proofs.Looks.{Same}
+use Rattle.words.proofs.Stretches.{is-start}
 
 -- a run of n free blocks from r on, inside
 pub record Fits (map : List ℕ) (blocks r n : ℕ) : Type 0 where

@@ -1,20 +1,16 @@
--- The trailing zeros of a word, and what they show of a map word: how many blocks from one on are free, and how many behind those are taken.
+-- Words by their bits: the lowest one from a bit on and the zeros below it, and the bits from which a one is near.
 use mathlib.Core.Path.{_≡_, refl, sym, ap, _∙_}
-use mathlib.Core.List.{List}
-use mathlib.Core.Bool.{Bool, true, false}
-use Prim.Native.Nat.{ℕ, zero, suc, _+_, _-_, _*_, _/_, _%_, _^_, _≤_, _<_}
+use mathlib.Core.Logic.{_≢_}
+use Prim.Native.Nat.{ℕ, zero, suc, _+_, _-_, _*_, _/_, _%_, _^_, _≤_, _<_, max}
 use native.Mathlib.Decide.{decLt, decLe}
 use native.Mathlib.Nat.{mul-assoc, div-mul-le-self, lt-of-le-of-lt, le-trans, not-le-of-lt, mod-eq-of-lt}
 use native.Mathlib.Omega.{arith}
-use lib.Bits.{shifted-even}
-use lib.Count.{trailingZeros, under, trailing-le}
-use lib.Dec.{eqb}
-use lib.ListN.{getD}
-use lib.Pow.{pow-add, pow-mono, shr-shr, shl-shr, shr-le}
-use Rattle.words.specs.BlockMap.{taken}
-use Rattle.words.specs.Look.{firstOne, onesFrom}
+use lib.Bits.{bitOr, or-lt, or-step, or-shr, shifted-even}
+use lib.Count.{trailingZeros, under}
+use lib.Pow.{pow-add, pow-mono, shr-shr, shl-shr}
+use Rattle.words.specs.Look.{fromBit, blockedIn}
 use Rattle.words.specs.Word.{bits}
-use Rattle.words.proofs.Word.{bit-zero, bit-suc}
+use Rattle.words.proofs.Word.{Digit, off, on, bit-digit, bit-zero, bit-suc, bit-none}
 use Rattle.words.proofs.WithBit.{double, bit-le}
 
 -- ---- a word
@@ -43,33 +39,38 @@ lowest (suc k) n h = go (n % 2) refl h (λ l. lowest k (n / 2) l)
     go zero e l r = bit-suc n (trailingZeros k (n / 2)) ∙ r (omega arith)
     go (suc d) e l r = bit-zero n ∙ omega arith
 
--- a bit that all but the word's bits have not is the word's
-not-bit : (k x i : ℕ) → x < 2 ^ k → i < k → bits (2 ^ k - 1 - x) i 1 ≡ 0 → bits x i 1 ≡ 1
-not-bit zero x i l h e = absurd (omega arith)
-not-bit (suc k) x zero l h e = let d = double k in omega (arith, d)
-not-bit (suc k) x (suc i) l h e =
+-- a word that is not 0 has one
+some-one : (k n : ℕ) → n ≢ 0 → n < 2 ^ k → trailingZeros k n < k
+unfolding trailingZeros
+some-one zero n ne l = absurd (ne (omega arith))
+some-one (suc k) n ne l = go (n % 2) refl (λ m b. some-one k (n / 2) m b)
+  where
+    half : n / 2 < 2 ^ k
+    half = let e = double k in omega (arith, e)
+
+    go : (d : ℕ) → n % 2 ≡ d → (n / 2 ≢ 0 → n / 2 < 2 ^ k → trailingZeros k (n / 2) < k) → under d (trailingZeros k (n / 2)) < suc k
+    go zero e r = let h = r (λ z. ne (omega arith)) half in omega arith
+    go (suc d) e r = omega arith
+
+-- all but a word's bits
+pub not-bit : (k x i : ℕ) → x < 2 ^ k → i < k → bits (2 ^ k - 1 - x) i 1 + bits x i 1 ≡ 1
+not-bit zero x i l h = absurd (omega arith)
+not-bit (suc k) x zero l h = let d = double k in omega (arith, d)
+not-bit (suc k) x (suc i) l h =
     let d = double k in
     let f : (2 ^ suc k - 1 - x) / 2 ≡ 2 ^ k - 1 - x / 2 = omega (arith, d) in
-    bit-suc x i ∙ not-bit k (x / 2) i (omega (arith, d)) (omega arith) (sym (bit-suc (2 ^ suc k - 1 - x) i ∙ ap (λ (y : ℕ). bits y i 1) f) ∙ e)
+    let r = not-bit k (x / 2) i (omega (arith, d)) (omega arith) in
+    rw (bit-suc (2 ^ suc k - 1 - x) i, bit-suc x i, f) r
 
--- the ones that a word begins with, by the zeros of all but its bits
-ones-first : (x i : ℕ) → x < 2 ^ 64 → i < trailingZeros 64 (2 ^ 64 - 1 - x) → bits x i 1 ≡ 1
-ones-first x i l h = not-bit 64 x i l (omega (arith, trailing-le 64 (2 ^ 64 - 1 - x))) (below 64 (2 ^ 64 - 1 - x) i h)
-
-first-one : (x : ℕ) → x < 2 ^ 64 → bits x 0 1 ≡ 1 → 1 ≤ trailingZeros 64 (2 ^ 64 - 1 - x)
-first-one x l e = go (decLe 1 (trailingZeros 64 (2 ^ 64 - 1 - x)))
+-- a one lies inside the word
+pub inside : (w i : ℕ) → w < 2 ^ 64 → bits w i 1 ≡ 1 → i < 64
+inside w i fits e = go (decLt i 64)
   where
-    go : Dec (1 ≤ trailingZeros 64 (2 ^ 64 - 1 - x)) → 1 ≤ trailingZeros 64 (2 ^ 64 - 1 - x)
+    go : Dec (i < 64) → i < 64
     go (yes h) = h
-    go (no h) =
-        let z : trailingZeros 64 (2 ^ 64 - 1 - x) ≡ 0 = omega arith in
-        let b : bits (2 ^ 64 - 1 - x) 0 1 ≡ 1 = ap (λ (y : ℕ). bits (2 ^ 64 - 1 - x) y 1) (sym z) ∙ lowest 64 (2 ^ 64 - 1 - x) (omega arith) in
-        absurd (omega arith)
+    go (no h) = absurd (not-le-of-lt fits (le-trans (pow-mono {i = 64} {j = i} (omega arith)) (bit-le w i e)))
 
 -- without its bits below bit j
-fromBit : ℕ → ℕ → ℕ
-fromBit w j = w / 2 ^ j * 2 ^ j
-
 from-same : (w j i : ℕ) → j ≤ i → bits (fromBit w j) i 1 ≡ bits w i 1
 unfolding fromBit
 from-same w j i h =
@@ -88,92 +89,101 @@ from-none w j i h =
     ∙ ap (λ (x : ℕ). x % 2) (shl-shr (w / 2 ^ j * 2 ^ suc d) i) ∙ shifted-even (w / 2 ^ j) d
 
 -- shifted down and up again, a word loses these and nothing else
-pub shifted-back : (w j : ℕ) → w < 2 ^ 64 → w / 2 ^ j * 2 ^ j % 2 ^ 64 ≡ w / 2 ^ j * 2 ^ j
-shifted-back w j l = mod-eq-of-lt (lt-of-le-of-lt (div-mul-le-self w (2 ^ j)) l)
+pub shifted-back : (w j : ℕ) → w < 2 ^ 64 → (w / 2 ^ j * 2 ^ j % 2 ^ 64 ≡ fromBit w j) × (w / 2 ^ j * 2 ^ j % 2 ^ 64 < 2 ^ 64)
+unfolding fromBit
+shifted-back w j l =
+    let less : w / 2 ^ j * 2 ^ j < 2 ^ 64 = lt-of-le-of-lt (div-mul-le-self w (2 ^ j)) l in
+    let e = mod-eq-of-lt less in
+    (e, rw e less)
 
--- ---- a word of the map
+-- its lowest one
+pub record Lowest (w low j : ℕ) : Type 0 where
+  pub from : low ≤ j
+  pub less : j < 64
+  pub one : bits w j 1 ≡ 1
+  pub zeros : (i : ℕ) → low ≤ i → i < j → bits w i 1 ≡ 0
 
--- the blocks from a to before c are all taken, or all free
-abbrev pub Same : List ℕ → Bool → ℕ → ℕ → Type 0
-Same map x a c = (b : ℕ) → a ≤ b → b < c → taken map b ≡ x
-
--- by the bits of map word k
-by-bits : (map : List ℕ) (k : ℕ) (x : Bool) (a c : ℕ) → ((j : ℕ) → a ≤ j → j < c → (j < 64) × (eqb (bits (getD map k 0) j 1) 1 ≡ x))
-    → Same map x (64 * k + a) (64 * k + c)
-unfolding taken
-by-bits map k x a c h b lo hi =
-    let f = h (b - 64 * k) (omega arith) (omega arith) in
-    let l : b - 64 * k < 64 = f .0 in
-    let q : b / 64 ≡ k = omega (arith, l) in
-    let r : b % 64 ≡ b - 64 * k = omega (arith, l) in
-    rw (q, r) (f .1)
-
--- a one that is found stands at `low` or behind
-pub from-low : (w low j : ℕ) → j ≡ firstOne w low → j < 64 → low ≤ j
-unfolding firstOne fromBit
-from-low w low j e less = go (decLe low j)
+pub lowest-is : (w low x : ℕ) → x ≡ fromBit w low → x < 2 ^ 64 → x ≢ 0 → Lowest w low (trailingZeros 64 x)
+lowest-is w low x e fits ne = record {
+  from = from;
+  less = less;
+  one = sym (same (trailingZeros 64 x) from) ∙ one;
+  zeros = λ i lo hi. sym (same i lo) ∙ below 64 x i hi;
+}
   where
-    go : Dec (low ≤ j) → low ≤ j
-    go (yes h) = h
-    go (no h) =
-        let one : bits (fromBit w low) j 1 ≡ 1 = rw e (lowest 64 (fromBit w low) (omega arith)) in
-        absurd (omega (arith, one, from-none w low j (omega arith)))
+    less : trailingZeros 64 x < 64
+    less = some-one 64 x ne fits
 
--- a word has 64 bits
-pub few-ones : (w j : ℕ) → onesFrom w j ≤ 64
-unfolding onesFrom
-few-ones w j = trailing-le 64 (2 ^ 64 - 1 - w / 2 ^ j)
+    one : bits x (trailingZeros 64 x) 1 ≡ 1
+    one = lowest 64 x less
 
-module _ (map : List ℕ) (k low : ℕ) where
-  abbrev w : ℕ
-  w = getD map k 0
+    same : (i : ℕ) → low ≤ i → bits x i 1 ≡ bits w i 1
+    same i lo = ap (λ (y : ℕ). bits y i 1) e ∙ from-same w low i lo
 
-  free-at : (i j : ℕ) → j ≡ firstOne w low → low ≤ i → i < j → eqb (bits w i 1) 1 ≡ false
-  unfolding firstOne fromBit
-  free-at i j e lo hi = ap (λ (x : ℕ). eqb x 1) (sym (from-same w low i lo) ∙ below 64 (fromBit w low) i (omega arith))
+    from : low ≤ trailingZeros 64 x
+    from = go (decLe low (trailingZeros 64 x))
+      where
+        go : Dec (low ≤ trailingZeros 64 x) → low ≤ trailingZeros 64 x
+        go (yes h) = h
+        go (no h) =
+            let z = ap (λ (y : ℕ). bits y (trailingZeros 64 x) 1) e ∙ from-none w low (trailingZeros 64 x) (omega arith) in absurd (omega (arith, one, z))
 
-  -- no one from `low` on: all these blocks are free
-  pub none-taken : (j : ℕ) → j ≡ firstOne w low → 64 ≤ j → Same map false (64 * k + low) (64 * k + 64)
-  none-taken j e h = by-bits map k false low 64 (λ i lo hi. (hi, free-at i j e lo (omega arith)))
+-- no one is left
+pub zeros-from : (w low x : ℕ) → x ≡ fromBit w low → x ≡ 0 → (i : ℕ) → low ≤ i → bits w i 1 ≡ 0
+zeros-from w low x e z i lo = sym (from-same w low i lo) ∙ ap (λ (y : ℕ). bits y i 1) (sym e ∙ z) ∙ bit-none i
 
-  -- blocks that are free, then n that are taken
-  pub record Looked (j n : ℕ) : Type 0 where
-    pub from : low ≤ j
-    pub isFree : Same map false (64 * k + low) (64 * k + j)
-    pub isTaken : Same map true (64 * k + j) (64 * k + (j + n))
-    pub some : 1 ≤ n
+-- ---- bits from which a run ends
 
-  pub looked : (j n : ℕ) → j ≡ firstOne w low → n ≡ onesFrom w j → w < 2 ^ 64 → j < 64 → Looked j n
-  unfolding firstOne onesFrom fromBit
-  looked j n ej en fits less = record {
-    from = from;
-    isFree = by-bits map k false low j (λ i lo hi. (omega arith, free-at i j ej lo hi));
-    isTaken = by-bits map k true j (j + n) ones;
-    some = rw en (first-one (w / 2 ^ j) shifted (at 0 ∙ ap (λ (x : ℕ). bits w x 1) (omega arith) ∙ one));
-  }
-    where
-      from : low ≤ j
-      from = from-low w low j ej less
+low-or : (a b : ℕ) → bitOr a b % 2 ≡ max (a % 2) (b % 2)
+low-or a b = let e = or-step a b in let h : max (a % 2) (b % 2) < 2 = omega arith in rw e (omega arith)
 
-      shifted : w / 2 ^ j < 2 ^ 64
-      shifted = lt-of-le-of-lt (shr-le w j) fits
+or-bit : (a b i : ℕ) → bits (bitOr a b) i 1 ≡ max (bits a i 1) (bits b i 1)
+or-bit a b i = ap (λ (x : ℕ). x % 2) (or-shr a b i) ∙ low-or (a / 2 ^ i) (b / 2 ^ i)
 
-      one : bits w j 1 ≡ 1
-      one = sym (from-same w low j from) ∙ rw ej (lowest 64 (fromBit w low) (omega arith))
+blocked-next : (w m i : ℕ) → bits (blockedIn w (suc m)) i 1 ≡ max (bits (blockedIn w m) i 1) (bits (blockedIn w m) (suc i) 1)
+unfolding blockedIn
+blocked-next w m i = or-bit (blockedIn w m) (blockedIn w m / 2) i ∙ ap (λ (x : ℕ). max (bits (blockedIn w m) i 1) x) (sym (bit-suc (blockedIn w m) i))
 
-      -- bit i of the shifted word
-      at : (i : ℕ) → bits (w / 2 ^ j) i 1 ≡ bits w (j + i) 1
-      at i = ap (λ (x : ℕ). x % 2 ^ 1) (shr-shr w j i)
+-- a one within the next m bits
+pub record Near (w m i : ℕ) : Type 0 where
+  pub by : ℕ
+  pub few : by ≤ m
+  pub one : bits w (i + by) 1 ≡ 1
 
-      inside : (i : ℕ) → bits w i 1 ≡ 1 → i < 64
-      inside i e = go (decLt i 64)
-        where
-          go : Dec (i < 64) → i < 64
-          go (yes h) = h
-          go (no h) = absurd (not-le-of-lt fits (le-trans (pow-mono {i = 64} {j = i} (omega arith)) (bit-le w i e)))
+pub near : (w m i : ℕ) → bits (blockedIn w m) i 1 ≡ 1 → Near w m i
+unfolding blockedIn
+near w zero i e = record { by = 0; few = omega arith; one = ap (λ (x : ℕ). bits w x 1) (omega arith) ∙ e }
+near w (suc m) i e = go (bits (blockedIn w m) i 1) (bit-digit (blockedIn w m) i) refl (λ f. near w m i f) (λ f. near w m (suc i) f)
+  where
+    go : (d : ℕ) → Digit d → bits (blockedIn w m) i 1 ≡ d → (bits (blockedIn w m) i 1 ≡ 1 → Near w m i)
+        → (bits (blockedIn w m) (suc i) 1 ≡ 1 → Near w m (suc i)) → Near w (suc m) i
+    go one on f here next = let r = here f in record { by = r .by; few = omega (arith, r .few); one = r .one }
+    go zero off f here next =
+        let r = next (omega (arith, blocked-next w m i, e, f)) in
+        record { by = suc (r .by); few = omega (arith, r .few); one = ap (λ (x : ℕ). bits w x 1) (omega arith) ∙ r .one }
 
-      ones : (i : ℕ) → j ≤ i → i < j + n → (i < 64) × (eqb (bits w i 1) 1 ≡ true)
-      ones i lo hi =
-          let e : j + (i - j) ≡ i = omega arith in
-          let b : bits w i 1 ≡ 1 = ap (λ (x : ℕ). bits w x 1) (sym e) ∙ sym (at (i - j)) ∙ ones-first (w / 2 ^ j) (i - j) shifted (omega arith) in
-          (inside i b, ap (λ (x : ℕ). eqb x 1) b)
+-- and none where the bit is clear
+pub clear-ahead : (w m i d : ℕ) → bits (blockedIn w m) i 1 ≡ 0 → d ≤ m → bits w (i + d) 1 ≡ 0
+unfolding blockedIn
+clear-ahead w zero i d e l = ap (λ (x : ℕ). bits w x 1) (omega arith) ∙ e
+clear-ahead w (suc m) i zero e l = clear-ahead w m i 0 (omega (arith, blocked-next w m i, e)) (omega arith)
+clear-ahead w (suc m) i (suc d) e l =
+    ap (λ (x : ℕ). bits w x 1) (omega arith) ∙ clear-ahead w m (suc i) d (omega (arith, blocked-next w m i, e)) (omega arith)
+
+-- where a clear bit stands behind one that is not, that one is the word's
+pub behind-one : (w m i : ℕ) → bits (blockedIn w m) i 1 ≡ 1 → bits (blockedIn w m) (suc i) 1 ≡ 0 → bits w i 1 ≡ 1
+behind-one w m i e z = go (near w m i e)
+  where
+    go : Near w m i → bits w i 1 ≡ 1
+    go r = at (r .by) (r .few) (r .one)
+      where
+        at : (d : ℕ) → d ≤ m → bits w (i + d) 1 ≡ 1 → bits w i 1 ≡ 1
+        at zero l h = ap (λ (x : ℕ). bits w x 1) (omega arith) ∙ h
+        at (suc d) l h =
+            let q : i + suc d ≡ suc i + d = omega arith in
+            absurd (omega (arith, ap (λ (x : ℕ). bits w x 1) (sym q) ∙ h, clear-ahead w m (suc i) d z (omega arith)))
+
+pub blocked-lt : (w m : ℕ) → w < 2 ^ 64 → blockedIn w m < 2 ^ 64
+unfolding blockedIn
+blocked-lt w zero l = l
+blocked-lt w (suc m) l = let h = blocked-lt w m l in or-lt 64 (blockedIn w m) (blockedIn w m / 2) h (omega arith)

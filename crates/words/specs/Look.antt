@@ -1,20 +1,44 @@
--- For the contracts of the search: what one look at a map word shows, and what a stretch is weighed by.
-use Prim.Native.Nat.{ℕ, _-_, _*_, _/_, _^_}
-use mathlib.Core.Bool.{true, false, _&&_}
-use lib.Count.{trailingZeros}
-use lib.Dec.{leb, ltb}
-use Rattle.words.specs.declared.map.Stretch.{Stretch}
+-- For the contracts of the search: what looks at map words show. Nothing here is needed to say what is found.
+use Prim.Native.Nat.{ℕ, zero, suc, _+_, _-_, _*_, _/_, _^_, _≤_, _<_, min}
+use mathlib.Core.Path.{_≡_}
+use mathlib.Core.Logic.{_⊎_}
+use mathlib.Core.Bool.{true, false}
+use mathlib.Core.List.{List}
+use lib.Bits.{bitOr}
+use lib.ListN.{length}
+use Rattle.words.specs.BlockMap.{taken}
 
--- the lowest one among a word's bits from `low` on, 64 where there is none
-unfoldable pub firstOne : ℕ → ℕ → ℕ
-firstOne w low = trailingZeros 64 (w / 2 ^ low * 2 ^ low)
+-- a word without its bits below bit j
+unfoldable pub fromBit : ℕ → ℕ → ℕ
+fromBit w j = w / 2 ^ j * 2 ^ j
 
--- how many ones in a row a word has from bit j on
-unfoldable pub onesFrom : ℕ → ℕ → ℕ
-onesFrom w j = trailingZeros 64 (2 ^ 64 - 1 - w / 2 ^ j)
+-- the bits at which w has a one, or within the next m
+unfoldable pub blockedIn : ℕ → ℕ → ℕ
+blockedIn w zero = w
+blockedIn w (suc m) = let t = blockedIn w m in bitOr t (t / 2)
 
--- of the best stretch so far and the one from `start` to before `end`, which is none where these are equal: `shorter` of the search
-unfoldable pub weighed : ℕ → Stretch → ℕ → ℕ → Stretch
-weighed n best start end =
-    let length = end - start in
-    elim (ltb 0 length && leb n length && ltb length (best .length)) [ true ↦ record { start = start; length = length } | false ↦ best ]
+-- the map words that tell of the image's blocks
+abbrev pub Whole : List ℕ → ℕ → ℕ → Type 0
+Whole map blocks words = words ≡ min ((blocks + 63) / 64) (length map)
+
+-- block 1, or a block behind a taken one
+abbrev pub Begins : List ℕ → ℕ → Type 0
+Begins map s = (s ≡ 1) ⊎ (taken map (s - 1) ≡ true)
+
+-- such a block, or one that is taken itself
+abbrev pub Behind : List ℕ → ℕ → Type 0
+Behind map s = Begins map s ⊎ (taken map s ≡ true)
+
+-- a taken block ends every run of n blocks from x on
+pub record Blocked (map : List ℕ) (n x : ℕ) : Type 0 where
+  pub at : ℕ
+  pub from : x ≤ at
+  pub near : (at ≡ x) ⊎ (at < x + n)
+  pub isTaken : taken map at ≡ true
+
+-- from s to t no run of n blocks begins; at t a stretch does, where t is a block of the image
+pub record Passes (map : List ℕ) (blocks n s t : ℕ) : Type 0 where
+  pub from : s ≤ t
+  pub blocked : (x : ℕ) → s ≤ x → x < t → Blocked map n x
+  pub begins : t < blocks → Begins map t
+  pub isFree : t < blocks → taken map t ≡ false
