@@ -104,7 +104,12 @@ module _ (E : Edition) (m : Memory) (s : Shared) (p : Point) where
 
   unfoldable pub afterExtend : ℕ → Outcome
   afterExtend b =
-      record { step = Extending; shared = withTaken s (setBlock true (s .taken) b); point = withHead p (writing h (turned w Zeroing 0 b (w .retries))); store = none }
+      record {
+        step = Extending;
+        shared = withTaken s (setBlock true (s .taken) b);
+        point = withHead p (writing h (turned w Zeroing 0 b (w .retries)));
+        store = none;
+      }
 
   pub extend-leaves : (b : ℕ) → (b ≡ 0 → ⊥) → out (extend E h b) ≡ afterExtend b
   unfolding carriedOut readIn freed setAll extend afterExtend

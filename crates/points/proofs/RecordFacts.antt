@@ -48,7 +48,8 @@ shared-facts E words s e =
 
 -- and back
 pub shared-fits :
-    (E : Edition) (words : List ℕ) (s : Shared) → 4 ≤ s .blocks → s .blocks ≤ 1024 → E .blockWords * s .blocks ≡ length words → badShared E words s ≡ false
+    (E : Edition) (words : List ℕ) (s : Shared) → 4 ≤ s .blocks → s .blocks ≤ 1024 → E .blockWords * s .blocks ≡ length words
+    → badShared E words s ≡ false
 unfolding badShared
 shared-fits E words s some few whole = none-any _ (
   not-of _ (and-both _ _ (le-leb 4 (s .blocks) some) (le-leb (s .blocks) 1024 few)),
