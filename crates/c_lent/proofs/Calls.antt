@@ -31,7 +31,7 @@ use Rattle.c_lent.specs.declared.Answer.{Answer}
 use Rattle.c_lent.specs.declared.Count.{Count}
 use Rattle.c_lent.specs.Numbers.{answerNumbers, countNumbers, headNumbers, headFrom, isKnown, sharedNumbers, leadFrom, sharedFrom}
 use Rattle.c_lent.specs.Numbers.{SharedLent, PointLent, sharedIn, lendShared, lendPoint}
-use Rattle.c_lent.specs.Calls.{StepLeft, left, pointLeft, stepLeft, sharedLeft, readLeft, unknown, ifKnown}
+use Rattle.c_lent.specs.Calls.{PointLeft, StepLeft, left, stepLeft, sharedLeft, readLeft, unknown, ifKnown}
 use Rattle.c_lent.specs.Calls.{joinFor, beginFor, stepFor, leaveFor, readFor, locateFor}
 
 module _ (words shared taken : List ℕ) where
@@ -92,15 +92,18 @@ module _ (words : List ℕ) (s : SharedLent) (p : PointLent) where
         left-by x =
             stepLeft (answerNumbers (x .step) (storedAt one store)) (after one words store) (lentAs (s .numbers) (x .shared .taken)) (lendPoint (x .point))
 
-    module _ (x : Shared) (ex : x ≡ sharedIn s) where
-      pub begin-known :
-          (offset : ℕ) (bytes : List ℕ) (y : LentBegun) (table text : List ℕ)
-          → begunOf y table text ≡ beginning one words x (pointOf h (p .table) (p .text)) offset bytes
-          → (n : ℕ) → n ≡ numberOf (y .reply) → (xs hs : List ℕ) → xs ≡ sharedNumbers (y .shared) → hs ≡ headNumbers (y .head)
-          → left n (lentAs xs (y .shared .taken)) (pointAs hs table text) ≡ beginFor words s p offset bytes
-      begin-known offset bytes y table text e n en xs hs es eh′ =
-          rw (en, es, eh′) (ap (λ (b : Begun). pointLeft (b .reply) (b .shared) (b .point)) e ∙ rw (ex, eh) (is-known _ _))
+    pub begin-known :
+        (lead : Numbers) → lead ≡ leadFrom (s .numbers) → (offset : ℕ) (bytes : List ℕ) (y : LentBegun) (taken table text : List ℕ)
+        → begunOf lead y taken table text ≡ beginning one words (sharedOf lead (s .taken)) (pointOf h (p .table) (p .text)) offset bytes
+        → (n : ℕ) → n ≡ numberOf (y .reply) → (hs : List ℕ) → hs ≡ headNumbers (y .head)
+        → left n (lentAs (s .numbers) taken) (pointAs hs table text) ≡ beginFor words s p offset bytes
+    begin-known lead el offset bytes y taken table text e n en hs eh′ =
+        rw (en, eh′) (ap left-by e ∙ rw (el, eh) (is-known _ _))
+      where
+        left-by : Begun → PointLeft
+        left-by b = left (numberOf (b .reply)) (lentAs (s .numbers) (b .shared .taken)) (lendPoint (b .point))
 
+    module _ (x : Shared) (ex : x ≡ sharedIn s) where
       pub leave-known :
           (y : Left) → y ≡ leaving one words x (pointOf h (p .table) (p .text))
           → (n : ℕ) → n ≡ numberOf (y .reply) → (xs : List ℕ) → xs ≡ sharedNumbers (y .shared)

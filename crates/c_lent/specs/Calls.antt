@@ -96,17 +96,20 @@ module _ (words : List ℕ) (s : SharedLent) (p : PointLent) where
   unfoldable pub ifKnown : {X : Type 0} → X → (ℕ → X) → X
   ifKnown served refused = elim (isKnown (p .head)) [ true ↦ served | false ↦ refused (unknown words (s .numbers) (s .taken)) ]
 
+  -- a beginning and a step change the map alone of the shared record: its numbers stay
+  abbrev withMap : Shared → SharedLent
+  withMap t = record { numbers = s .numbers; taken = t .taken }
+
   abbrev pub beginFor : ℕ → List ℕ → PointLeft
   beginFor offset bytes =
       let b = beginning one words (sharedIn s) (pointIn p) offset bytes in
-      ifKnown (pointLeft (b .reply) (b .shared) (b .point)) (λ n. left n s p)
+      ifKnown (left (numberOf (b .reply)) (withMap (b .shared)) (lendPoint (b .point))) (λ n. left n s p)
 
-  -- a step changes the map alone of the shared record: its numbers stay
   abbrev pub stepFor : StepLeft
   stepFor =
       let o = stepping one words (sharedIn s) (pointIn p) in
       let answer = answerNumbers (o .step) (storedAt one (o .store)) in
-      ifKnown (stepLeft answer (after one words (o .store)) (record { numbers = s .numbers; taken = o .shared .taken }) (lendPoint (o .point)))
+      ifKnown (stepLeft answer (after one words (o .store)) (withMap (o .shared)) (lendPoint (o .point)))
       (λ n. stepLeft (answerNumbers (Refused n) 0) words s p)
 
   abbrev pub leaveFor : SharedLeft

@@ -95,7 +95,8 @@ pub fn begin(
     }
     let begun = points::begin::begin_lent(
         image,
-        numbers::shared(shared, taken),
+        numbers::lead(shared),
+        taken,
         numbers::head(head),
         table,
         text,
@@ -103,11 +104,7 @@ pub fn begin(
         bytes,
     );
     let reply = begun.reply;
-    let kept = begun.shared;
-    let map = kept.taken;
     let left = begun.head;
-    *shared = numbers::of_shared(kept);
-    *taken = map;
     *head = numbers::of_head(left);
     numbers::of_reply(reply)
 }

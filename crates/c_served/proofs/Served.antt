@@ -16,6 +16,7 @@ use Rattle.points.specs.Calls.{joinRefusal, joining, beginRefusal, beginning, l
 use Rattle.points.specs.Plan.{answered, storedAt}
 use Rattle.points.specs.Stepping.{stepping}
 use Rattle.points.specs.Reading.{readRefusal, reading, locateRefusal, locating}
+use Rattle.points.proofs.Begins.{begin-map}
 use Rattle.points.proofs.CarriedOut.{step-map}
 use Rattle.points.proofs.StoredAt.{told-none}
 use Rattle.points.proofs.Replies.{number-back, join-replies, begin-replies, leave-replies}
@@ -25,7 +26,7 @@ use Rattle.c_lent.specs.Numbers.{SharedLent, PointLent, sharedIn, pointIn, lend
 use Rattle.c_lent.specs.Numbers.{openedNumbers, answerNumbers, countNumbers}
 use Rattle.c_lent.specs.declared.Opened.{Opened}
 use Rattle.c_lent.specs.declared.Count.{Count}
-use Rattle.c_lent.specs.Calls.{PointLeft, StepLeft, SharedLeft, ReadLeft, pointLeft, stepLeft, sharedLeft, ifKnown}
+use Rattle.c_lent.specs.Calls.{PointLeft, StepLeft, SharedLeft, ReadLeft, left, stepLeft, sharedLeft, ifKnown}
 use Rattle.c_lent.specs.Calls.{sharedFor, joinFor, beginFor, stepFor, leaveFor, readFor, locateFor}
 use Rattle.c_served.specs.Served.{joinedFrom, begunFrom, steppedFrom, leftFrom, countFrom}
 use Rattle.c_served.specs.Served.{OpenServedFor, JoinServedFor, BeginServedFor, StepServedFor, LeaveServedFor, ReadServedFor, LocateServedFor}
@@ -67,10 +68,14 @@ module _ (words : List ℕ) (s : SharedLent) where
     unfolding BeginServedFor
     begin-for offset bytes l e known =
         let b = beginning one words (sharedIn s) (pointIn p) offset bytes in
-        let served = pointLeft (b .reply) (b .shared) (b .point) in
+        let served = left (numberOf (b .reply)) (record { numbers = s .numbers; taken = b .shared .taken }) (lendPoint (b .point)) in
         let why = beginRefusal one words (sharedIn s) (headFrom (p .head)) (p .table) offset (length bytes) in
         let back : begunFrom served ≡ b =
-        rw (reply-back (b .reply) why (begin-replies one words (sharedIn s) (pointIn p) offset bytes), point-back (b .point)) in
+        rw (
+          reply-back (b .reply) why (begin-replies one words (sharedIn s) (pointIn p) offset bytes),
+          point-back (b .point),
+          begin-map one words (sharedIn s) (pointIn p) offset bytes,
+        ) in
         rw (e ∙ is-known _ _ known) (
           begin-known one words (sharedIn s) (p .head) (p .table) (p .text) known offset bytes,
           begin-served words (sharedIn s) (pointIn p) offset bytes _ back,

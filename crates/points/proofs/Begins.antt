@@ -1,5 +1,6 @@
 -- Beginning: its reasons in their order, the text in its array, and what it answers. Assumes nothing.
 use Prim.Native.Nat.{ℕ, zero, suc, _+_, _-_, _≤_, _<_}
+use native.Mathlib.Decide.{ℕ-discrete}
 use native.Mathlib.Omega.{arith}
 use native.Mathlib.Numerals.{add-one}
 use native.Mathlib.Nat.{zero-add}
@@ -22,8 +23,11 @@ use Rattle.log.specs.Replay.{Mapped, replayOn}
 use Rattle.points.specs.declared.Head.{Head}
 use Rattle.points.specs.declared.Point.{Point}
 use Rattle.points.specs.declared.Begun.{Begun}
+use Rattle.points.specs.declared.LentBegun.{LentBegun}
+use Rattle.points.specs.declared.Numbers.{Numbers}
 use Rattle.points.specs.Record.{noText, isIdle, badText, pastEnd, span, fileAt, caughtUp, unfit}
-use Rattle.points.specs.Search.{search, withTaken}
+use Rattle.points.specs.Search.{sharedOf, numbersOf, search, withTaken}
+use Rattle.points.specs.Lent.{begunOf}
 use Rattle.points.specs.Start.{Started}
 use Rattle.points.specs.Calls.{beginRefusal, beginning, textOf, newWrite}
 use Rattle.points.proofs.RecordFacts.{TextFits, text-facts, shared-facts}
@@ -169,3 +173,23 @@ module _ (E : Edition) (words : List ℕ) (s : Shared) (p : Point) (offset : ℕ
                   text = textOf text;
                 };
           }
+
+-- a beginning on a whole shared record, by its numbers and its map
+pub whole-begin :
+    (words : List ℕ) (s : Shared) (p : Point) (offset : ℕ) (text : List ℕ) (n : Numbers) (left : LentBegun) (taken table kept : List ℕ) (t : Shared)
+    → n ≡ numbersOf s → t ≡ withTaken s taken → begunOf n left taken table kept ≡ beginning one words (sharedOf n (s .taken)) p offset text
+    → record { reply = left .reply; shared = t; point = record { head = left .head; table = table; text = kept } } ≡ beginning one words s p offset text
+whole-begin words s p offset text n left taken table kept t en et e = rw et (rw en at e)
+
+-- a beginning changes the map alone of the shared record
+pub begin-map : (E : Edition) (words : List ℕ) (s : Shared) (p : Point) (offset : ℕ) (text : List ℕ)
+    → withTaken s (beginning E words s p offset text .shared .taken) ≡ beginning E words s p offset text .shared
+unfolding beginning
+begin-map E words s p offset text = go (ℕ-discrete (beginRefusal E words s (p .head) (p .table) offset (length text)) 0)
+  where
+    kept : Begun → Type 0
+    kept b = withTaken s (b .shared .taken) ≡ b .shared
+
+    go : Dec (beginRefusal E words s (p .head) (p .table) offset (length text) ≡ 0) → kept (beginning E words s p offset text)
+    go (yes z) = subst kept (sym (chosen-zero (beginRefusal E words s (p .head) (p .table) offset (length text)) _ _ z)) refl
+    go (no ne) = subst kept (begin-refused E words s p offset text (beginRefusal E words s (p .head) (p .table) offset (length text)) refl ne) refl

@@ -36,10 +36,10 @@ use Rattle.points.specs.Reading.{seen}
 
 -- ---- answers: the record is the head that is answered, with the arrays as they are left
 
-abbrev pub begunOf : LentBegun → List ℕ → List ℕ → Begun
-begunOf left table text = record { reply = left .reply; shared = left .shared; point = pointOf (left .head) table text }
+-- a beginning and a step change the map alone of the shared record
+abbrev pub begunOf : Numbers → LentBegun → List ℕ → List ℕ → List ℕ → Begun
+begunOf n left taken table text = record { reply = left .reply; shared = sharedOf n taken; point = pointOf (left .head) table text }
 
--- a step changes the map alone of the shared record
 abbrev pub steppedOf : Numbers → LentStepped → List ℕ → List ℕ → List ℕ → Stepped
 steppedOf n left taken table text =
     record { step = left .step; shared = sharedOf n taken; point = pointOf (left .head) table text }

@@ -6,10 +6,12 @@ ghost use Rattle.words.specs.Edition.{one};
 ghost use Rattle.points.specs.Record.{pointOf};
 ghost use Rattle.points.specs.Calls.{newWrite, textOf, beginning};
 ghost use Rattle.points.specs.Start.{Started};
+ghost use Rattle.points.specs.Search.{sharedOf};
 ghost use Rattle.points.specs.Lent.{begunOf};
 use crate::Begun;
 use crate::Head;
 use crate::LentBegun;
+use crate::Numbers;
 use crate::Phase;
 use crate::Point;
 use crate::Write;
@@ -41,15 +43,17 @@ fn refused(reason: u32) -> Start
 // The first reason that holds. The walk to the tail settles 18, the search 19; nothing is changed.
 fn settle(
     image: &[u64],
-    shared: Shared,
+    numbers: Numbers,
+    taken: &[u64; 16],
     head: Head,
     table: &[u16; 256],
     offset: usize,
     size: usize,
 ) -> Start
-    ensures { λ r. ⌜ Started (now (image .entry)) shared head (now (table .entry)) offset size (r .reason) (r .place) (r .run) ⌝ }
+    ensures { λ r. ⌜ Started (now (image .entry)) (sharedOf numbers (now (taken .entry))) head (now (table .entry)) offset size
+        (r .reason) (r .place) (r .run) ⌝ }
 {
-    let reason = crate::record::unfit(image, shared, head, table);
+    let reason = crate::record::unfit_numbers(image, numbers, head, table);
     if reason != 0 {
         return refused(reason);
     }
@@ -64,11 +68,12 @@ fn settle(
     if crate::record::past_end(offset, size) {
         return refused(crate::PAST_END);
     }
-    let seen = log::ahead::look(image, shared.blocks, head.place, 0, 0);
+    let seen = log::ahead::look(image, numbers.blocks, head.place, 0, 0);
     if seen.broken {
         return refused(log::LOG_BROKEN);
     }
-    let run = crate::shared::search(shared, crate::record::span(offset as u32, size as u32));
+    let span = crate::record::span(offset as u32, size as u32);
+    let run = words::map::search(taken, numbers.blocks, span);
     if run == 0 {
         return refused(crate::NO_RUN);
     }
@@ -106,34 +111,35 @@ fn new_write(offset: u32, size: u32, run: u32) -> Write
     }
 }
 
-// Beginning, with the record's table and text lent: the point catches up and takes a run of the blocks that the write spans.
+// Beginning, with the map and the record's table and text lent: the point catches up and takes a run of the blocks that the write spans.
 pub fn begin_lent(
     image: &[u64],
-    shared: Shared,
+    numbers: Numbers,
+    taken: &mut [u64; 16],
     head: Head,
     table: &mut [u16; 256],
     text: &mut [u8; 1024],
     offset: usize,
     bytes: &[u8],
 ) -> LentBegun
-    ensures { λ r. ⌜ begunOf r (now (table .exit)) (now (text .exit))
-        ≡ beginning one (now (image .entry)) shared (pointOf head (now (table .entry)) (now (text .entry))) offset (now (bytes .entry)) ⌝ }
+    ensures { λ r. ⌜ begunOf numbers r (now (taken .exit)) (now (table .exit)) (now (text .exit)) ≡ beginning one (now (image .entry))
+        (sharedOf numbers (now (taken .entry))) (pointOf head (now (table .entry)) (now (text .entry))) offset (now (bytes .entry)) ⌝ }
 {
-    let start = settle(image, shared, head, table, offset, bytes.len());
+    let start = settle(image, numbers, taken, head, table, offset, bytes.len());
     if start.reason != 0 {
         return LentBegun {
             reply: Reply::Refused(start.reason),
-            shared,
             head,
         };
     }
-    let length = log::ahead::catch_up(image, shared.blocks, head.place, table, head.length);
+    let length = log::ahead::catch_up(image, numbers.blocks, head.place, table, head.length);
     put_text(text, bytes);
     let at = offset as u32;
     let size = bytes.len() as u32;
+    let span = crate::record::span(at, size);
+    words::map::take_run(taken, start.run as usize, span as usize);
     LentBegun {
         reply: Reply::Done,
-        shared: crate::shared::take(shared, start.run, crate::record::span(at, size)),
         head: crate::plan::head_of(
             head.number,
             length,
@@ -147,16 +153,26 @@ pub fn begin_lent(
 pub fn begin(image: &[u64], shared: Shared, point: Point, offset: usize, text: &[u8]) -> Begun
     ensures { λ r. ⌜ r ≡ beginning one (now (image .entry)) shared point offset (now (text .entry)) ⌝ }
 {
+    let numbers = crate::shared::numbers(shared);
+    let mut taken = shared.taken;
     let head = point.head;
     let mut table = point.table;
     let mut kept = point.text;
-    let left = begin_lent(image, shared, head, &mut table, &mut kept, offset, text);
+    let left = begin_lent(
+        image,
+        numbers,
+        &mut taken,
+        head,
+        &mut table,
+        &mut kept,
+        offset,
+        text,
+    );
     let reply = left.reply;
-    let taken = left.shared;
     let head = left.head;
     Begun {
         reply,
-        shared: taken,
+        shared: crate::shared::with_taken(shared, taken),
         point: Point {
             head,
             table,

@@ -3,8 +3,8 @@ ghost use mathlib.Core.Path.{_≡_};
 ghost use mathlib.Core.Bool.{true, false};
 ghost use mathlib.Core.List.{[], _∷_};
 ghost use Prim.Native.Nat.{_<_};
-ghost use Rattle.words.specs.BlockMap.{withBit, setRun, setAll};
-ghost use Rattle.points.specs.Search.{search, withJoined, withTaken, numbersOf};
+ghost use Rattle.words.specs.BlockMap.{withBit, setAll};
+ghost use Rattle.points.specs.Search.{withJoined, withTaken, numbersOf};
 use crate::Numbers;
 use log::Shared;
 
@@ -50,22 +50,6 @@ pub fn numbers(shared: Shared) -> Numbers
         blocks: shared.blocks,
         joined: shared.joined,
     }
-}
-
-// A run of n free blocks: its first block, 0 where there is none.
-pub(crate) fn search(shared: Shared, n: u32) -> u32
-    ensures { λ r. ⌜ r ≡ search shared n ⌝ }
-{
-    words::map::search(&shared.taken, shared.blocks, n)
-}
-
-// The shared record with a run taken.
-pub(crate) fn take(shared: Shared, run: u32, n: u32) -> Shared
-    ensures { λ r. ⌜ r ≡ withTaken shared (setRun true (shared .taken) run n) ⌝ }
-{
-    let mut map = shared.taken;
-    words::map::take_run(&mut map, run as usize, n as usize);
-    with_taken(shared, map)
 }
 
 // A block is taken, 0 for none.

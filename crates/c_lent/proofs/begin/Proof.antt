@@ -7,16 +7,16 @@ use Rattle.c_lent.proofs.begin.Tie as tie
 
 -- the way back, call by call
 abbrev begun : tie.After-of-reply → tie.After-begin-lent
-begun c = c .before .before .before .before .before .before
+begun c = c .before .before .before
 
 abbrev headed : tie.After-begin-lent → tie.After-head
 headed c = c .before .before .before
 
-abbrev shared : tie.After-head → tie.After-shared
-shared c = c .before .before
+abbrev led : tie.After-head → tie.After-lead
+led c = c .before .before .before
 
-abbrev tested : tie.After-shared → tie.Else1
-tested c = c .before .before .before
+abbrev tested : tie.After-lead → tie.Else1
+tested c = c .before .before
 
 abbrev start : tie.After-is-known → tie.Start
 start c = c .before .before .before .before
@@ -34,17 +34,14 @@ returns c =
     is-none (a .image .now) (sharedLent (a .shared) (a .taken)) (pointLent (a .head) (a .table) (a .text)) _ _
     (tests-none (t .before .is-known .ensures) (t .if1 .taken)) _ (c .unknown .ensures (a .taken .now))
 
-shared-requires : tie.Need-shared-requires
-shared-requires c κs = search needs
+lead-requires : tie.Need-lead-requires
+lead-requires c κs = search needs
 
 head-requires : tie.Need-head-requires
-head-requires c κs = let t = tested (c .before) in tests-known (t .before .is-known .ensures) (t .if1 .left)
+head-requires c κs = let t = tested (c .before .before) in tests-known (t .before .is-known .ensures) (t .if1 .left)
 
 begin-lent-requires : tie.Need-begin-lent-requires
 begin-lent-requires c κs = search needs
-
-of-shared-requires : tie.Need-of-shared-requires
-of-shared-requires c κs = search needs
 
 of-head-requires : tie.Need-of-head-requires
 of-head-requires c κs = search needs
@@ -56,13 +53,13 @@ returns-2 : tie.Need-returns-2
 returns-2 c =
     let b = begun c in
     let h = headed b in
-    let s = shared h in
-    let t = tested s in
+    let l = led h in
+    let t = tested l in
     let a = start (t .before) .args in
+    let y = b .begin-lent in
     begin-known (a .image .now) (sharedLent (a .shared) (a .taken)) (pointLent (a .head) (a .table) (a .text))
-    (tests-known (t .before .is-known .ensures) (t .if1 .left)) _ (h .head .ensures) _ (s .shared .ensures) (a .offset) (a .bytes .now)
-    (b .begin-lent .result) (b .begin-lent .last .1 .1 .1 .0) (b .begin-lent .last .1 .1 .1 .1 .0) (b .begin-lent .ensures)
-    _ (c .of-reply .ensures) _ _ (c .before .before .of-shared .ensures) (c .before .of-head .ensures)
+    (tests-known (t .before .is-known .ensures) (t .if1 .left)) _ (h .head .ensures) _ (l .lead .ensures) (a .offset) (a .bytes .now)
+    (y .result) _ _ _ (y .ensures) _ (c .of-reply .ensures) _ (c .before .of-head .ensures)
 
 pub begin-spec : {M : Type 1} → statement M
 begin-spec =
@@ -71,10 +68,9 @@ begin-spec =
     is-known-requires
     unknown-requires
     returns
-    shared-requires
+    lead-requires
     head-requires
     begin-lent-requires
-    of-shared-requires
     of-head-requires
     of-reply-requires
     returns-2)

@@ -1,28 +1,38 @@
 -- `points::begin::begin_lent` meets its contract: one law for the refusal, one for the beginning; what has passed the reasons gives every bound.
 -- Assumes nothing.
 use native.Mathlib.Omega.{arith}
-use mathlib.Core.Path.{sym, _∙_}
+use mathlib.Core.Path.{sym, ap, _∙_}
 use borrow.Author.Needs.{needs}
 use Rattle.words.specs.Edition.{one}
 use Rattle.points.specs.Record.{pointOf}
+use Rattle.points.specs.Search.{sharedOf}
 use Rattle.points.proofs.Begins.{Ready, ready, begin-refused, begin-done}
 use Rattle.points.proofs.begin.begin_lent.Statement.{statement}
 use Rattle.points.proofs.begin.begin_lent.Tie as tie
 
 -- the way back: where nothing was refused, and the start
-abbrev not-refused : tie.After-take → tie.Else1
-not-refused c = c .before .before .before .before .before .before
+abbrev spanned : tie.After-take-run → tie.After-span
+spanned c = c .before .before .before
 
-abbrev start : tie.Else1 → tie.Start
-start c = c .before .before .before .before .before .before
+abbrev caught : tie.After-span → tie.After-catch-up
+caught c = c .before .before .before
+
+abbrev not-refused : tie.After-catch-up → tie.Else1
+not-refused c = c .before .before
+
+abbrev settled : tie.Else1 → tie.After-settle
+settled c = c .before .before
+
+abbrev start : tie.After-settle → tie.Start
+start c = c .before .before .before .before .before
 
 passed :
-    (c : tie.Else1) → let a = start c .args in
-    Ready one (a .image .now) (a .shared) (pointOf (a .head) (a .table .now) (a .text .now)) (a .offset) (a .bytes .now)
+    (c : tie.Else1) → let a = start (settled c) .args in
+    Ready one (a .image .now) (sharedOf (a .numbers) (a .taken .now)) (pointOf (a .head) (a .table .now) (a .text .now)) (a .offset) (a .bytes .now)
 passed c =
-    let a = start c .args in
-    let q = c .before .before .settle in
-    ready one (a .image .now) (a .shared) (pointOf (a .head) (a .table .now) (a .text .now)) (a .offset) (a .bytes .now)
+    let a = start (settled c) .args in
+    let q = settled c .settle in
+    ready one (a .image .now) (sharedOf (a .numbers) (a .taken .now)) (pointOf (a .head) (a .table .now) (a .text .now)) (a .offset) (a .bytes .now)
     (sym (q .ensures .refusal) ∙ c .if1 .left)
 
 settle-requires : tie.Need-settle-requires
@@ -30,10 +40,10 @@ settle-requires c κs = search needs
 
 returns : tie.Need-returns
 returns c =
-    let a = c .before .before .before .before .before .before .args in
-    let q = c .before .before .settle in
-    begin-refused one (a .image .now) (a .shared) (pointOf (a .head) (a .table .now) (a .text .now)) (a .offset) (a .bytes .now) (q .result .reason)
-    (q .ensures .refusal) (c .if1 .taken)
+    let q = c .before .before in
+    let a = start q .args in
+    begin-refused one (a .image .now) (sharedOf (a .numbers) (a .taken .now)) (pointOf (a .head) (a .table .now) (a .text .now)) (a .offset) (a .bytes .now)
+    (q .settle .result .reason) (q .settle .ensures .refusal) (c .if1 .taken)
 
 catch-up-requires : tie.Need-catch-up-requires
 catch-up-requires c κs = search needs
@@ -50,8 +60,14 @@ cast-size c = let r = passed (c .before .before .before .before) in record { fit
 span-requires : tie.Need-span-requires
 span-requires c κs = search needs
 
-take-requires : tie.Need-take-requires
-take-requires c κs = search needs
+cast-take-run : tie.Need-cast-take-run
+cast-take-run c = search needs
+
+cast-take-run-2 : tie.Need-cast-take-run-2
+cast-take-run-2 c = search needs
+
+take-run-requires : tie.Need-take-run-requires
+take-run-requires c κs = search needs
 
 new-write-requires : tie.Need-new-write-requires
 new-write-requires c κs = search needs
@@ -62,18 +78,31 @@ head-of-requires c κs = search needs
 returns-2 : tie.Need-returns-2
 returns-2 c =
     let taken = c .before .before in
-    let e = not-refused taken in
-    let q = e .before .before .settle in
+    let s = spanned taken in
+    let e = not-refused (caught s) in
+    let q = settled e .settle in
     let z = e .if1 .left in
     let r = passed e in
-    let a = start e .args in
-    begin-done one (a .image .now) (a .shared) (pointOf (a .head) (a .table .now) (a .text .now)) (a .offset) (a .bytes .now) r _ _ _ _ _ _ _ _
-    (q .ensures .tail z) (q .ensures .found z) (taken .before .before .before .before .catch-up .ensures (r .few) (r .sound))
-    (taken .before .before .put-text .ensures) (rw (c .before .new-write .ensures) at (c .head-of .ensures))
-    (taken .before .span .ensures) (taken .take .ensures)
+    let a = start (settled e) .args in
+    begin-done one (a .image .now) (sharedOf (a .numbers) (a .taken .now)) (pointOf (a .head) (a .table .now) (a .text .now)) (a .offset) (a .bytes .now) r
+    _ _ _ _ _ _ _ _ (q .ensures .tail z) (q .ensures .found z) (caught s .catch-up .ensures (r .few) (r .sound))
+    (s .before .put-text .ensures) (rw (c .before .new-write .ensures) at (c .head-of .ensures))
+    (s .span .ensures) (ap (sharedOf (a .numbers)) (taken .take-run .ensures))
 
 pub begin-lent-spec : {M : Type 1} → statement M
 begin-lent-spec =
     tie.close
-    (tie.spec settle-requires returns catch-up-requires put-text-requires cast-at cast-size span-requires take-requires new-write-requires head-of-requires
+    (tie.spec
+    settle-requires
+    returns
+    catch-up-requires
+    put-text-requires
+    cast-at
+    cast-size
+    span-requires
+    cast-take-run
+    cast-take-run-2
+    take-run-requires
+    new-write-requires
+    head-of-requires
     returns-2)
