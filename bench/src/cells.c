@@ -15,9 +15,10 @@ enum { COPIES = 16 };                                /* they fit into the neares
 enum { ENTRIES = 1000, PLACES = 32, APART = 4096 };  /* of the log that is opened, as bench/count has it */
 enum { POINTS = 8, WRITES = 1000 };                  /* of the ordinary map */
 
+/* The point's record first: it lies at the same place of a page whatever the shared record's size. */
 typedef struct records {
-    store_shared shared;
     store_point point;
+    store_shared shared;
 } records;
 
 /* A cell: its name; what sets it up; its call; the write that it is about; how often each copy gets the call before the records are put back. */
