@@ -1,6 +1,6 @@
 /* Every single bit of an image flipped, one at a time, and the image opened: refused, or which file is shown.
    The images, of 64 blocks, are what 8 points leave that have written readings of 32 bytes, taking turns step by step: one each on an image of zeros, of which
-   most blocks are still zeros; and 39 each, when every block has been used. Both files end inside a block. */
+   most blocks are still zeros; and 39 each, when only blocks that the search never gave are. Both files end inside a block. */
 #include <stdio.h>
 #include <stdlib.h>
 #include <string.h>
