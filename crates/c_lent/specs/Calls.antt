@@ -96,7 +96,7 @@ module _ (words : List ℕ) (s : SharedLent) (p : PointLent) where
   unfoldable pub ifKnown : {X : Type 0} → X → (ℕ → X) → X
   ifKnown served refused = elim (isKnown (p .head)) [ true ↦ served | false ↦ refused (unknown words (s .numbers) (s .taken)) ]
 
-  -- a beginning and a step change the map alone of the shared record: its numbers stay
+  -- a beginning and a step change the map alone of the shared record (points/proofs/Begins `begin-map`, CarriedOut `step-map`): its numbers stay
   abbrev withMap : Shared → SharedLent
   withMap t = record { numbers = s .numbers; taken = t .taken }
 

@@ -43,7 +43,7 @@ pub(crate) fn without_point(joined: u32, number: u32) -> u32
 }
 
 // The numbers of a shared record.
-pub fn numbers(shared: Shared) -> Numbers
+pub(crate) fn numbers(shared: Shared) -> Numbers
     ensures { λ r. ⌜ r ≡ numbersOf shared ⌝ }
 {
     Numbers {

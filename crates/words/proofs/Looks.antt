@@ -9,7 +9,7 @@ use native.Mathlib.Omega.{arith}
 use lib.Dec.{eqb}
 use lib.ListN.{getD}
 use Rattle.words.specs.BlockMap.{taken}
-use Rattle.words.specs.Look.{fromBit, blockedIn, Whole, Begins, Behind, Blocked}
+use Rattle.words.specs.Look.{fromBit, blockedIn, Whole, Begins, Resumes, Blocked}
 use Rattle.words.specs.Word.{bits}
 use Rattle.words.proofs.BlockMap.{taken-past}
 use Rattle.words.proofs.Tests.{no-true}
@@ -48,7 +48,7 @@ taken-at map k j l =
     rw (q, r)
 
 -- a free block that is behind a taken one, or block 1
-pub unheld : (map : List ℕ) (s : ℕ) → taken map s ≡ false → Behind map s → Begins map s
+pub unheld : (map : List ℕ) (s : ℕ) → taken map s ≡ false → Resumes map s → Begins map s
 unheld map s f (inl b) = b
 unheld map s f (inr h) = absurd (no-true h f)
 
@@ -123,7 +123,7 @@ module _ (map : List ℕ) (k low : ℕ) where
       pub free-there : taken map (64 * k + j) ≡ false
       free-there = free-at j (l .less) (ap (λ (x : ℕ). bits w x 1) (omega arith) ∙ clear-ahead w m j 0 clear-there (omega arith))
 
-      pub begins-there : Behind map (64 * k + low) → Begins map (64 * k + j)
+      pub begins-there : Resumes map (64 * k + low) → Begins map (64 * k + j)
       begins-there b = go (decLt low j)
         where
           go : Dec (low < j) → Begins map (64 * k + j)

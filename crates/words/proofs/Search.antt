@@ -1,5 +1,5 @@
--- What the search finds. Upper layers use two laws alone: what is found is free and inside (`found-fits`), and one is found exactly if there is a run
--- (`found-some`). `found-best` says which: the shortest stretch that is long enough, the lowest of equals.
+-- What the search finds. Upper layers use two laws alone: what is found is free and inside (`found-fits`), and one is found wherever there is a run of one
+-- block or more (`found-some`). `found-best` says which, for the reader: the shortest stretch that is long enough, the lowest of equals.
 use mathlib.Core.Path.{_≡_, refl, sym, ap, subst, _∙_}
 use mathlib.Core.Logic.{_≢_, _⊎_, inl, inr}
 use mathlib.Core.List.{List, [], _∷_}
@@ -60,7 +60,7 @@ module _ (map : List ℕ) where
 -- ---- of two stretches
 
 -- the new one, where it is long enough and shorter, or the best so far
-pub data Chosen (n : ℕ) (best s : Stretch) : Type 0 where
+data Chosen (n : ℕ) (best s : Stretch) : Type 0 where
   new : shorter n best s ≡ s → n ≤ s .length → s .length < best .length → Chosen n best s
   kept : shorter n best s ≡ best → (n ≤ s .length → best .length ≤ s .length) → Chosen n best s
 

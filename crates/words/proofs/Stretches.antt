@@ -66,6 +66,11 @@ module _ (map : List ℕ) where
 
 -- ---- what is not weighed
 
+-- one that is too short is not taken
+too-short : (n : ℕ) (best s : Stretch) → s .length < n → shorter n best s ≡ best
+unfolding shorter
+too-short n best s l = let e : leb n (s .length) && ltb (s .length) (best .length) ≡ false = rw (lt-leb n (s .length) l) in choose-false _ s best e
+
 -- a stretch as long as asked for is not bettered
 pub settled : (n : ℕ) (best : Stretch) (ss : List Stretch) → best .length ≤ n → shortest n best ss ≡ best
 unfolding shortest shorter
@@ -73,28 +78,23 @@ settled n best [] h = refl
 settled n best (s ∷ ss) h = ap (λ (x : Stretch). shortest n x ss) (kept (decLt (s .length) n)) ∙ settled n best ss h
   where
     kept : Dec (s .length < n) → shorter n best s ≡ best
-    kept (yes l) = let e : leb n (s .length) && ltb (s .length) (best .length) ≡ false = rw (lt-leb n (s .length) l) in choose-false _ s best e
+    kept (yes l) = too-short n best s l
     kept (no l) =
         let e : leb n (s .length) && ltb (s .length) (best .length) ≡ false =
         rw (le-leb n (s .length) (omega arith), le-ltb (s .length) (best .length) (omega arith)) in
         choose-false _ s best e
 
--- one that is too short is not taken
-too-short : (n : ℕ) (best s : Stretch) → s .length < n → shorter n best s ≡ best
-unfolding shorter
-too-short n best s l = let e : leb n (s .length) && ltb (s .length) (best .length) ≡ false = rw (lt-leb n (s .length) l) in choose-false _ s best e
-
 -- no stretch that is long enough starts there
-abbrev Idle : List ℕ → ℕ → ℕ → ℕ → Type 0
-Idle map blocks n x = isStart map x ≡ true → freeAhead map x (blocks - x) < n
+abbrev NoStart : List ℕ → ℕ → ℕ → ℕ → Type 0
+NoStart map blocks n x = isStart map x ≡ true → freeAhead map x (blocks - x) < n
 
 module _ (map : List ℕ) (blocks n : ℕ) (best : Stretch) where
   -- what is found from block b on, of n blocks; and of the rest of the image
   abbrev among : ℕ → ℕ → Stretch
   among b k = shortest n best (stretchesFrom map blocks b k)
 
-  abbrev pub behind : ℕ → Stretch
-  behind b = among b (blocks - b)
+  abbrev pub foundFrom : ℕ → Stretch
+  foundFrom b = among b (blocks - b)
 
   among-at : (b c k l : ℕ) → b ≡ c → k ≡ l → among b k ≡ among c l
   among-at b c k l e f = rw (e, f)
@@ -103,7 +103,7 @@ module _ (map : List ℕ) (blocks n : ℕ) (best : Stretch) where
   unfolding shortest stretchesFrom
   none-left b k z = rw z
 
-  pass : (b k j : ℕ) → j ≤ k → ((x : ℕ) → b ≤ x → x < b + j → Idle map blocks n x) → among b k ≡ among (b + j) (k - j)
+  pass : (b k j : ℕ) → j ≤ k → ((x : ℕ) → b ≤ x → x < b + j → NoStart map blocks n x) → among b k ≡ among (b + j) (k - j)
   unfolding shortest stretchesFrom
   pass b k zero l h = among-at b (b + 0) k (k - 0) (omega arith) (omega arith)
   pass b zero (suc j) l h = absurd (omega arith)
@@ -121,10 +121,10 @@ module _ (map : List ℕ) (blocks n : ℕ) (best : Stretch) where
       go false e = ap (shortest n best) (choose-false _ (stretch map blocks b ∷ rest) rest e)
 
   -- to block t, or past the last one
-  pass-to : (b t : ℕ) → b ≤ t → ((x : ℕ) → b ≤ x → x < t → x < blocks → Idle map blocks n x) → behind b ≡ behind t
+  pass-to : (b t : ℕ) → b ≤ t → ((x : ℕ) → b ≤ x → x < t → x < blocks → NoStart map blocks n x) → foundFrom b ≡ foundFrom t
   pass-to b t l h = go (decLe t blocks)
     where
-      go : Dec (t ≤ blocks) → behind b ≡ behind t
+      go : Dec (t ≤ blocks) → foundFrom b ≡ foundFrom t
       go (yes le) =
           pass b (blocks - b) (t - b) (omega arith) (λ x lo hi. h x lo (omega arith) (omega arith))
           ∙ among-at (b + (t - b)) t ((blocks - b) - (t - b)) (blocks - t) (omega arith) (omega arith)
@@ -132,11 +132,11 @@ module _ (map : List ℕ) (blocks n : ℕ) (best : Stretch) where
           pass b (blocks - b) (blocks - b) (omega arith) (λ x lo hi. h x lo (omega arith) (omega arith))
           ∙ none-left (b + (blocks - b)) ((blocks - b) - (blocks - b)) (omega arith) ∙ sym (none-left t (blocks - t) (omega arith))
 
-  pub behind-none : (s : ℕ) → blocks ≤ s → behind s ≡ best
-  behind-none s h = none-left s (blocks - s) (omega arith)
+  pub found-none : (s : ℕ) → blocks ≤ s → foundFrom s ≡ best
+  found-none s h = none-left s (blocks - s) (omega arith)
 
   -- blocked starts are passed over
-  pub passes : (s t : ℕ) → Passes map blocks n s t → behind s ≡ behind t
+  pub passes : (s t : ℕ) → Passes map blocks n s t → foundFrom s ≡ foundFrom t
   passes s t p = pass-to s t (p .from) (λ x lo hi l e. short x e (p .blocked x lo hi))
     where
       short : (x : ℕ) → isStart map x ≡ true → Blocked map n x → freeAhead map x (blocks - x) < n
@@ -161,14 +161,14 @@ module _ (map : List ℕ) (blocks n : ℕ) (best : Stretch) (s d : ℕ) (begins 
       go (no h) = inl (omega arith)
 
   -- no other stretch starts before d
-  idle : (x : ℕ) → suc s ≤ x → x < d → x < blocks → Idle map blocks n x
-  idle x lo hi l e = absurd (no-true e (no-start-free map x (omega arith) (free (x - 1) (omega arith) (omega arith))))
+  no-start : (x : ℕ) → suc s ≤ x → x < d → x < blocks → NoStart map blocks n x
+  no-start x lo hi l e = absurd (no-true e (no-start-free map x (omega arith) (free (x - 1) (omega arith) (omega arith))))
 
   -- the stretch is weighed, and the search goes on from d
   abbrev weighed : Stretch
   weighed = shorter n best (record { start = s; length = min d blocks - s })
 
-  pub turn : behind map blocks n best s ≡ behind map blocks n weighed d
+  pub turn : foundFrom map blocks n best s ≡ foundFrom map blocks n weighed d
   unfolding shortest stretchesFrom
   turn =
       let k : blocks - s ≡ suc (blocks - suc s) = omega arith in
@@ -176,7 +176,7 @@ module _ (map : List ℕ) (blocks n : ℕ) (best : Stretch) (s d : ℕ) (begins 
       ap (λ (i : ℕ). shortest n best (stretchesFrom map blocks s i)) k
       ∙ ap (shortest n best) (choose-true _ (stretch map blocks s ∷ rest) rest (is-start map s begins (free s (omega arith) (omega arith))))
       ∙ ap (λ (l : ℕ). shortest n (shorter n best (record { start = s; length = l })) rest) length-is
-      ∙ pass-to map blocks n weighed (suc s) d (omega arith) idle
+      ∙ pass-to map blocks n weighed (suc s) d (omega arith) no-start
 
 -- ---- for the code
 

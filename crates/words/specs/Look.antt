@@ -25,9 +25,9 @@ Whole map blocks words = words ≡ min ((blocks + 63) / 64) (length map)
 abbrev pub Begins : List ℕ → ℕ → Type 0
 Begins map s = (s ≡ 1) ⊎ (taken map (s - 1) ≡ true)
 
--- such a block, or one that is taken itself
-abbrev pub Behind : List ℕ → ℕ → Type 0
-Behind map s = Begins map s ⊎ (taken map s ≡ true)
+-- where a search may go on: such a block, or one that is taken itself
+abbrev pub Resumes : List ℕ → ℕ → Type 0
+Resumes map s = Begins map s ⊎ (taken map s ≡ true)
 
 -- a taken block ends every run of n blocks from x on
 pub record Blocked (map : List ℕ) (n x : ℕ) : Type 0 where

@@ -8,11 +8,11 @@ use lib.Count.{trailingZeros, trailing-le}
 use lib.ListN.{getD}
 use Rattle.words.specs.declared.map.Stretch.{Stretch}
 use Rattle.words.specs.BlockMap.{taken}
-use Rattle.words.specs.Look.{Behind}
+use Rattle.words.specs.Look.{Resumes}
 use Rattle.words.specs.Search.{stretchesFrom, shorter, found}
 use Rattle.words.proofs.Zeros.{Lowest, lowest-is}
 use Rattle.words.proofs.Looks.{Same, onward, all-free, free-before, held-there, behind-free}
-use Rattle.words.proofs.Stretches.{behind, behind-none, passes, turn, settled, free-to-end, shorter-same}
+use Rattle.words.proofs.Stretches.{foundFrom, found-none, passes, turn, settled, free-to-end, shorter-same}
 use Rattle.words.proofs.map.best_start.Statement.{statement}
 use Rattle.words.proofs.map.best_start.Tie as tie
 
@@ -25,7 +25,7 @@ abbrev μ-loop : tie.MeasureT-loop
 
 abbrev Inv-starts : tie.InvT-starts
 Inv-starts map blocks n words best₀ s₀ best s =
-    (1 ≤ s) × (s < blocks → Behind map s) × (found map blocks n ≡ behind map blocks n best s .start)
+    (1 ≤ s) × (s < blocks → Resumes map s) × (found map blocks n ≡ foundFrom map blocks n best s .start)
 
 abbrev μ-starts : tie.MeasureT-starts
 μ-starts map blocks n words best₀ s₀ best s = blocks - s
@@ -137,7 +137,7 @@ starts-again c =
           ∙ turn m (a .blocks) (a .n) (o .best) (t .result) d (t .ensures .begins (omega arith)) (omega arith)
           (omega (arith, o .inv .0, t .ensures .from)) (past f)
           (λ b lo hi. free b lo (omega arith)) (λ _. held f)
-          ∙ ap (λ (x : Stretch). behind m (a .blocks) (a .n) x d) (sym e)),
+          ∙ ap (λ (x : Stretch). foundFrom m (a .blocks) (a .n) x d) (sym e)),
     )
 
 add-k : tie.Need-add-k Inv-loop μ-loop Inv-starts μ-starts
@@ -166,7 +166,7 @@ returns : tie.Need-returns Inv-loop μ-loop Inv-starts μ-starts
 returns c =
     let o = c .before in
     let a = start o .args in
-    sym (o .starts .inv .2 ∙ ap (λ (x : Stretch). x .start) (behind-none (a .map .now) (a .blocks) (a .n) (o .starts .best) (o .starts .s) (omega arith)))
+    sym (o .starts .inv .2 ∙ ap (λ (x : Stretch). x .start) (found-none (a .map .now) (a .blocks) (a .n) (o .starts .best) (o .starts .s) (omega arith)))
 
 returns-2 : tie.Need-returns-2 Inv-loop μ-loop Inv-starts μ-starts
 returns-2 c =
@@ -182,7 +182,7 @@ returns-3 c =
     let a = start (outer (c .before)) .args in
     sym (o .inv .2 ∙ ap (λ (x : Stretch). x .start)
     (passes (a .map .now) (a .blocks) (a .n) (o .best) (o .s) (t .result) (t .ensures)
-    ∙ behind-none (a .map .now) (a .blocks) (a .n) (o .best) (t .result) (omega arith)))
+    ∙ found-none (a .map .now) (a .blocks) (a .n) (o .best) (t .result) (omega arith)))
 
 returns-4 : tie.Need-returns-4 Inv-loop μ-loop Inv-starts μ-starts
 returns-4 c =
@@ -199,8 +199,8 @@ returns-4 c =
     (passes m (a .blocks) (a .n) (o .best) (o .s) (t .result) (t .ensures)
     ∙ turn m (a .blocks) (a .n) (o .best) (t .result) (a .blocks) (t .ensures .begins (omega arith)) (omega arith)
     (omega (arith, o .inv .0, t .ensures .from)) (omega arith) (λ b lo hi. free b lo (omega arith)) (λ h. absurd (omega arith))
-    ∙ ap (λ (x : Stretch). behind m (a .blocks) (a .n) x (a .blocks)) (sym e)
-    ∙ behind-none m (a .blocks) (a .n) (c .shorter2 .result) (a .blocks) (omega arith)))
+    ∙ ap (λ (x : Stretch). foundFrom m (a .blocks) (a .n) x (a .blocks)) (sym e)
+    ∙ found-none m (a .blocks) (a .n) (c .shorter2 .result) (a .blocks) (omega arith)))
 
 pub best-start-spec : {M : Type 1} → statement M
 best-start-spec =

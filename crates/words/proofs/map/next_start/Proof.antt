@@ -7,7 +7,7 @@ use native.Mathlib.Omega.{arith}
 use lib.Count.{trailingZeros, trailing-le}
 use lib.ListN.{getD}
 use Rattle.words.specs.BlockMap.{taken}
-use Rattle.words.specs.Look.{fromBit, blockedIn, Behind, Blocked}
+use Rattle.words.specs.Look.{fromBit, blockedIn, Resumes, Blocked}
 use Rattle.words.proofs.Zeros.{lowest-is}
 use Rattle.words.proofs.Looks.{Each, onward, blocked-before, begins-there, free-there, blocked-all, begins-behind, free-behind, unheld}
 use Rattle.words.proofs.map.next_start.Statement.{statement}
@@ -15,7 +15,7 @@ use Rattle.words.proofs.map.next_start.Tie as tie
 
 abbrev Inv-loop : tie.InvT-loop
 Inv-loop map blocks words n s k₀ low₀ k low =
-    (low < 64) × (64 * k ≤ blocks + 63) × (s ≤ 64 * k + low) × Each (Blocked map n) s (64 * k + low) × Behind map (64 * k + low)
+    (low < 64) × (64 * k ≤ blocks + 63) × (s ≤ 64 * k + low) × Each (Blocked map n) s (64 * k + low) × Resumes map (64 * k + low)
 
 abbrev μ-loop : tie.MeasureT-loop
 μ-loop map blocks words n s k₀ low₀ k low = words - k
