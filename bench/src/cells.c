@@ -143,8 +143,8 @@ static void begin_any(store_point *point)
     begin_at(point, first * BLOCK + BLOCK / 2, span == 1 ? BLOCK / 2 : (span - 1) * BLOCK);
 }
 
-/* What 1,000 such writes leave. Points take turns, and while one commits the others have a write under way; so they have at the end, all but the one that is
-   kept. */
+/* What 1,000 such writes leave: each library has the map that its own search makes. Points take turns, and while one commits the others have a write
+   under way; so they have at the end, all but the one that is kept. */
 static void ordinary(void)
 {
     static store_point points[POINTS];

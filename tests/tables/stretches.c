@@ -275,6 +275,7 @@ typedef struct figures {
     uint32_t writes[SESSIONS];
     uint32_t free[SESSIONS], met;              /* free blocks of the first `met` places, for the sessions that met 19 */
     uint32_t most[SESSIONS], unused[SESSIONS]; /* fills of the most filled block; blocks never filled */
+    uint32_t lowest[SESSIONS];                 /* of 100 fills those in the lowest half of the blocks */
     double mean;                               /* fills of a block */
 } figures;
 
@@ -295,14 +296,16 @@ static unsigned quartile(const uint32_t *values, uint32_t count, uint32_t quarte
 
 static void note_wear(figures *f, int session)
 {
-    uint32_t all = 0, blocks = model.row->blocks;
+    uint32_t all = 0, low = 0, blocks = model.row->blocks;
     for (uint32_t b = 1; b < blocks; b++) {
         uint32_t fills = model.fills[b];
         all += fills;
+        low += b < blocks / 2 ? fills : 0;
         f->unused[session] += fills == 0;
         if (f->most[session] < fills)
             f->most[session] = fills;
     }
+    f->lowest[session] = 100 * low / all;
     f->mean += (double)all / (blocks - 1) / SESSIONS;
 }
 
@@ -310,7 +313,7 @@ static void note_wear(figures *f, int session)
 static void play_all(const row *r, search *find, figures *f)
 {
     memset(f, 0, sizeof *f);
-    beside = find == (STORE_VERSION == 1 ? next_fit : best_fit);
+    beside = find == best_fit;
     for (int i = 0; i < SESSIONS; i++) {
         every_step = i == 0;
         ending end = play(r, (uint64_t)i, find);
@@ -352,6 +355,7 @@ static void print_wear(const row *r, const figures *next, const figures *best)
     printf("| writes of a session | %u | %u |\n", quartile(next->writes, SESSIONS, 2), quartile(best->writes, SESSIONS, 2));
     printf("| fills of a block, mean | %.1f | %.1f |\n", next->mean, best->mean);
     printf("| fills of the block that is filled most | %u | %u |\n", quartile(next->most, SESSIONS, 2), quartile(best->most, SESSIONS, 2));
+    printf("| of 100 fills those in the lower half of the blocks | %u | %u |\n", quartile(next->lowest, SESSIONS, 2), quartile(best->lowest, SESSIONS, 2));
     printf("| blocks never filled | %u | %u |\n", quartile(next->unused, SESSIONS, 2), quartile(best->unused, SESSIONS, 2));
 }
 
@@ -366,7 +370,6 @@ int main(void)
         print_row(&rows[i], &next, &best);
     }
     print_wear(&rows[ROWS - 1], &next, &best);
-    printf("\nSessions of a row: %d. Searches by %s that the library has made too, with the same outcome: %lu.\n", (int)SESSIONS,
-           STORE_VERSION == 1 ? "next fit" : "best fit", searches);
+    printf("\nSessions of a row: %d. Searches by best fit that the library has made too, with the same outcome: %lu.\n", (int)SESSIONS, searches);
     return 0;
 }
