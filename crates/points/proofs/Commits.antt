@@ -16,7 +16,7 @@ use Rattle.words.proofs.Logic.{agree}
 use Rattle.log.specs.Entry.{entryOf, legal}
 use Rattle.points.specs.declared.Write.{Write}
 use Rattle.points.specs.declared.Head.{Head}
-use Rattle.points.specs.Record.{runBlocks, firstEdge, lastEdge}
+use Rattle.points.specs.Record.{runFirst, runBlocks, firstEdge, lastEdge}
 use Rattle.points.specs.Stepping.{entryFor}
 use Rattle.log.proofs.Entry.{Valid, packed, valid-legal}
 use Rattle.points.proofs.Spans.{lies}
@@ -42,13 +42,17 @@ module _ (E : Edition) (blocks v b n u p : ℕ) (few : blocks ≤ 1024) (n-low :
   entry-legal : legal E blocks (entryOf E v b n u p) ≡ true
   entry-legal = valid-legal E blocks (entryOf E v b n u p) rules
 
--- the used bytes and the point number fit their fields
+-- with the first block and the blocks as they were counted, used bytes and point number fit their fields
 pub entry-kept :
-    (E : Edition) (v b n u p : ℕ) → u ≤ blockBytes E → p < 32 → entryOf E v b n (u % 2 ^ E .usedBits) (p % 32) ≡ entryOf E v b n u p
-entry-kept E v b n u p hu hp =
-    let e : u % 2 ^ E .usedBits ≡ u = sized (λ W U. u ≤ 8 * W → u % 2 ^ U ≡ u) (omega arith) E hu in
-    let f : p % 32 ≡ p = omega arith in
-    rw (e, f)
+    (E : Edition) (h : Head) (v n : ℕ) → 1 ≤ h .write .size → h .number < 32 → v ≡ runFirst E (h .write) → n ≡ runBlocks E (h .write)
+    → let w = h .write in
+    entryOf E v (w .run) n ((w .offset + w .size - blockBytes E * (v + n - 1)) % 2 ^ E .usedBits) (h .number % 32) ≡ entryFor E h
+entry-kept E h v n some point isFirst isCount =
+    let w = h .write in
+    let u = w .offset + w .size - blockBytes E * (runFirst E w + runBlocks E w - 1) in
+    let e : u % 2 ^ E .usedBits ≡ u = sized (λ W U. u ≤ 8 * W → u % 2 ^ U ≡ u) (omega arith) E (lies E (w .offset) (w .size) some .usedHigh) in
+    let f : h .number % 32 ≡ h .number = omega arith in
+    rw (isFirst, isCount, e, f)
 
 pub entry-for-legal :
     (E : Edition) (blocks : ℕ) (h : Head) → 1 ≤ h .write .size → h .write .size ≤ 1024 → h .write .offset + h .write .size ≤ fileEnd E

@@ -103,7 +103,11 @@ word-bytes part i =
     listFrom-same (byteOf (getD part i 0)) (byteIn part) 0 (8 * i) 8
     (λ k l. let q : (8 * i + k) / 8 ≡ i = omega arith in let r : (8 * i + k) % 8 ≡ k = omega arith in let z : 0 + k ≡ k = omega arith in rw (q, r, z))
 
+-- byte p is byte j of word i
+pub byte-at : (part : List ℕ) (p i j : ℕ) → i ≡ p / 8 → j ≡ p % 8 → byteOf (getD part i 0) j ≡ byteIn part p
+byte-at part p i j isWord isByte = rw (isWord, isByte)
+
 -- whole words from a byte on, where that is a word's first byte or there are none
-pub words-aligned : (f : ℕ → ℕ) (p w : ℕ) → (0 < w → p % 8 ≡ 0) → listFrom (8 * (p / 8)) (8 * w) f ≡ listFrom p (8 * w) f
-words-aligned f p zero h = refl
-words-aligned f p (suc w) h = let z : p % 8 ≡ 0 = h (omega arith) in let e : 8 * (p / 8) ≡ p = omega arith in rw e
+pub words-aligned : (f : ℕ → ℕ) (p i w : ℕ) → (0 < w → 8 * i ≡ p) → listFrom (8 * i) (8 * w) f ≡ listFrom p (8 * w) f
+words-aligned f p i zero h = refl
+words-aligned f p i (suc w) h = let e : 8 * i ≡ p = h (omega arith) in rw e

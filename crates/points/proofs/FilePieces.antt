@@ -47,11 +47,12 @@ part-whole E words (suc b) part e h = go (decLt (suc b) (length words / E .block
     go (yes l) = ap length e ∙ block-length E words (suc b) l
     go (no n) = absurd (h (ap length (e ∙ block-outside E words (suc b) (omega arith))))
 
--- n bytes of the file from byte p on, in one block
+-- n bytes of the file from byte p on, in one block: virtual block v, from its byte q on
 pub file-piece :
-    (E : Edition) (m : Memory) (f : Mapped) (p n b : ℕ) → b ≡ getD (f .table) (p / blockBytes E) 0 → p % blockBytes E + n ≤ blockBytes E
-    → listFrom (p % blockBytes E) n (mappedByte m b) ≡ listFrom p n (fileByte E m f)
+    (E : Edition) (m : Memory) (f : Mapped) (p n v q b : ℕ) → v ≡ p / blockBytes E → q ≡ p % blockBytes E → b ≡ getD (f .table) v 0
+    → q + n ≤ blockBytes E
+    → listFrom q n (mappedByte m b) ≡ listFrom p n (fileByte E m f)
 unfolding fileByte
-file-piece E m f p n b e h =
-    listFrom-same (mappedByte m b) (fileByte E m f) (p % blockBytes E) p n
-    (λ k l. let on = byte-on E p k (omega arith) in rw (on .0, on .1, e))
+file-piece E m f p n v q b isBlock isByte e h =
+    listFrom-same (mappedByte m b) (fileByte E m f) q p n
+    (λ k l. let on = byte-on E p k (omega arith) in rw (on .0, on .1, e, isBlock, isByte))

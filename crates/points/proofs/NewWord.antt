@@ -168,19 +168,16 @@ word-bytes w (suc n) h =
         let e : 8 * (1 + k) ≡ 8 + 8 * (0 + k) = omega arith in
         rw (e, ← shr-shr w 8 (8 * (0 + k)))
 
-module _ (E : Edition) (m : Memory) (h : Head) (table text : List ℕ) (k copied : ℕ) where
-  -- the word copied is the mapped block's at the run's word k
+-- the run's bytes before the text; and the virtual block and the word in it at which the run's word k lies
+module _ (E : Edition) (m : Memory) (h : Head) (table text : List ℕ) (k copied lead v i : ℕ) (isLead : lead ≡ h .write .offset % blockBytes E)
+    (isBlock : v ≡ h .write .offset / blockBytes E + k / E .blockWords) (isWord : i ≡ k % E .blockWords) where
+  -- the word copied is the mapped block's there
   abbrev pub Copied : Type 0
-  Copied =
-      (j : ℕ) → j < 8
-      → byteOf copied j ≡ mappedByte m (getD table (h .write .offset / blockBytes E + k / E .blockWords) 0) (8 * (k % E .blockWords) + j)
+  Copied = (j : ℕ) → j < 8 → byteOf copied j ≡ mappedByte m (getD table v 0) (8 * i + j)
 
-  -- the run's bytes before the text, and those up to the text's end
-  abbrev lead : ℕ
-  lead = h .write .offset % blockBytes E
-
+  -- the run's bytes up to the text's end
   abbrev end : ℕ
-  end = h .write .offset % blockBytes E + h .write .size
+  end = lead + h .write .size
 
   abbrev mixed : ℕ → ℕ
   mixed = mixedByte copied text lead end (8 * k)
@@ -192,8 +189,8 @@ module _ (E : Edition) (m : Memory) (h : Head) (table text : List ℕ) (k copied
   unfolding fileByte
   file-byte c j l =
       let at = word-byte E (h .write .offset / blockBytes E) k j l in
-      let i : 8 * k + j - 8 * k ≡ j = omega arith in
-      rw (at .0, at .1, i) (sym (c j l))
+      let d : 8 * k + j - 8 * k ≡ j = omega arith in
+      rw (at .0, at .1, d, ← isBlock, ← isWord) (sym (c j l))
 
   new-byte : Copied → (j : ℕ) → j < 8 → newByte E m h table text (place j) ≡ mixed (8 * k + j)
   new-byte c j l = go (decLe (h .write .offset) (place j)) (decLt (place j) (h .write .offset + h .write .size))
@@ -201,9 +198,9 @@ module _ (E : Edition) (m : Memory) (h : Head) (table text : List ℕ) (k copied
       go : Dec (h .write .offset ≤ place j) → Dec (place j < h .write .offset + h .write .size) → newByte E m h table text (place j) ≡ mixed (8 * k + j)
       go (yes lo) (yes hi) =
           let split = split-byte E (h .write .offset) in
-          let i : 8 * k + j - lead ≡ place j - h .write .offset = omega arith in
+          let d : 8 * k + j - lead ≡ place j - h .write .offset = omega arith in
           laid-text E m (fileAt h table) (h .write .offset) (h .write .size) text (place j) lo hi
-          ∙ sym (mixed-text copied text lead end (8 * k) (8 * k + j) (omega arith) (omega arith) ∙ rw i)
+          ∙ sym (mixed-text copied text lead end (8 * k) (8 * k + j) (omega arith) (omega arith) ∙ rw d)
       go (yes lo) (no hi) =
           let split = split-byte E (h .write .offset) in
           laid-after E m (fileAt h table) (h .write .offset) (h .write .size) text (place j) (omega arith)
@@ -227,24 +224,24 @@ module _ (E : Edition) (m : Memory) (h : Head) (table text : List ℕ) (k copied
           (8 * k + 8 ≤ lead) ⊎ (end ≤ 8 * k) → (j : ℕ) → j < 8
           → mixed (8 * k + j) ≡ byteOf copied (0 + j)
       byte (inl a) j l =
-          let i : 8 * k + j - 8 * k ≡ 0 + j = omega arith in
-          mixed-before copied text lead end (8 * k) (8 * k + j) (omega arith) ∙ rw i
+          let d : 8 * k + j - 8 * k ≡ 0 + j = omega arith in
+          mixed-before copied text lead end (8 * k) (8 * k + j) (omega arith) ∙ rw d
       byte (inr a) j l =
-          let i : 8 * k + j - 8 * k ≡ 0 + j = omega arith in
-          mixed-after copied text lead end (8 * k) (8 * k + j) (omega arith) ∙ rw i
+          let d : 8 * k + j - 8 * k ≡ 0 + j = omega arith in
+          mixed-after copied text lead end (8 * k) (8 * k + j) (omega arith) ∙ rw d
 
 -- where all of its bytes are the text's, they are eight in a row of it
 pub new-word-text :
-    (E : Edition) (m : Memory) (h : Head) (table text : List ℕ) (k : ℕ) → h .write .offset % blockBytes E ≤ 8 * k
-    → 8 * k + 8 ≤ h .write .offset % blockBytes E + h .write .size
-    → newWord E m h table text k ≡ fromBytes (listFrom (8 * k - h .write .offset % blockBytes E) 8 (λ i. getD text i 0))
+    (E : Edition) (m : Memory) (h : Head) (table text : List ℕ) (k lead : ℕ) → lead ≡ h .write .offset % blockBytes E → lead ≤ 8 * k
+    → 8 * k + 8 ≤ lead + h .write .size
+    → newWord E m h table text k ≡ fromBytes (listFrom (8 * k - lead) 8 (λ i. getD text i 0))
 unfolding newWord
-new-word-text E m h table text k lo hi =
-    same-bytes (runStart E (h .write) + 8 * k) (8 * k - h .write .offset % blockBytes E) 8 (newByte E m h table text) (λ i. getD text i 0) byte
+new-word-text E m h table text k lead isLead lo hi =
+    same-bytes (runStart E (h .write) + 8 * k) (8 * k - lead) 8 (newByte E m h table text) (λ i. getD text i 0) byte
   where
-    byte : (j : ℕ) → j < 8 → newByte E m h table text (place E m h table text k 0 j) ≡ getD text (8 * k - h .write .offset % blockBytes E + j) 0
+    byte : (j : ℕ) → j < 8 → newByte E m h table text (runStart E (h .write) + 8 * k + j) ≡ getD text (8 * k - lead + j) 0
     byte j l =
-        let p = place E m h table text k 0 j in
+        let p = runStart E (h .write) + 8 * k + j in
         let split = split-byte E (h .write .offset) in
-        let i : p - h .write .offset ≡ 8 * k - h .write .offset % blockBytes E + j = omega arith in
+        let i : p - h .write .offset ≡ 8 * k - lead + j = omega arith in
         laid-text E m (fileAt h table) (h .write .offset) (h .write .size) text p (omega arith) (omega arith) ∙ rw i

@@ -95,7 +95,7 @@ pub(crate) fn new_word<'a>(
     ensures { λ r. ⌜ r ≡ newWord one (memory one (now (image .entry))) head (now (table .entry)) (now (text .entry)) k ⌝ }
 {
     let offset = head.write.offset as usize;
-    let lead = offset % 512;
+    let lead = words::offset::in_block(offset);
     let end = lead + head.write.size as usize;
     let at = 8 * k as usize;
     if lead <= at {
@@ -106,8 +106,8 @@ pub(crate) fn new_word<'a>(
     let copied = copied_word(
         image,
         table,
-        offset / 512 + k as usize / 64,
-        k as usize % 64,
+        words::offset::block(offset) + words::offset::block(at),
+        words::offset::word(at),
     );
     if at + 8 <= lead {
         return copied;
@@ -129,11 +129,14 @@ fn copied_from(write: Write, from: u32) -> u32
     requires { ⌜ (write .size ≤ 1024) × (from ≤ 192) ⌝ }
     ensures { λ r. ⌜ (from ≤ r) × (copies one write r ≡ true) × ((y : ℕ) → from ≤ y → y < r → copies one write y ≡ false) ⌝ }
 {
-    let lead = write.offset % 512;
+    let lead = crate::record::lead(write.offset);
     if 8 * from < lead {
         return from;
     }
-    greater(from, (lead + write.size) / 8)
+    greater(
+        from,
+        words::offset::whole_words((lead + write.size) as usize) as u32,
+    )
 }
 
 // The next word to fill again in the run's first block, or the run's words.

@@ -60,7 +60,10 @@ fn copy_bytes(part: &[u64], from: usize, buffer: &mut [u8], at: usize, n: usize)
 {
     for k in 0..n {
         let p = from + k;
-        buffer[at + k] = byte(part[p / 8], (p % 8) as u64);
+        buffer[at + k] = byte(
+            part[words::offset::whole_words(p)],
+            words::offset::byte(p) as u64,
+        );
     }
 }
 
@@ -79,11 +82,17 @@ fn copy(part: &[u64], from: usize, buffer: &mut [u8], at: usize, n: usize)
     requires { ⌜ (from + n ≤ 8 * length (now part)) × (at + n ≤ length (now buffer)) ⌝ }
     ensures { λ _. ⌜ now (buffer .exit) ≡ sets (now (buffer .entry)) at (listFrom from n (byteIn (now (part .entry)))) ⌝ }
 {
-    let head = least((8 - from % 8) % 8, n);
-    let whole = (n - head) / 8;
+    let head = least(words::offset::byte(8 - words::offset::byte(from)), n);
+    let whole = words::offset::whole_words(n - head);
     let middle = 8 * whole;
     copy_bytes(part, from, buffer, at, head);
-    copy_words(part, (from + head) / 8, buffer, at + head, whole);
+    copy_words(
+        part,
+        words::offset::whole_words(from + head),
+        buffer,
+        at + head,
+        whole,
+    );
     copy_bytes(
         part,
         from + head + middle,
@@ -115,9 +124,10 @@ fn fill(image: &[u64], table: &[u16; 256], offset: usize, buffer: &mut [u8], n: 
     let mut done = 0;
     while done < n {
         let p = offset + done;
-        let b = crate::current::mapped(table, p / 512);
-        let count = least(n - done, 512 - p % 512);
-        copy_block(image, b, p % 512, buffer, done, count);
+        let b = crate::current::mapped(table, words::offset::block(p));
+        let from = words::offset::in_block(p);
+        let count = least(n - done, 512 - from);
+        copy_block(image, b, from, buffer, done, count);
         done += count;
     }
 }

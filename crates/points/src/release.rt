@@ -41,7 +41,8 @@ fn free_replaced(map: &mut [u64], table: &[u16; 256], write: Write)
     ensures { λ _. ⌜ now (map .exit) ≡ setAll false (now (map .entry)) (replaced one write (now (table .entry))) ⌝ }
 {
     let n = crate::record::span(write.offset, write.size);
-    free_mapped_from(map, table, (write.offset / 512) as usize, n as usize);
+    let v = words::offset::block(write.offset as usize);
+    free_mapped_from(map, table, v, n as usize);
 }
 
 // The run of the write becomes free.

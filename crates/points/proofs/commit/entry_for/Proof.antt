@@ -1,10 +1,7 @@
 -- `points::commit::entry_for`: used bytes and point number fit their fields, so the entry is the definition's.
 use mathlib.Core.Path.{_∙_}
 use Rattle.points.proofs.Commits.{entry-kept}
-use Rattle.points.proofs.Spans.{lies}
-use Prim.Native.Nat.{_+_, _*_, _-_, _/_}
 use Rattle.words.specs.Edition.{one}
-use Rattle.points.specs.Record.{span}
 use borrow.Author.Needs.{needs}
 use Rattle.points.proofs.commit.entry_for.Statement.{statement}
 use Rattle.points.proofs.commit.entry_for.Tie as tie
@@ -15,6 +12,9 @@ blocks-counted c = c .before .before .before .before
 
 abbrev start : tie.After-span → tie.Start
 start c = c .before .before .before
+
+block-requires : tie.Need-block-requires
+block-requires c κs = search needs
 
 span-requires : tie.Need-span-requires
 span-requires c κs = search needs
@@ -56,17 +56,16 @@ returns : tie.Need-returns
 returns c =
     let spanned = blocks-counted c in
     let args = start spanned .args in
-    let w = args .head .write in
     let p = start spanned .pre in
-    let n = span one (w .offset) (w .size) in
-    c .entry .ensures ∙ rw (spanned .span .ensures)
-    (entry-kept one (w .offset / 512) (w .run) n (w .offset + w .size - 512 * (w .offset / 512 + n - 1)) (args .head .number)
-    (lies one (w .offset) (w .size) (p .0 .0) .usedHigh) (p .2))
+    let first = spanned .before .block in
+    let count = spanned .span in
+    c .entry .ensures ∙ entry-kept one (args .head) (first .result) (count .result) (p .0 .0) (p .2) (first .ensures) (count .ensures)
 
 pub entry-for-spec : {M : Type 1} → statement M
 entry-for-spec =
     tie.close
     (tie.spec
+    block-requires
     span-requires
     add-used
     add-used-2

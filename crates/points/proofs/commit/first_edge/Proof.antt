@@ -5,6 +5,9 @@ use borrow.Author.Needs.{needs}
 use Rattle.points.proofs.commit.first_edge.Statement.{statement}
 use Rattle.points.proofs.commit.first_edge.Tie as tie
 
+lead-requires : tie.Need-lead-requires
+lead-requires c κs = search needs
+
 cast-lead : tie.Need-cast-lead
 cast-lead c = search needs
 
@@ -17,7 +20,7 @@ add-result c = search needs
 returns : tie.Need-returns
 returns c =
     let args = c .before .before .args in
-    first-edge one (args .write)
+    rw (c .before .lead .ensures) (first-edge one (args .write))
 
 pub first-edge-spec : {M : Type 1} → statement M
-first-edge-spec = tie.close (tie.spec cast-lead cast-result add-result returns)
+first-edge-spec = tie.close (tie.spec lead-requires cast-lead cast-result add-result returns)

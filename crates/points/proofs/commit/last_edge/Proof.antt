@@ -5,6 +5,9 @@ use borrow.Author.Needs.{needs}
 use Rattle.points.proofs.commit.last_edge.Statement.{statement}
 use Rattle.points.proofs.commit.last_edge.Tie as tie
 
+lead-requires : tie.Need-lead-requires
+lead-requires c κs = search needs
+
 cast-lead : tie.Need-cast-lead
 cast-lead c = search needs
 
@@ -26,8 +29,17 @@ mul-result c = search needs
 returns : tie.Need-returns
 returns c =
     let args = c .before .before .before .args in
-    last-edge one (args .write) (c .before .span .result) (c .before .span .ensures)
+    rw (c .before .before .lead .ensures) (last-edge one (args .write) (c .before .span .result) (c .before .span .ensures))
 
 pub last-edge-spec : {M : Type 1} → statement M
 last-edge-spec =
-    tie.close (tie.spec cast-lead span-requires cast-n cast-result add-result mul-result returns)
+    tie.close
+    (tie.spec
+    lead-requires
+    cast-lead
+    span-requires
+    cast-n
+    cast-result
+    add-result
+    mul-result
+    returns)

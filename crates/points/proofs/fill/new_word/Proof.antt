@@ -1,4 +1,5 @@
 -- `points::fill::new_word`: one law for each exit: every byte is of the text, none is, some are.
+use Prim.Native.Nat.{_+_}
 use mathlib.Core.Path.{sym, _∙_}
 use mathlib.Core.Logic.{inl, inr}
 use native.Mathlib.Omega.{arith}
@@ -9,12 +10,21 @@ use borrow.Author.Needs.{needs}
 use Rattle.points.proofs.fill.new_word.Statement.{statement}
 use Rattle.points.proofs.fill.new_word.Tie as tie
 
--- the way back, from the word that is copied
-abbrev start : tie.After-copied-word → tie.Start
-start c = c .before .before .before .before .before
+-- the way back, call by call
+abbrev placed : tie.After-copied-word → tie.After-block
+placed c = c .before .before .before
+
+abbrev led : tie.After-block → tie.After-in-block
+led c = c .before .before .before
+
+abbrev start : tie.After-in-block → tie.Start
+start c = c .before .before .before
 
 cast-offset : tie.Need-cast-offset
 cast-offset c = search needs
+
+in-block-requires : tie.Need-in-block-requires
+in-block-requires c κs = search needs
 
 cast-end : tie.Need-cast-end
 cast-end c = search needs
@@ -32,11 +42,24 @@ text-word-requires : tie.Need-text-word-requires
 text-word-requires c κs = search needs
 
 returns : tie.Need-returns
-returns c = let a = c .before .before .before .before .before .before .args in
-    c .text-word .ensures ∙ sym (new-word-text one (memory one (a .image .now)) (a .head) (a .table .now) (a .text .now) (a .k) (omega arith) (omega arith))
+returns c =
+    let l = c .before .before .before .before in
+    let a = start l .args in
+    c .text-word .ensures
+    ∙ sym (new-word-text one (memory one (a .image .now)) (a .head) (a .table .now) (a .text .now) (a .k) (l .in-block .result) (l .in-block .ensures)
+    (omega arith) (omega arith))
+
+block-requires : tie.Need-block-requires
+block-requires c κs = search needs
+
+block-requires-2 : tie.Need-block-requires-2
+block-requires-2 c κs = search needs
 
 add-copied-word : tie.Need-add-copied-word
 add-copied-word c = search needs
+
+word-requires : tie.Need-word-requires
+word-requires c κs = search needs
 
 copied-word-requires : tie.Need-copied-word-requires
 copied-word-requires c κs = search needs
@@ -46,39 +69,51 @@ add-if3 c = search needs
 
 returns-2 : tie.Need-returns-2
 returns-2 c =
-    let a = start (c .before) .args in
-    let w = c .before .copied-word in
-    sym (new-word-copied one (memory one (a .image .now)) (a .head) (a .table .now) (a .text .now) (a .k) (w .result) (w .ensures) (omega arith)
-    (inl (c .if3 .taken)))
+    let w = c .before in
+    let l = led (placed w) in
+    let a = start l .args in
+    sym (new-word-copied one (memory one (a .image .now)) (a .head) (a .table .now) (a .text .now) (a .k) (w .copied-word .result) (l .in-block .result)
+    (placed w .block .result + w .before .before .block2 .result) (w .before .word .result) (l .in-block .ensures) (omega arith) (omega arith)
+    (w .copied-word .ensures) (omega arith) (inl (c .if3 .taken)))
 
 returns-3 : tie.Need-returns-3
 returns-3 c =
-    let a = start (c .before .before) .args in
-    let w = c .before .before .copied-word in
-    sym (new-word-copied one (memory one (a .image .now)) (a .head) (a .table .now) (a .text .now) (a .k) (w .result) (w .ensures) (omega arith)
-    (inr (c .if4 .taken)))
+    let w = c .before .before in
+    let l = led (placed w) in
+    let a = start l .args in
+    sym (new-word-copied one (memory one (a .image .now)) (a .head) (a .table .now) (a .text .now) (a .k) (w .copied-word .result) (l .in-block .result)
+    (placed w .block .result + w .before .before .block2 .result) (w .before .word .result) (l .in-block .ensures) (omega arith) (omega arith)
+    (w .copied-word .ensures) (omega arith) (inr (c .if4 .taken)))
 
 edge-word-requires : tie.Need-edge-word-requires
 edge-word-requires c κs = search needs
 
 returns-4 : tie.Need-returns-4
 returns-4 c =
-    let a = start (c .before .before .before) .args in
-    let w = c .before .before .before .copied-word in
-    c .edge-word .ensures ∙ sym (new-word one (memory one (a .image .now)) (a .head) (a .table .now) (a .text .now) (a .k) (w .result) (w .ensures))
+    let w = c .before .before .before in
+    let l = led (placed w) in
+    let a = start l .args in
+    c .edge-word .ensures
+    ∙ sym (new-word one (memory one (a .image .now)) (a .head) (a .table .now) (a .text .now) (a .k) (w .copied-word .result) (l .in-block .result)
+    (placed w .block .result + w .before .before .block2 .result) (w .before .word .result) (l .in-block .ensures) (omega arith) (omega arith)
+    (w .copied-word .ensures))
 
 pub new-word-spec : {M : Type 1} → statement M
 new-word-spec =
     tie.close
     (tie.spec
     cast-offset
+    in-block-requires
     cast-end
     add-end
     mul-at
     add-if2
     text-word-requires
     returns
+    block-requires
+    block-requires-2
     add-copied-word
+    word-requires
     copied-word-requires
     add-if3
     returns-2

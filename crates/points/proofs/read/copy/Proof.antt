@@ -14,19 +14,31 @@ abbrev words-copied : tie.After-slice-known4 → tie.After-copy-words
 words-copied c = c .before .before .before .before .before .before
 
 abbrev front-copied : tie.After-copy-words → tie.After-copy-bytes
-front-copied c = c .before .before .before .before
+front-copied c = c .before .before .before .before .before
+
+abbrev measured : tie.After-copy-bytes → tie.After-whole-words
+measured c = c .before .before
 
 abbrev start : tie.After-least → tie.Start
-start c = c .before .before .before
+start c = c .before .before .before .before .before
 
-sub-least : tie.Need-sub-least
-sub-least c = search needs
+byte-requires : tie.Need-byte-requires
+byte-requires c κs = search needs
+
+sub-byte : tie.Need-sub-byte
+sub-byte c = search needs
+
+byte-requires-2 : tie.Need-byte-requires-2
+byte-requires-2 c κs = search needs
 
 least-requires : tie.Need-least-requires
 least-requires c κs = search needs
 
-sub-whole : tie.Need-sub-whole
-sub-whole c = search needs
+sub-whole-words : tie.Need-sub-whole-words
+sub-whole-words c = search needs
+
+whole-words-requires : tie.Need-whole-words-requires
+whole-words-requires c κs = search needs
 
 mul-middle : tie.Need-mul-middle
 mul-middle c = search needs
@@ -34,11 +46,14 @@ mul-middle c = search needs
 copy-bytes-requires : tie.Need-copy-bytes-requires
 copy-bytes-requires c κs = search needs
 
+add-whole-words : tie.Need-add-whole-words
+add-whole-words c = search needs
+
+whole-words-requires-2 : tie.Need-whole-words-requires-2
+whole-words-requires-2 c κs = search needs
+
 add-copy-words : tie.Need-add-copy-words
 add-copy-words c = search needs
-
-add-copy-words-2 : tie.Need-add-copy-words-2
-add-copy-words-2 c = search needs
 
 copy-words-requires : tie.Need-copy-words-requires
 copy-words-requires c κs = search needs
@@ -71,14 +86,14 @@ returns : tie.Need-returns
 returns c =
     let middle = words-copied c in
     let front = front-copied middle in
-    let measured = front .before .before in
-    let a = start measured .args in
-    let head = measured .least in
-    let h = head .result in
-    let w = (a .n - h) / 8 in
+    let whole = measured front in
+    let least = whole .before in
+    let a = start least .args in
+    let h = least .least .result in
+    let w = whole .whole-words .result in
+    let i = middle .before .before .whole-words2 .result in
     let f = byteIn (a .part .now) in
-    let l : h ≡ min ((8 - a .from % 8) % 8) (a .n) = head .ensures in
-    let aligned = words-aligned f (a .from + h) w (omega arith) in
+    let aligned = words-aligned f (a .from + h) i w (λ some. omega arith) in
     sets-three f (a .buffer .now) _ _ _ (a .at) (a .from) h (8 * w) (a .n - h - 8 * w) (a .n) (omega arith)
     (front .copy-bytes .ensures)
     (middle .copy-words .ensures ∙ ap (sets _ (a .at + h)) aligned)
@@ -88,13 +103,17 @@ pub copy-spec : {M : Type 1} → statement M
 copy-spec =
     tie.close
     (tie.spec
-    sub-least
+    byte-requires
+    sub-byte
+    byte-requires-2
     least-requires
-    sub-whole
+    sub-whole-words
+    whole-words-requires
     mul-middle
     copy-bytes-requires
+    add-whole-words
+    whole-words-requires-2
     add-copy-words
-    add-copy-words-2
     copy-words-requires
     add-copy-bytes
     add-copy-bytes-2

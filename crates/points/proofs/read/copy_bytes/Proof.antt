@@ -1,10 +1,10 @@
 -- `points::read::copy_bytes` meets its contract: the bytes put in and those still to come are always all of them. Assumes nothing.
 use Prim.Native.Nat.{_+_, _-_}
-use mathlib.Core.Path.{ap}
+use mathlib.Core.Path.{ap, _∙_}
 use native.Mathlib.Omega.{arith}
 use lib.ListN.{set}
 use Rattle.words.specs.Memory.{byteIn}
-use Rattle.points.proofs.Copied.{Copied, copied-none, copied-more, copied-all}
+use Rattle.points.proofs.Copied.{Copied, copied-none, copied-more, copied-all, byte-at}
 use Rattle.points.proofs.read.copy_bytes.Statement.{statement}
 use Rattle.points.proofs.read.copy_bytes.Tie as tie
 
@@ -20,6 +20,9 @@ loop-holds c = let a = c .before .before .args in copied-none (byteIn (a .part .
 add-p : tie.Need-add-p Inv-loop μ-loop
 add-p c = omega arith
 
+whole-words-requires : tie.Need-whole-words-requires Inv-loop μ-loop
+whole-words-requires c κs = tt
+
 mul-byte : tie.Need-mul-byte Inv-loop μ-loop
 mul-byte c = omega arith
 
@@ -28,6 +31,9 @@ shared-slice-read-byte c = omega arith
 
 byte-requires : tie.Need-byte-requires Inv-loop μ-loop
 byte-requires c κs = tt
+
+byte-requires-2 : tie.Need-byte-requires-2 Inv-loop μ-loop
+byte-requires-2 c κs = tt
 
 add-buffer : tie.Need-add-buffer Inv-loop μ-loop
 add-buffer c = omega arith
@@ -43,10 +49,15 @@ loop-less c = omega arith
 
 loop-again : tie.Need-loop-again Inv-loop μ-loop
 loop-again c =
-    let a = c .before .before .before .before .before .before .args in
-    let l = c .before .before .before .loop in
+    let word = c .before .before .before in
+    let turn = word .before .before in
+    let a = turn .before .before .before .args in
+    let l = turn .loop in
+    let i = word .whole-words in
+    let j = c .before .byte in
+    let is = byte-at (a .part .now) (a .from + l .k) (i .result) (j .result) (i .ensures) (j .ensures) in
     copied-more (byteIn (a .part .now)) (a .buffer .now) (a .at) (a .from) (a .n) (l .buffer) (l .k) (l .inv) _ 1 (omega arith)
-    (ap (set (l .buffer) (a .at + l .k)) (c .byte .ensures))
+    (ap (set (l .buffer) (a .at + l .k)) (c .byte2 .ensures ∙ is))
 
 same-length : tie.Need-same-length Inv-loop μ-loop
 same-length c = c .before .loop .inv .same
@@ -65,9 +76,11 @@ copy-bytes-spec =
     μ-loop
     loop-holds
     add-p
+    whole-words-requires
     mul-byte
     shared-slice-read-byte
     byte-requires
+    byte-requires-2
     add-buffer
     slice-write-buffer
     add-k

@@ -27,7 +27,7 @@ called c = c .before .before .before
 
 -- where the turn began
 abbrev begun : tie.After-least Inv-loop μ-loop → tie.At-loop Inv-loop μ-loop
-begun c = c .before .before .before .before
+begun c = c .before .before .before .before .before .before
 
 loop-holds : tie.Need-loop-holds Inv-loop μ-loop
 loop-holds c = let a = c .before .before .args in copied-none (byteFrom (a .image .now) (a .table .now)) (a .buffer .now) 0 (a .offset) (a .n)
@@ -35,8 +35,14 @@ loop-holds c = let a = c .before .before .args in copied-none (byteFrom (a .imag
 add-p : tie.Need-add-p Inv-loop μ-loop
 add-p c = omega arith
 
+block-requires : tie.Need-block-requires Inv-loop μ-loop
+block-requires c κs = tt
+
 mapped-requires : tie.Need-mapped-requires Inv-loop μ-loop
 mapped-requires c κs = tt
+
+in-block-requires : tie.Need-in-block-requires Inv-loop μ-loop
+in-block-requires c κs = tt
 
 sub-least : tie.Need-sub-least Inv-loop μ-loop
 sub-least c = omega arith
@@ -67,7 +73,11 @@ loop-again c =
     let p = a .offset + l .done in
     let f : Mapped = record { table = a .table .now; size = 0 } in
     let z : 0 + l .done ≡ l .done = omega arith in
-    let piece = file-piece one (memory one (a .image .now)) f p n _ (least .before .mapped .ensures) (omega arith) in
+    let from = least .before .in-block in
+    let mapped = least .before .before in
+    let block = mapped .before .block in
+    let piece = file-piece one (memory one (a .image .now)) f p n (block .result) (from .result) _ (block .ensures) (from .ensures) (mapped .mapped .ensures)
+    (omega arith) in
     copied-more (byteFrom (a .image .now) (a .table .now)) (a .buffer .now) 0 (a .offset) (a .n) (l .buffer) (l .done) (l .inv) _ n (omega arith)
     (rw z (copied .copy-block .ensures ∙ ap (sets (l .buffer) (l .done)) piece))
 
@@ -88,7 +98,9 @@ fill-spec =
     μ-loop
     loop-holds
     add-p
+    block-requires
     mapped-requires
+    in-block-requires
     sub-least
     sub-least-2
     least-requires

@@ -6,28 +6,34 @@ use Rattle.points.proofs.release.free_replaced.Tie as tie
 span-requires : tie.Need-span-requires
 span-requires c κs = search needs
 
+cast-block : tie.Need-cast-block
+cast-block c = search needs
+
+block-requires : tie.Need-block-requires
+block-requires c κs = search needs
+
 cast-free-mapped-from : tie.Need-cast-free-mapped-from
 cast-free-mapped-from c = search needs
 
-cast-free-mapped-from-2 : tie.Need-cast-free-mapped-from-2
-cast-free-mapped-from-2 c = search needs
-
 free-mapped-from-requires : tie.Need-free-mapped-from-requires
-free-mapped-from-requires c κs = let p = c .before .before .before .before .pre in rw (c .before .before .span .ensures) p
+free-mapped-from-requires c κs = let n = c .before .before .before in rw (n .span .ensures, c .before .block .ensures) (n .before .before .pre)
 
 same-length : tie.Need-same-length
 same-length c = search needs
 
 returns : tie.Need-returns
-returns c = rw (c .before .before .before .before .before .span .ensures) at (c .before .before .free-mapped-from .ensures)
+returns c =
+    let v = c .before .before .before .before in
+    rw (v .before .before .span .ensures, v .block .ensures) at (c .before .before .free-mapped-from .ensures)
 
 pub free-replaced-spec : {M : Type 1} → statement M
 free-replaced-spec =
     tie.close
     (tie.spec
     span-requires
+    cast-block
+    block-requires
     cast-free-mapped-from
-    cast-free-mapped-from-2
     free-mapped-from-requires
     same-length
     returns)
