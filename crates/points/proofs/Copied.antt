@@ -103,10 +103,6 @@ word-bytes part i =
     listFrom-same (byteOf (getD part i 0)) (byteIn part) 0 (8 * i) 8
     (λ k l. let q : (8 * i + k) / 8 ≡ i = omega arith in let r : (8 * i + k) % 8 ≡ k = omega arith in let z : 0 + k ≡ k = omega arith in rw (q, r, z))
 
--- byte p is byte j of word i
-pub byte-at : (part : List ℕ) (p i j : ℕ) → i ≡ p / 8 → j ≡ p % 8 → byteOf (getD part i 0) j ≡ byteIn part p
-byte-at part p i j isWord isByte = rw (isWord, isByte)
-
 -- whole words from a byte on, where that is a word's first byte or there are none
 pub words-aligned : (f : ℕ → ℕ) (p i w : ℕ) → (0 < w → 8 * i ≡ p) → listFrom (8 * i) (8 * w) f ≡ listFrom p (8 * w) f
 words-aligned f p i zero h = refl

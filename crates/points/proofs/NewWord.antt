@@ -168,7 +168,12 @@ word-bytes w (suc n) h =
         let e : 8 * (1 + k) ≡ 8 + 8 * (0 + k) = omega arith in
         rw (e, ← shr-shr w 8 (8 * (0 + k)))
 
--- the run's bytes before the text; and the virtual block and the word in it at which the run's word k lies
+-- word k of the run from the word copied, with `lead` bytes of the run before the text: byte by byte; and where none of its bytes is the text's
+pub record Laid (E : Edition) (m : Memory) (h : Head) (table text : List ℕ) (k copied lead : ℕ) : Type 0 where
+  pub mixed : newWord E m h table text k ≡ fromBytes (listFrom (8 * k) 8 (mixedByte copied text lead (lead + h .write .size) (8 * k)))
+  pub same : copied < 2 ^ 64 → (8 * k + 8 ≤ lead) ⊎ (lead + h .write .size ≤ 8 * k) → newWord E m h table text k ≡ copied
+
+-- word k of the run lies at word i of virtual block v
 module _ (E : Edition) (m : Memory) (h : Head) (table text : List ℕ) (k copied lead v i : ℕ) (isLead : lead ≡ h .write .offset % blockBytes E)
     (isBlock : v ≡ h .write .offset / blockBytes E + k / E .blockWords) (isWord : i ≡ k % E .blockWords) where
   -- the word copied is the mapped block's there
@@ -210,15 +215,12 @@ module _ (E : Edition) (m : Memory) (h : Head) (table text : List ℕ) (k copied
           laid-before E m (fileAt h table) (h .write .offset) (h .write .size) text (place j) (omega arith)
           ∙ file-byte c j l ∙ sym (mixed-before copied text lead end (8 * k) (8 * k + j) (omega arith))
 
-  pub new-word : Copied → newWord E m h table text k ≡ fromBytes (listFrom (8 * k) 8 mixed)
+  byte-by-byte : Copied → newWord E m h table text k ≡ fromBytes (listFrom (8 * k) 8 mixed)
   unfolding newWord
-  new-word c = same-bytes (runStart E (h .write) + 8 * k) (8 * k) 8 (newByte E m h table text) mixed (new-byte c)
+  byte-by-byte c = same-bytes (runStart E (h .write) + 8 * k) (8 * k) 8 (newByte E m h table text) mixed (new-byte c)
 
-  -- where none of its bytes is the text's, it is the word copied
-  pub new-word-copied :
-      Copied → copied < 2 ^ 64 → (8 * k + 8 ≤ lead) ⊎ (end ≤ 8 * k)
-      → newWord E m h table text k ≡ copied
-  new-word-copied c l out = new-word c ∙ same-bytes (8 * k) 0 8 mixed (byteOf copied) (byte out) ∙ word-bytes copied 8 l
+  as-it-is : Copied → copied < 2 ^ 64 → (8 * k + 8 ≤ lead) ⊎ (end ≤ 8 * k) → newWord E m h table text k ≡ copied
+  as-it-is c l out = byte-by-byte c ∙ same-bytes (8 * k) 0 8 mixed (byteOf copied) (byte out) ∙ word-bytes copied 8 l
     where
       byte :
           (8 * k + 8 ≤ lead) ⊎ (end ≤ 8 * k) → (j : ℕ) → j < 8
@@ -229,6 +231,9 @@ module _ (E : Edition) (m : Memory) (h : Head) (table text : List ℕ) (k copied
       byte (inr a) j l =
           let d : 8 * k + j - 8 * k ≡ 0 + j = omega arith in
           mixed-after copied text lead end (8 * k) (8 * k + j) (omega arith) ∙ rw d
+
+  pub new-word : Copied → Laid E m h table text k copied lead
+  new-word c = record { mixed = byte-by-byte c; same = as-it-is c }
 
 -- where all of its bytes are the text's, they are eight in a row of it
 pub new-word-text :

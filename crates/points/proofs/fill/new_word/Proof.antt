@@ -5,7 +5,7 @@ use mathlib.Core.Logic.{inl, inr}
 use native.Mathlib.Omega.{arith}
 use Rattle.words.specs.Edition.{one}
 use Rattle.words.specs.Memory.{memory}
-use Rattle.points.proofs.NewWord.{new-word, new-word-copied, new-word-text}
+use Rattle.points.proofs.NewWord.{Laid, new-word, new-word-text}
 use borrow.Author.Needs.{needs}
 use Rattle.points.proofs.fill.new_word.Statement.{statement}
 use Rattle.points.proofs.fill.new_word.Tie as tie
@@ -19,6 +19,17 @@ led c = c .before .before .before
 
 abbrev start : tie.After-in-block → tie.Start
 start c = c .before .before .before
+
+-- the word of the definition, from the word copied
+laid : (c : tie.After-copied-word) → let l = led (placed c) in
+    let a = start l .args in
+    Laid one (memory one (a .image .now)) (a .head) (a .table .now) (a .text .now) (a .k) (c .copied-word .result) (l .in-block .result)
+laid c =
+    let l = led (placed c) in
+    let a = start l .args in
+    new-word one (memory one (a .image .now)) (a .head) (a .table .now) (a .text .now) (a .k) (c .copied-word .result) (l .in-block .result)
+    (placed c .block .result + c .before .before .block2 .result) (c .before .word .result) (l .in-block .ensures) (omega arith) (omega arith)
+    (c .copied-word .ensures)
 
 cast-offset : tie.Need-cast-offset
 cast-offset c = search needs
@@ -68,35 +79,16 @@ add-if3 : tie.Need-add-if3
 add-if3 c = search needs
 
 returns-2 : tie.Need-returns-2
-returns-2 c =
-    let w = c .before in
-    let l = led (placed w) in
-    let a = start l .args in
-    sym (new-word-copied one (memory one (a .image .now)) (a .head) (a .table .now) (a .text .now) (a .k) (w .copied-word .result) (l .in-block .result)
-    (placed w .block .result + w .before .before .block2 .result) (w .before .word .result) (l .in-block .ensures) (omega arith) (omega arith)
-    (w .copied-word .ensures) (omega arith) (inl (c .if3 .taken)))
+returns-2 c = sym (laid (c .before) .same (omega arith) (inl (c .if3 .taken)))
 
 returns-3 : tie.Need-returns-3
-returns-3 c =
-    let w = c .before .before in
-    let l = led (placed w) in
-    let a = start l .args in
-    sym (new-word-copied one (memory one (a .image .now)) (a .head) (a .table .now) (a .text .now) (a .k) (w .copied-word .result) (l .in-block .result)
-    (placed w .block .result + w .before .before .block2 .result) (w .before .word .result) (l .in-block .ensures) (omega arith) (omega arith)
-    (w .copied-word .ensures) (omega arith) (inr (c .if4 .taken)))
+returns-3 c = sym (laid (c .before .before) .same (omega arith) (inr (c .if4 .taken)))
 
 edge-word-requires : tie.Need-edge-word-requires
 edge-word-requires c κs = search needs
 
 returns-4 : tie.Need-returns-4
-returns-4 c =
-    let w = c .before .before .before in
-    let l = led (placed w) in
-    let a = start l .args in
-    c .edge-word .ensures
-    ∙ sym (new-word one (memory one (a .image .now)) (a .head) (a .table .now) (a .text .now) (a .k) (w .copied-word .result) (l .in-block .result)
-    (placed w .block .result + w .before .before .block2 .result) (w .before .word .result) (l .in-block .ensures) (omega arith) (omega arith)
-    (w .copied-word .ensures))
+returns-4 c = c .edge-word .ensures ∙ sym (laid (c .before .before .before) .mixed)
 
 pub new-word-spec : {M : Type 1} → statement M
 new-word-spec =

@@ -4,7 +4,8 @@ use mathlib.Core.Path.{ap, _∙_}
 use native.Mathlib.Omega.{arith}
 use lib.ListN.{set}
 use Rattle.words.specs.Memory.{byteIn}
-use Rattle.points.proofs.Copied.{Copied, copied-none, copied-more, copied-all, byte-at}
+use Rattle.words.proofs.Memory.{byte-at}
+use Rattle.points.proofs.Copied.{Copied, copied-none, copied-more, copied-all}
 use Rattle.points.proofs.read.copy_bytes.Statement.{statement}
 use Rattle.points.proofs.read.copy_bytes.Tie as tie
 

@@ -13,11 +13,14 @@ use Rattle.words.proofs.bytes.words_of.Statement.{statement}
 use Rattle.words.proofs.bytes.words_of.Tie as tie
 
 abbrev Inv-loop : tie.InvT-loop
-Inv-loop bytes words₀ i₀ words i =
-    (i ≤ length bytes / 8) × (i ≤ length words₀) × (length words ≡ length words₀) × (words ≡ wordsOf bytes i ++ drop i words₀)
+Inv-loop bytes words₀ n i₀ words i =
+    (i ≤ n) × (i ≤ length words₀) × (length words ≡ length words₀) × (words ≡ wordsOf bytes i ++ drop i words₀)
 
 abbrev μ-loop : tie.MeasureT-loop
-μ-loop bytes words₀ i₀ words i = length bytes / 8 - i
+μ-loop bytes words₀ n i₀ words i = n - i
+
+whole-words-requires : tie.Need-whole-words-requires Inv-loop μ-loop
+whole-words-requires c κs = tt
 
 loop-holds : tie.Need-loop-holds Inv-loop μ-loop
 loop-holds c = (omega arith, omega arith, refl, refl)
@@ -41,8 +44,9 @@ loop-less : tie.Need-loop-less Inv-loop μ-loop
 loop-less c = omega arith
 
 loop-again : tie.Need-loop-again Inv-loop μ-loop
-loop-again c = let a = c .before .before .before .before .before .before .args in
-    let l = c .before .before .before .loop in
+loop-again c = let turn = c .before .before .before in
+    let l = turn .loop in
+    let a = turn .before .before .before .before .args in
     let z : 0 + l .i ≡ l .i = omega arith in
     let m : List ℕ = a .words .now in
     let w : ℕ → ℕ = λ k. fromBytes (listFrom (8 * k) 8 (λ j. getD (a .bytes .now) j 0)) in (
@@ -72,6 +76,7 @@ words-of-spec =
     (tie.spec
     Inv-loop
     μ-loop
+    whole-words-requires
     loop-holds
     mul-word-at
     word-at-requires
