@@ -91,6 +91,30 @@ static void written(void)
     finish(&kept->point);
 }
 
+/* A write begun over a block that is mapped. */
+static void over(void)
+{
+    fresh();
+    begin_at(&kept->point, 0, BLOCK);
+    finish(&kept->point);
+    begin_at(&kept->point, now->offset, now->size);
+}
+
+/* The same, filled, when another point has committed to that block: what is copied is to be filled again. */
+static void moved(void)
+{
+    static store_point other;
+    store_answer answer;
+    over();
+    must(store_join(image, WORDS, &kept->shared, 1, &other) == STORE_DONE);
+    begin_at(&other, 0, 8);
+    finish(&other);
+    do
+        answer = store_step(image, WORDS, &kept->shared, &kept->point);
+    while (answer.kind == STORE_STORED);
+    must(answer.kind == STORE_MOVED);
+}
+
 /* A log of 1,000 entries, of writes of 64 bytes at 32 places in turn. */
 static void logged(void)
 {
@@ -196,11 +220,15 @@ static void read(records *r)
     must(store_read(image, WORDS, &r->shared, &r->point, now->offset, memory.buffer, now->size).count == now->size);
 }
 
-/* ---- The cells. A write of 512 bytes at 0 spans one block, one of 1,024 bytes at 256 three. */
+/* ---- The cells. A write of 512 bytes at 0 spans one block, one of 1,024 bytes at 256 three. One of 8 bytes at 504 fills 63 words by copying before its
+   text comes; at 4 its first two words have bytes of both. */
 
 static const cell cells[] = {
     {"nothing", fresh, nothing, 0, 0, 1},
     {"fill, 512 B", begun, fill, 0, 512, 64},
+    {"fill, a word copied", over, fill, 504, 8, 63},
+    {"fill, a word at the text's edge", over, fill, 4, 8, 2},
+    {"fill again, a word copied", moved, fill, 504, 8, 63},
     {"commit, 512 B", filled, commit, 0, 512, 1},
     {"open, 1,000 log entries", logged, open, 0, 0, 1},
     {"read 1,024 B", written, read, 0, 1024, 64},

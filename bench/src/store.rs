@@ -84,7 +84,18 @@ pub trait Store {
         store
     }
 
-    /// The 64 fills of such a write, that many times.
+    /// A write of 8 bytes is under way over a block that is mapped, nothing of it filled.
+    fn over(offset: usize) -> Self
+    where
+        Self: Sized,
+    {
+        let mut store = Self::begun();
+        store.finish(0);
+        store.begin(0, offset, &text_of(8));
+        store
+    }
+
+    /// The 64 fills of a write of a whole block, that many times.
     fn fill_block(&mut self, times: usize) {
         for _ in 0..times {
             self.rewind(0);

@@ -38,6 +38,8 @@ impl<S: Store> Kept<S> {
     fn new(call: &str) -> Kept<S> {
         let make = || match call {
             "fill" => S::begun(),
+            "fill, a word copied" => S::over(504),
+            "fill, a word at the text's edge" => S::over(4),
             "commit" => {
                 let mut store = S::begun();
                 store.fill_block(1);
@@ -51,7 +53,7 @@ impl<S: Store> Kept<S> {
             "open" => S::with_entries(1_000, 64),
             _ => S::with_entries(0, 64),
         };
-        let back = if ["fill", "commit", "begin"].contains(&call) { Back::All(make()) } else { Back::Nothing };
+        let back = if call.starts_with("fill") || ["commit", "begin"].contains(&call) { Back::All(make()) } else { Back::Nothing };
         Kept { store: make(), back, point: 0, offset: 0, text: text_of(512), buffer: vec![0; 1_024] }
     }
 
@@ -72,7 +74,8 @@ impl<S: Store> Calls for Kept<S> {
 
     fn call(&mut self, call: &str) {
         match call {
-            "fill" | "commit" => self.store.step(0),
+            "commit" => self.store.step(0),
+            fill if fill.starts_with("fill") => self.store.step(0),
             "begin" => self.store.begin(self.point, self.offset, &self.text),
             "open" => assert_eq!(self.store.open(), 1_000),
             "read" => assert_eq!(self.store.read(0, 0, &mut self.buffer), 1_024),

@@ -1,6 +1,6 @@
 -- `points::read::copy` meets its contract: its three copies follow each other. Assumes nothing.
-use Prim.Native.Nat.{_+_, _*_, _-_, _/_, _%_, min}
-use mathlib.Core.Path.{_≡_, ap, _∙_}
+use Prim.Native.Nat.{_+_, _*_, _-_}
+use mathlib.Core.Path.{ap, _∙_}
 use native.Mathlib.Omega.{arith}
 use lib.Seq.{sets}
 use Rattle.words.specs.Memory.{byteIn}
