@@ -43,3 +43,9 @@ def symbols():
 
 def exported():
     return sorted(name for *_, kind, name in symbols() if kind == "T")
+
+
+def outside():
+    """What the library needs from outside."""
+    rows = symbols()
+    return {row[-1] for row in rows if row[0] == "U"} - {row[-1] for row in rows if len(row) > 2}

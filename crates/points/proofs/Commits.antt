@@ -42,7 +42,7 @@ module _ (E : Edition) (blocks v b n u p : ℕ) (few : blocks ≤ 1024) (n-low :
   entry-legal : legal E blocks (entryOf E v b n u p) ≡ true
   entry-legal = valid-legal E blocks (entryOf E v b n u p) rules
 
--- with the first block and the blocks as they were counted, used bytes and point number fit their fields
+-- the entry packed from the counted first block and blocks is the definition's: used bytes and point number fit their fields
 pub entry-kept :
     (E : Edition) (h : Head) (v n : ℕ) → 1 ≤ h .write .size → h .number < 32 → v ≡ runFirst E (h .write) → n ≡ runBlocks E (h .write)
     → let w = h .write in

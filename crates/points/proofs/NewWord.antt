@@ -168,7 +168,12 @@ word-bytes w (suc n) h =
         let e : 8 * (1 + k) ≡ 8 + 8 * (0 + k) = omega arith in
         rw (e, ← shr-shr w 8 (8 * (0 + k)))
 
--- word k of the run from the word copied, with `lead` bytes of the run before the text: byte by byte; and where none of its bytes is the text's
+-- byte j of word k of the run, in the file
+abbrev place : Edition → Head → ℕ → ℕ → ℕ
+place E h k j = runStart E (h .write) + 8 * k + j
+
+-- what word k of the run is, given the word copied there and `lead`, the run's bytes before the text: byte by byte; and the word copied, where none of its
+-- bytes is the text's
 pub record Laid (E : Edition) (m : Memory) (h : Head) (table text : List ℕ) (k copied lead : ℕ) : Type 0 where
   pub mixed : newWord E m h table text k ≡ fromBytes (listFrom (8 * k) 8 (mixedByte copied text lead (lead + h .write .size) (8 * k)))
   pub same : copied < 2 ^ 64 → (8 * k + 8 ≤ lead) ⊎ (lead + h .write .size ≤ 8 * k) → newWord E m h table text k ≡ copied
@@ -187,32 +192,29 @@ module _ (E : Edition) (m : Memory) (h : Head) (table text : List ℕ) (k copied
   abbrev mixed : ℕ → ℕ
   mixed = mixedByte copied text lead end (8 * k)
 
-  abbrev place : ℕ → ℕ
-  place j = runStart E (h .write) + 8 * k + j
-
-  file-byte : Copied → (j : ℕ) → j < 8 → fileByte E m (fileAt h table) (place j) ≡ byteOf copied (8 * k + j - 8 * k)
+  file-byte : Copied → (j : ℕ) → j < 8 → fileByte E m (fileAt h table) (place E h k j) ≡ byteOf copied (8 * k + j - 8 * k)
   unfolding fileByte
   file-byte c j l =
       let at = word-byte E (h .write .offset / blockBytes E) k j l in
       let d : 8 * k + j - 8 * k ≡ j = omega arith in
       rw (at .0, at .1, d, ← isBlock, ← isWord) (sym (c j l))
 
-  new-byte : Copied → (j : ℕ) → j < 8 → newByte E m h table text (place j) ≡ mixed (8 * k + j)
-  new-byte c j l = go (decLe (h .write .offset) (place j)) (decLt (place j) (h .write .offset + h .write .size))
+  new-byte : Copied → (j : ℕ) → j < 8 → newByte E m h table text (place E h k j) ≡ mixed (8 * k + j)
+  new-byte c j l = go (decLe (h .write .offset) (place E h k j)) (decLt (place E h k j) (h .write .offset + h .write .size))
     where
-      go : Dec (h .write .offset ≤ place j) → Dec (place j < h .write .offset + h .write .size) → newByte E m h table text (place j) ≡ mixed (8 * k + j)
+      go : Dec (h .write .offset ≤ place E h k j) → Dec (place E h k j < h .write .offset + h .write .size) → newByte E m h table text (place E h k j) ≡ mixed (8 * k + j)
       go (yes lo) (yes hi) =
           let split = split-byte E (h .write .offset) in
-          let d : 8 * k + j - lead ≡ place j - h .write .offset = omega arith in
-          laid-text E m (fileAt h table) (h .write .offset) (h .write .size) text (place j) lo hi
+          let d : 8 * k + j - lead ≡ place E h k j - h .write .offset = omega arith in
+          laid-text E m (fileAt h table) (h .write .offset) (h .write .size) text (place E h k j) lo hi
           ∙ sym (mixed-text copied text lead end (8 * k) (8 * k + j) (omega arith) (omega arith) ∙ rw d)
       go (yes lo) (no hi) =
           let split = split-byte E (h .write .offset) in
-          laid-after E m (fileAt h table) (h .write .offset) (h .write .size) text (place j) (omega arith)
+          laid-after E m (fileAt h table) (h .write .offset) (h .write .size) text (place E h k j) (omega arith)
           ∙ file-byte c j l ∙ sym (mixed-after copied text lead end (8 * k) (8 * k + j) (omega arith))
       go (no lo) hi =
           let split = split-byte E (h .write .offset) in
-          laid-before E m (fileAt h table) (h .write .offset) (h .write .size) text (place j) (omega arith)
+          laid-before E m (fileAt h table) (h .write .offset) (h .write .size) text (place E h k j) (omega arith)
           ∙ file-byte c j l ∙ sym (mixed-before copied text lead end (8 * k) (8 * k + j) (omega arith))
 
   byte-by-byte : Copied → newWord E m h table text k ≡ fromBytes (listFrom (8 * k) 8 mixed)
@@ -244,9 +246,9 @@ unfolding newWord
 new-word-text E m h table text k lead isLead lo hi =
     same-bytes (runStart E (h .write) + 8 * k) (8 * k - lead) 8 (newByte E m h table text) (λ i. getD text i 0) byte
   where
-    byte : (j : ℕ) → j < 8 → newByte E m h table text (runStart E (h .write) + 8 * k + j) ≡ getD text (8 * k - lead + j) 0
+    byte : (j : ℕ) → j < 8 → newByte E m h table text (place E h k j) ≡ getD text (8 * k - lead + j) 0
     byte j l =
-        let p = runStart E (h .write) + 8 * k + j in
+        let p = place E h k j in
         let split = split-byte E (h .write .offset) in
         let i : p - h .write .offset ≡ 8 * k - lead + j = omega arith in
         laid-text E m (fileAt h table) (h .write .offset) (h .write .size) text p (omega arith) (omega arith) ∙ rw i

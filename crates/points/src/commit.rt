@@ -21,7 +21,7 @@ use crate::plan::Reads;
 fn first_edge(write: Write) -> bool
     ensures { λ r. ⌜ r ≡ firstEdge one write ⌝ }
 {
-    let lead = crate::record::lead(write.offset) as u64;
+    let lead = crate::record::lead(write) as u64;
     (0 < lead) | (lead + (write.size as u64) < 512)
 }
 
@@ -29,7 +29,7 @@ fn first_edge(write: Write) -> bool
 fn last_edge(write: Write) -> bool
     ensures { λ r. ⌜ r ≡ lastEdge one write ⌝ }
 {
-    let lead = crate::record::lead(write.offset) as u64;
+    let lead = crate::record::lead(write) as u64;
     let n = crate::record::span(write.offset, write.size) as u64;
     (1 < n) & (lead + (write.size as u64) < 512 * n)
 }
@@ -63,7 +63,7 @@ fn move_on(image: &[u64], blocks: u32, head: Head) -> Plan
     ensures { λ r. ⌜ r ≡ moveOn one (memory one (now (image .entry))) head blocks ⌝ }
 {
     let write = head.write;
-    let v = crate::record::block(write.offset);
+    let v = crate::record::run_first(write);
     let last = v + crate::record::span(write.offset, write.size) - 1;
     let seen = log::ahead::look(image, blocks, head.place, v, last);
     if seen.broken {
@@ -92,7 +92,7 @@ fn entry_for(head: Head) -> u64
     ensures { λ r. ⌜ r ≡ entryFor one head ⌝ }
 {
     let write = head.write;
-    let v = crate::record::block(write.offset);
+    let v = crate::record::run_first(write);
     let n = crate::record::span(write.offset, write.size);
     let used = write.offset + write.size - 512 * (v + n - 1);
     log::pack::entry(

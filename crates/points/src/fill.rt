@@ -94,9 +94,9 @@ pub(crate) fn new_word<'a>(
     requires { ⌜ TextFits (head .write) × (k < runWords one (head .write)) ⌝ }
     ensures { λ r. ⌜ r ≡ newWord one (memory one (now (image .entry))) head (now (table .entry)) (now (text .entry)) k ⌝ }
 {
-    let offset = head.write.offset as usize;
-    let lead = words::offset::in_block(offset);
-    let end = lead + head.write.size as usize;
+    let write = head.write;
+    let lead = crate::record::lead(write) as usize;
+    let end = lead + write.size as usize;
     let at = 8 * k as usize;
     if lead <= at {
         if at + 8 <= end {
@@ -106,7 +106,7 @@ pub(crate) fn new_word<'a>(
     let copied = copied_word(
         image,
         table,
-        words::offset::block(offset) + words::offset::block(at),
+        crate::record::run_first(write) as usize + words::offset::block(at),
         words::offset::word(at),
     );
     if at + 8 <= lead {
@@ -129,7 +129,7 @@ fn copied_from(write: Write, from: u32) -> u32
     requires { ⌜ (write .size ≤ 1024) × (from ≤ 192) ⌝ }
     ensures { λ r. ⌜ (from ≤ r) × (copies one write r ≡ true) × ((y : ℕ) → from ≤ y → y < r → copies one write y ≡ false) ⌝ }
 {
-    let lead = crate::record::lead(write.offset);
+    let lead = crate::record::lead(write);
     if 8 * from < lead {
         return from;
     }

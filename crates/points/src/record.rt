@@ -1,13 +1,13 @@
-// The tests that every later call begins with, reasons 10, 11 and 14, and how many blocks a write spans: each is total.
+// The tests that every later call begins with, reasons 10, 11 and 14; how many blocks a write spans and where it begins: each is total.
 ghost use mathlib.Core.Path.{_≡_};
 ghost use mathlib.Core.List.{List};
-ghost use Prim.Native.Nat.{ℕ, _/_, _%_, _<_, max};
+ghost use Prim.Native.Nat.{ℕ, _%_, _<_, max};
 ghost use lib.Dec.{ltb};
 ghost use lib.ListN.{length};
 ghost use Rattle.words.specs.Edition.{one, blockBytes};
 ghost use Rattle.words.specs.Logic.{between};
 ghost use Rattle.words.specs.Word.{bit};
-ghost use Rattle.points.specs.Record.{noText, phaseNumber, phaseOf, isIdle, isZeroing, badShared, badText, pastEnd, inside, span};
+ghost use Rattle.points.specs.Record.{noText, phaseNumber, phaseOf, isIdle, isZeroing, badShared, badText, pastEnd, inside, span, runFirst};
 ghost use Rattle.points.specs.Record.{placeFits, zeroingFits, writeFits, headFits, tableFits, fits, unfit};
 ghost use Rattle.points.specs.Search.{sharedOf};
 use crate::Head;
@@ -127,18 +127,18 @@ pub fn span(offset: u32, size: u32) -> u32
     words::offset::blocks_for(words::offset::in_block(offset as usize) + size as usize) as u32
 }
 
-// The virtual block that an offset lies in.
-pub(crate) fn block(offset: u32) -> u32
-    ensures { λ r. ⌜ r ≡ offset / blockBytes one ⌝ }
+// The virtual block in which a write begins.
+pub(crate) fn run_first(write: Write) -> u32
+    ensures { λ r. ⌜ r ≡ runFirst one write ⌝ }
 {
-    words::offset::block(offset as usize) as u32
+    words::offset::block(write.offset as usize) as u32
 }
 
-// Its byte in the block: where a write begins, the bytes of the run before the text.
-pub(crate) fn lead(offset: u32) -> u32
-    ensures { λ r. ⌜ r ≡ offset % blockBytes one ⌝ }
+// The bytes of its run before the text.
+pub(crate) fn lead(write: Write) -> u32
+    ensures { λ r. ⌜ r ≡ write .offset % blockBytes one ⌝ }
 {
-    words::offset::in_block(offset as usize) as u32
+    words::offset::in_block(write.offset as usize) as u32
 }
 
 // Whether a log place keeps its ranges.

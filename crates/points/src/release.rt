@@ -41,8 +41,8 @@ fn free_replaced(map: &mut [u64], table: &[u16; 256], write: Write)
     ensures { λ _. ⌜ now (map .exit) ≡ setAll false (now (map .entry)) (replaced one write (now (table .entry))) ⌝ }
 {
     let n = crate::record::span(write.offset, write.size);
-    let v = words::offset::block(write.offset as usize);
-    free_mapped_from(map, table, v, n as usize);
+    let v = crate::record::run_first(write);
+    free_mapped_from(map, table, v as usize, n as usize);
 }
 
 // The run of the write becomes free.

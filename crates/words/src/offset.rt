@@ -3,11 +3,11 @@ ghost use mathlib.Core.Path.{_≡_};
 ghost use Prim.Native.Nat.{_+_, _-_, _/_, _%_};
 ghost use Rattle.words.specs.Edition.{one, blockBytes};
 
-// A block has 2 to this power bytes.
-pub const BLOCK_SHIFT: usize = 9;
+// A block is 1 << BLOCK_SHIFT bytes.
+const BLOCK_SHIFT: usize = 9;
 
-// A word has 2 to this power bytes.
-pub const WORD_SHIFT: usize = 3;
+// A word is 1 << WORD_SHIFT bytes.
+const WORD_SHIFT: usize = 3;
 
 // The block in which an offset lies.
 pub fn block(offset: usize) -> usize
@@ -37,7 +37,7 @@ pub fn byte(offset: usize) -> usize
     offset & ((1 << WORD_SHIFT) - 1)
 }
 
-// The whole words of a length of bytes; so of a list of words the one in which an offset lies.
+// The whole words of a length of bytes; of an offset, the words before its own.
 pub fn whole_words(bytes: usize) -> usize
     ensures { λ r. ⌜ r ≡ bytes / 8 ⌝ }
 {

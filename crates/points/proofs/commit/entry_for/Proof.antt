@@ -13,8 +13,8 @@ blocks-counted c = c .before .before .before .before
 abbrev start : tie.After-span → tie.Start
 start c = c .before .before .before
 
-block-requires : tie.Need-block-requires
-block-requires c κs = search needs
+run-first-requires : tie.Need-run-first-requires
+run-first-requires c κs = search needs
 
 span-requires : tie.Need-span-requires
 span-requires c κs = search needs
@@ -57,7 +57,7 @@ returns c =
     let spanned = blocks-counted c in
     let args = start spanned .args in
     let p = start spanned .pre in
-    let first = spanned .before .block in
+    let first = spanned .before .run-first in
     let count = spanned .span in
     c .entry .ensures ∙ entry-kept one (args .head) (first .result) (count .result) (p .0 .0) (p .2) (first .ensures) (count .ensures)
 
@@ -65,7 +65,7 @@ pub entry-for-spec : {M : Type 1} → statement M
 entry-for-spec =
     tie.close
     (tie.spec
-    block-requires
+    run-first-requires
     span-requires
     add-used
     add-used-2

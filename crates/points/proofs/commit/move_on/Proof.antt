@@ -40,7 +40,7 @@ seen : (c : tie.After-look) → let a = start c .args in
     c .look .result
     ≡ lookaheadOf one (a .blocks) (runFirst one w) (runFirst one w + runBlocks one w - 1) (a .head .place)
     (ahead one (memory one (a .image .now)) (a .blocks) (a .head .place))
-seen c = rw (c .before .before .block .ensures, c .before .span .ensures) at (c .look .ensures)
+seen c = rw (c .before .before .run-first .ensures, c .before .span .ensures) at (c .look .ensures)
 
 -- what is filled again
 later : (c : tie.After-refill) → let last = last-joined c in
@@ -56,8 +56,8 @@ later c =
     ∙ ap (λ (x : Bool). refill (x && walk .look .result .first) (last .last-edge .result && walk .look .result .last) one w) (first .first-edge .ensures)
     ∙ ap (λ (x : Bool). refill (firstEdge one w && walk .look .result .first) (x && walk .look .result .last) one w) (last .last-edge .ensures)
 
-block-requires : tie.Need-block-requires
-block-requires c κs = search needs
+run-first-requires : tie.Need-run-first-requires
+run-first-requires c κs = search needs
 
 span-requires : tie.Need-span-requires
 span-requires c κs = search needs
@@ -107,7 +107,7 @@ pub move-on-spec : {M : Type 1} → statement M
 move-on-spec =
     tie.close
     (tie.spec
-    block-requires
+    run-first-requires
     span-requires
     add-last
     sub-last

@@ -11,31 +11,31 @@ use Rattle.points.proofs.fill.new_word.Statement.{statement}
 use Rattle.points.proofs.fill.new_word.Tie as tie
 
 -- the way back, call by call
-abbrev placed : tie.After-copied-word → tie.After-block
+abbrev placed : tie.After-copied-word → tie.After-run-first
 placed c = c .before .before .before
 
-abbrev led : tie.After-block → tie.After-in-block
-led c = c .before .before .before
+abbrev measured : tie.After-run-first → tie.After-lead
+measured c = c .before .before .before
 
-abbrev start : tie.After-in-block → tie.Start
+abbrev start : tie.After-lead → tie.Start
 start c = c .before .before .before
 
 -- the word of the definition, from the word copied
-laid : (c : tie.After-copied-word) → let l = led (placed c) in
+laid : (c : tie.After-copied-word) → let l = measured (placed c) in
     let a = start l .args in
-    Laid one (memory one (a .image .now)) (a .head) (a .table .now) (a .text .now) (a .k) (c .copied-word .result) (l .in-block .result)
+    Laid one (memory one (a .image .now)) (a .head) (a .table .now) (a .text .now) (a .k) (c .copied-word .result) (l .lead .result)
 laid c =
-    let l = led (placed c) in
+    let l = measured (placed c) in
     let a = start l .args in
-    new-word one (memory one (a .image .now)) (a .head) (a .table .now) (a .text .now) (a .k) (c .copied-word .result) (l .in-block .result)
-    (placed c .block .result + c .before .before .block2 .result) (c .before .word .result) (l .in-block .ensures) (omega arith) (omega arith)
+    new-word one (memory one (a .image .now)) (a .head) (a .table .now) (a .text .now) (a .k) (c .copied-word .result) (l .lead .result)
+    (placed c .run-first .result + c .before .before .block .result) (c .before .word .result) (l .lead .ensures) (omega arith) (omega arith)
     (c .copied-word .ensures)
 
-cast-offset : tie.Need-cast-offset
-cast-offset c = search needs
+lead-requires : tie.Need-lead-requires
+lead-requires c κs = search needs
 
-in-block-requires : tie.Need-in-block-requires
-in-block-requires c κs = search needs
+cast-lead : tie.Need-cast-lead
+cast-lead c = search needs
 
 cast-end : tie.Need-cast-end
 cast-end c = search needs
@@ -57,14 +57,17 @@ returns c =
     let l = c .before .before .before .before in
     let a = start l .args in
     c .text-word .ensures
-    ∙ sym (new-word-text one (memory one (a .image .now)) (a .head) (a .table .now) (a .text .now) (a .k) (l .in-block .result) (l .in-block .ensures)
+    ∙ sym (new-word-text one (memory one (a .image .now)) (a .head) (a .table .now) (a .text .now) (a .k) (l .lead .result) (l .lead .ensures)
     (omega arith) (omega arith))
+
+run-first-requires : tie.Need-run-first-requires
+run-first-requires c κs = search needs
+
+cast-copied-word : tie.Need-cast-copied-word
+cast-copied-word c = search needs
 
 block-requires : tie.Need-block-requires
 block-requires c κs = search needs
-
-block-requires-2 : tie.Need-block-requires-2
-block-requires-2 c κs = search needs
 
 add-copied-word : tie.Need-add-copied-word
 add-copied-word c = search needs
@@ -94,16 +97,17 @@ pub new-word-spec : {M : Type 1} → statement M
 new-word-spec =
     tie.close
     (tie.spec
-    cast-offset
-    in-block-requires
+    lead-requires
+    cast-lead
     cast-end
     add-end
     mul-at
     add-if2
     text-word-requires
     returns
+    run-first-requires
+    cast-copied-word
     block-requires
-    block-requires-2
     add-copied-word
     word-requires
     copied-word-requires

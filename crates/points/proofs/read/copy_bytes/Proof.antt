@@ -56,9 +56,9 @@ loop-again c =
     let l = turn .loop in
     let i = word .whole-words in
     let j = c .before .byte in
-    let is = byte-at (a .part .now) (a .from + l .k) (i .result) (j .result) (i .ensures) (j .ensures) in
+    let read = byte-at (a .part .now) (a .from + l .k) (i .result) (j .result) (i .ensures) (j .ensures) in
     copied-more (byteIn (a .part .now)) (a .buffer .now) (a .at) (a .from) (a .n) (l .buffer) (l .k) (l .inv) _ 1 (omega arith)
-    (ap (set (l .buffer) (a .at + l .k)) (c .byte2 .ensures ∙ is))
+    (ap (set (l .buffer) (a .at + l .k)) (c .byte2 .ensures ∙ read))
 
 same-length : tie.Need-same-length Inv-loop μ-loop
 same-length c = c .before .loop .inv .same

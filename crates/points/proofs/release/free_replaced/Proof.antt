@@ -6,17 +6,17 @@ use Rattle.points.proofs.release.free_replaced.Tie as tie
 span-requires : tie.Need-span-requires
 span-requires c κs = search needs
 
-cast-block : tie.Need-cast-block
-cast-block c = search needs
-
-block-requires : tie.Need-block-requires
-block-requires c κs = search needs
+run-first-requires : tie.Need-run-first-requires
+run-first-requires c κs = search needs
 
 cast-free-mapped-from : tie.Need-cast-free-mapped-from
 cast-free-mapped-from c = search needs
 
+cast-free-mapped-from-2 : tie.Need-cast-free-mapped-from-2
+cast-free-mapped-from-2 c = search needs
+
 free-mapped-from-requires : tie.Need-free-mapped-from-requires
-free-mapped-from-requires c κs = let n = c .before .before .before in rw (n .span .ensures, c .before .block .ensures) (n .before .before .pre)
+free-mapped-from-requires c κs = let n = c .before .before in rw (n .span .ensures, c .before .run-first .ensures) (n .before .before .pre)
 
 same-length : tie.Need-same-length
 same-length c = search needs
@@ -24,16 +24,16 @@ same-length c = search needs
 returns : tie.Need-returns
 returns c =
     let v = c .before .before .before .before in
-    rw (v .before .before .span .ensures, v .block .ensures) at (c .before .before .free-mapped-from .ensures)
+    rw (v .before .span .ensures, v .run-first .ensures) at (c .before .before .free-mapped-from .ensures)
 
 pub free-replaced-spec : {M : Type 1} → statement M
 free-replaced-spec =
     tie.close
     (tie.spec
     span-requires
-    cast-block
-    block-requires
+    run-first-requires
     cast-free-mapped-from
+    cast-free-mapped-from-2
     free-mapped-from-requires
     same-length
     returns)
