@@ -10,11 +10,33 @@ use bench::rows::Port;
 use bench::second::Second;
 use bench::store::{Map, Store};
 
+/// What is called, known before it is counted.
+#[derive(Clone, Copy, PartialEq)]
+enum Call {
+    Nothing,
+    Step,
+    Begin,
+    Open,
+    Read,
+}
+
+impl Call {
+    fn named(name: &str) -> Call {
+        match name {
+            "begin" => Call::Begin,
+            "open" => Call::Open,
+            "read" => Call::Read,
+            "nothing" => Call::Nothing,
+            _ => Call::Step,
+        }
+    }
+}
+
 /// The calls that can be counted.
 trait Calls {
     /// Before each call; not counted.
     fn prepare(&mut self);
-    fn call(&mut self, call: &str);
+    fn call(&mut self, call: Call);
 }
 
 /// What a store is put back to before each call.
@@ -53,7 +75,7 @@ impl<S: Store> Kept<S> {
             "open" => S::with_entries(1_000, 64),
             _ => S::with_entries(0, 64),
         };
-        let back = if call.starts_with("fill") || ["commit", "begin"].contains(&call) { Back::All(make()) } else { Back::Nothing };
+        let back = if [Call::Step, Call::Begin].contains(&Call::named(call)) { Back::All(make()) } else { Back::Nothing };
         Kept { store: make(), back, point: 0, offset: 0, text: text_of(512), buffer: vec![0; 1_024] }
     }
 
@@ -72,14 +94,13 @@ impl<S: Store> Calls for Kept<S> {
         }
     }
 
-    fn call(&mut self, call: &str) {
+    fn call(&mut self, call: Call) {
         match call {
-            "commit" => self.store.step(0),
-            fill if fill.starts_with("fill") => self.store.step(0),
-            "begin" => self.store.begin(self.point, self.offset, &self.text),
-            "open" => assert_eq!(self.store.open(), 1_000),
-            "read" => assert_eq!(self.store.read(0, 0, &mut self.buffer), 1_024),
-            _ => {}
+            Call::Nothing => {}
+            Call::Step => self.store.step(0),
+            Call::Begin => self.store.begin(self.point, self.offset, &self.text),
+            Call::Open => assert_eq!(self.store.open(), 1_000),
+            Call::Read => assert_eq!(self.store.read(0, 0, &mut self.buffer), 1_024),
         }
     }
 }
@@ -93,8 +114,8 @@ impl Calls for ByValue {
         self.0.rewind();
     }
 
-    fn call(&mut self, call: &str) {
-        if call == "fill" {
+    fn call(&mut self, call: Call) {
+        if call == Call::Step {
             self.0.step_by_value();
         }
     }
@@ -105,8 +126,8 @@ impl Calls for ByReference {
         self.0.rewind();
     }
 
-    fn call(&mut self, call: &str) {
-        if call == "fill" {
+    fn call(&mut self, call: Call) {
+        if call == Call::Step {
             self.0.step_by_reference();
         }
     }
@@ -119,7 +140,7 @@ fn calls_of<S: Store + 'static>(beginning: Option<&Beginning>, call: &str) -> Bo
 
 /// What callgrind counts; `nothing` is the driver's own part.
 #[inline(never)]
-fn measured_call(calls: &mut dyn Calls, call: &str) {
+fn measured_call(calls: &mut dyn Calls, call: Call) {
     calls.call(call);
 }
 
@@ -190,6 +211,7 @@ fn main() {
         "reference" => Box::new(ByReference(Port::new())),
         _ => panic!("no such implementation"),
     };
+    let call = Call::named(call);
     let (mut copies, mut bytes) = (0, 0);
     for _ in 0..times {
         calls.prepare();
