@@ -202,7 +202,9 @@ module _ (E : Edition) (m : Memory) (h : Head) (table text : List ℕ) (k copied
   new-byte : Copied → (j : ℕ) → j < 8 → newByte E m h table text (place E h k j) ≡ mixed (8 * k + j)
   new-byte c j l = go (decLe (h .write .offset) (place E h k j)) (decLt (place E h k j) (h .write .offset + h .write .size))
     where
-      go : Dec (h .write .offset ≤ place E h k j) → Dec (place E h k j < h .write .offset + h .write .size) → newByte E m h table text (place E h k j) ≡ mixed (8 * k + j)
+      go :
+          Dec (h .write .offset ≤ place E h k j) → Dec (place E h k j < h .write .offset + h .write .size)
+          → newByte E m h table text (place E h k j) ≡ mixed (8 * k + j)
       go (yes lo) (yes hi) =
           let split = split-byte E (h .write .offset) in
           let d : 8 * k + j - lead ≡ place E h k j - h .write .offset = omega arith in
