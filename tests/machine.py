@@ -1,4 +1,4 @@
-"""The machine code of the library for C, read with objdump; installs binutils from Debian's packages if it is missing."""
+"""The machine code of the library for C, read with objdump and nm from Debian's binutils."""
 import pathlib
 import re
 import shutil
@@ -14,7 +14,7 @@ def output(*command):
 
 
 def build():
-    """Builds the library, and has the tools that look at it."""
+    """Builds the library, and installs binutils if it is missing."""
     subprocess.run([ROOT / "include/build"], check=True)
     if not shutil.which("objdump"):
         subprocess.run("apt-get update -qq && apt-get install -y -qq binutils >/dev/null", shell=True, check=True)

@@ -221,7 +221,7 @@ static void read(records *r)
 }
 
 /* ---- The cells. A write of 512 bytes at 0 spans one block, one of 1,024 bytes at 256 three. One of 8 bytes at 504 fills 63 words by copying before its
-   text comes; at 4 its first two words have bytes of both. */
+   text comes; at 4 its first two words have bytes of the text and of the old block. */
 
 static const cell cells[] = {
     {"nothing", fresh, nothing, 0, 0, 1},

@@ -10,7 +10,7 @@ use bench::rows::Port;
 use bench::second::Second;
 use bench::store::{Map, Store};
 
-/// What is called, known before it is counted.
+/// The call, looked up by its name before the counting.
 #[derive(Clone, Copy, PartialEq)]
 enum Call {
     Nothing,
@@ -23,11 +23,12 @@ enum Call {
 impl Call {
     fn named(name: &str) -> Call {
         match name {
+            "nothing" => Call::Nothing,
+            "fill" | "fill, a word copied" | "fill, a word at the text's edge" | "commit" => Call::Step,
             "begin" => Call::Begin,
             "open" => Call::Open,
             "read" => Call::Read,
-            "nothing" => Call::Nothing,
-            _ => Call::Step,
+            _ => panic!("no such call"),
         }
     }
 }

@@ -172,8 +172,8 @@ word-bytes w (suc n) h =
 abbrev place : Edition → Head → ℕ → ℕ → ℕ
 place E h k j = runStart E (h .write) + 8 * k + j
 
--- what word k of the run is, given the word copied there and `lead`, the run's bytes before the text: byte by byte; and the word copied, where none of its
--- bytes is the text's
+-- word k of the run, from the word copied there and `lead`, the run's bytes before the text. `mixed`: byte by byte. `same`: the copied word itself, where
+-- none of its bytes is the text's
 pub record Laid (E : Edition) (m : Memory) (h : Head) (table text : List ℕ) (k copied lead : ℕ) : Type 0 where
   pub mixed : newWord E m h table text k ≡ fromBytes (listFrom (8 * k) 8 (mixedByte copied text lead (lead + h .write .size) (8 * k)))
   pub same : copied < 2 ^ 64 → (8 * k + 8 ≤ lead) ⊎ (lead + h .write .size ≤ 8 * k) → newWord E m h table text k ≡ copied

@@ -134,7 +134,7 @@ pub(crate) fn run_first(write: Write) -> u32
     words::offset::block(write.offset as usize) as u32
 }
 
-// The bytes of its run before the text.
+// How many bytes of a write's run lie before its text.
 pub(crate) fn lead(write: Write) -> u32
     ensures { λ r. ⌜ r ≡ write .offset % blockBytes one ⌝ }
 {
