@@ -9,7 +9,7 @@ use Rattle.points.specs.declared.StepAnswer.{StepAnswer}
 use Rattle.points.specs.declared.StepAnswer.the-variants.{Stored, Moved, Extending, Committed, Refused}
 use Rattle.points.specs.declared.Point.{Point}
 use Rattle.points.specs.Stepping.{stepKind, stepValue}
-use Rattle.points.proofs.Replies.{number-back}
+use Rattle.log.proofs.Replies.{number-back}
 use Rattle.c_lent.specs.Numbers.{sharedIn, lendShared, pointIn, lendPoint}
 use Rattle.c_lent.proofs.Heads.{head-back}
 use Rattle.c_served.specs.Served.{isAnswer, answerOf}

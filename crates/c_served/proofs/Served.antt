@@ -19,8 +19,9 @@ use Rattle.points.specs.Reading.{readRefusal, reading, locateRefusal, locating}
 use Rattle.points.proofs.Begins.{begin-map}
 use Rattle.points.proofs.CarriedOut.{step-map}
 use Rattle.points.proofs.StoredAt.{told-none}
-use Rattle.points.proofs.Replies.{number-back, join-replies, begin-replies, leave-replies}
-use Rattle.recovery.proofs.Served.{open-served, opened-replies, join-served, begin-served, step-served, leave-served, read-served, locate-served}
+use Rattle.log.proofs.Replies.{number-back, opened-replies}
+use Rattle.points.proofs.Replies.{join-replies, begin-replies, leave-replies}
+use Rattle.recovery.proofs.Served.{open-served, join-served, begin-served, step-served, leave-served, read-served, locate-served}
 use Rattle.recovery.specs.Served.{OpenServed}
 use Rattle.c_lent.specs.Numbers.{SharedLent, PointLent, sharedIn, pointIn, lendShared, lendPoint, headFrom, isKnown}
 use Rattle.c_lent.specs.Numbers.{openedNumbers, answerNumbers, countNumbers}
@@ -41,7 +42,7 @@ unfolding OpenServedFor OpenServed
 open-for words scratch r s e f =
     let o = opened one words scratch in
     let served = open-served words scratch o refl in (
-      λ none. served .0 (done (o .reply) (openRefusal one words scratch) (opened-replies words scratch) (sym (ap (λ (x : Opened). x .refused) e) ∙ none)),
+      λ none. served .0 (done (o .reply) (openRefusal one words scratch) (opened-replies one words scratch) (sym (ap (λ (x : Opened). x .refused) e) ∙ none)),
       served .1 ∙ rw (f, shared-back (o .shared)),
     )
   where

@@ -1,13 +1,12 @@
 -- A call that goes by its refusal's number replies that number: joining, beginning and leaving. And what a step answers is its plan's. Assumes nothing.
 use mathlib.Core.Path.{_≡_, refl}
 use mathlib.Core.List.{List}
-use Prim.Native.Nat.{ℕ, zero, suc}
+use Prim.Native.Nat.{ℕ}
 use lib.ListN.{length}
 use Rattle.words.specs.Edition.{Edition}
 use Rattle.log.specs.declared.Shared.{Shared}
-use Rattle.log.specs.declared.Reply.{Reply}
-use Rattle.log.specs.declared.Reply.the-variants.{Done, Refused}
-use Rattle.log.specs.Opening.{replyOf, numberOf}
+use Rattle.log.specs.Opening.{replyOf}
+use Rattle.log.proofs.Replies.{replies}
 use Rattle.points.specs.declared.Point.{Point}
 use Rattle.points.specs.declared.Joined.{Joined}
 use Rattle.points.specs.declared.Begun.{Begun}
@@ -16,15 +15,6 @@ use Rattle.points.specs.Record.{unfit}
 use Rattle.points.specs.Calls.{joining, joinRefusal, beginning, beginRefusal, leaving}
 use Rattle.points.specs.Plan.{carriedOut}
 use Rattle.points.specs.Stepping.{planned, stepping}
-
-pub number-back : (n : ℕ) → numberOf (replyOf n) ≡ n
-number-back zero = refl
-number-back (suc n) = refl
-
-replies : {A : Type 0} (reply : A → Reply) (n : ℕ) (x : A) (y : ℕ → A) → reply x ≡ Done → ((k : ℕ) → reply (y k) ≡ Refused (suc k))
-    → reply (elim n [ zero ↦ x | suc k ↦ y k ]) ≡ replyOf n
-replies reply zero x y a b = a
-replies reply (suc n) x y a b = b n
 
 module _ (E : Edition) (I : List ℕ) (s : Shared) where
   pub join-replies : (n : ℕ) → joining E I s n .reply ≡ replyOf (joinRefusal E I s n)

@@ -28,7 +28,8 @@ use Rattle.recovery.specs.History.{callsBefore, refusal, stepRefused, is
 use Rattle.recovery.specs.Claim.{NoFault}
 use Rattle.words.proofs.Tests.{no-true}
 use Rattle.recovery.proofs.Opening.Opens.{first-some, first-inside}
-use Rattle.points.proofs.Replies.{number-back, join-replies, begin-replies, leave-replies, step-answers}
+use Rattle.log.proofs.Replies.{number-back}
+use Rattle.points.proofs.Replies.{join-replies, begin-replies, leave-replies, step-answers}
 use Rattle.recovery.proofs.Calls.Mapping.{Tied, handed-newest, handed-number}
 use Rattle.recovery.proofs.Calls.NotRefused.{shared-ok, record-passed, step-on, not-broken}
 use Rattle.recovery.proofs.Claim.{opens-enough, same-start, bytesBefore}

@@ -1,16 +1,15 @@
 -- A call that answers what its definition says leaves what `serve` says; reading and locating show the book's file (Answered, NoFault). Assumes nothing.
-use Prim.Native.Nat.{ℕ, zero, suc}
-use mathlib.Core.Path.{_≡_, refl, sym, ap, _∙_}
+use Prim.Native.Nat.{ℕ}
+use mathlib.Core.Path.{_≡_, sym, ap, _∙_}
 use mathlib.Core.List.{List}
 use lib.ListN.{length}
 use Rattle.words.specs.Edition.{one}
-use Rattle.words.specs.Memory.{memory, blockCount, after}
-use Rattle.words.proofs.Choice.{chosen-zero, chosen-suc}
+use Rattle.words.specs.Memory.{after}
 use Rattle.log.specs.declared.Shared.{Shared}
 use Rattle.log.specs.declared.Reply.{Reply}
-use Rattle.log.specs.declared.Reply.the-variants.{Done, Refused}
+use Rattle.log.specs.declared.Reply.the-variants.{Done}
 use Rattle.log.specs.declared.Opened.{Opened}
-use Rattle.log.specs.Opening.{openRefusal, opened, openedWith, noShared, replyOf, numberOf}
+use Rattle.log.specs.Opening.{openRefusal, opened, replyOf, numberOf}
 use Rattle.points.specs.declared.Head.{Head}
 use Rattle.points.specs.declared.Point.{Point}
 use Rattle.points.specs.declared.Count.{Count}
@@ -22,29 +21,16 @@ use Rattle.points.specs.Calls.{joining, beginning, leaving}
 use Rattle.points.specs.Plan as plan
 use Rattle.points.specs.Stepping.{stepping}
 use Rattle.points.specs.Reading.{ReadLeaves, locateRefusal, locating}
-use Rattle.points.proofs.Replies.{number-back}
+use Rattle.log.proofs.Replies.{number-back, opened-replies}
 use Rattle.recovery.specs.World.{serve}
 use Rattle.recovery.specs.Claim.{Answered, NoFault}
 use Rattle.recovery.specs.Served.{OpenServed, JoinServed, BeginServed, StepServed, LeaveServed, ReadServed, LocateServed}
 use Rattle.recovery.proofs.Answered.{answered}
 use Rattle.recovery.proofs.NoFault.{no-fault}
 
-pub opened-replies : (words scratch : List ℕ) → opened one words scratch .reply ≡ replyOf (openRefusal one words scratch)
-unfolding opened openedWith
-opened-replies words scratch = go (openRefusal one words scratch) refl
-  where
-    refused : ℕ → Opened
-    refused n = record { reply = Refused (suc n); length = 0; entries = 0; free = 0; shared = noShared }
-
-    go : (n : ℕ) → openRefusal one words scratch ≡ n → opened one words scratch .reply ≡ replyOf n
-    go zero e =
-        ap (λ (o : Opened). o .reply) (chosen-zero (openRefusal one words scratch) (openedWith one (blockCount one words) (memory one words)) refused e)
-    go (suc n) e =
-        ap (λ (o : Opened). o .reply) (chosen-suc (openRefusal one words scratch) n (openedWith one (blockCount one words) (memory one words)) refused e)
-
 pub open-served : (words scratch : List ℕ) (r : Opened) → r ≡ opened one words scratch → OpenServed one words scratch r
 unfolding OpenServed
-open-served words scratch r e = (λ d. done-none (openRefusal one words scratch) (sym (opened-replies words scratch) ∙ sym (ap reply e) ∙ d), rw e)
+open-served words scratch r e = (λ d. done-none (openRefusal one words scratch) (sym (opened-replies one words scratch) ∙ sym (ap reply e) ∙ d), rw e)
   where
     reply : Opened → Reply
     reply o = o .reply

@@ -1,7 +1,7 @@
 -- `c_api::store_lay_out`. Assumes nothing.
 use mathlib.Core.Path.{_∙_, ap}
 use Rattle.log.specs.Opening.{numberOf}
-use Rattle.points.proofs.Replies.{number-back}
+use Rattle.log.proofs.Replies.{number-back}
 use borrow.Author.Needs.{needs}
 use Rattle.c_api.proofs.store_lay_out.Statement.{statement}
 use Rattle.c_api.proofs.store_lay_out.Tie as tie

@@ -1,0 +1,139 @@
+-- What is claimed of the small logs. A small log that opening accepts has legal entries, so it is among those tried; the order and the number
+-- are computed. Assumes nothing.
+use Prim.Native.Nat.{ℕ, zero, suc, _≤_, _<_}
+use native.Mathlib.Omega.{arith}
+use mathlib.Core.Path.{_≡_, refl, sym, ap, subst, _∙_}
+use mathlib.Core.Logic.{_⊎_, inl, inr}
+use mathlib.Core.Bool.{Bool, true, false, _&&_, not}
+use mathlib.Core.List.{List, [], _∷_, _++_, map, flatMap}
+use lib.ListN.{length, getD, replicate, length-replicate}
+use lib.Dec.{leb}
+use borrow.Author.Tests.{leb-true, not-false}
+use Rattle.words.specs.Edition.{one, blocksMax}
+use Rattle.words.specs.Logic.{isZero, all-of, some-of}
+use Rattle.words.specs.Memory.{memory, blockCount}
+use Rattle.log.specs.Chain.{log}
+use Rattle.log.specs.Entry.{legal}
+use Rattle.log.specs.Opening.{badEntry, openRefusal}
+use Rattle.words.proofs.Logic.{and-left, and-right, or-left, or-right}
+use Rattle.words.proofs.Tests.{zero-is, is-zero}
+use Rattle.log.proofs.Opening.{refusal-scratch, refusal-passed}
+use Rattle.small.specs.SmallLogs.{SmallEntry, SmallLog, Among, AllSmall, precedes}
+use Rattle.small.specs.SmallLogs.{imageWith, smallEntry, smallEntries, oneMore, tried, accepted, kept, smallLogs}
+use Rattle.small.specs.Computing.{computing}
+use Rattle.small.proofs.Among.{in-front, in-back, in-map, in-each, all-among, none-among, all-at}
+use Rattle.small.proofs.Kept.{kept-in, kept-of}
+use Rattle.small.proofs.Entries.{isSmall, small-is, legal-small}
+
+-- ---- opening's answer does not depend on the scratch
+
+accepted-is : (es scratch : List ℕ) → blocksMax ≤ length scratch → accepted es ≡ isZero (openRefusal one (imageWith es) scratch)
+unfolding accepted
+accepted-is es scratch long =
+    rw (refusal-scratch one (imageWith es) (replicate blocksMax 0) scratch (omega (arith, length-replicate {A = ℕ} blocksMax 0)) long)
+
+-- ---- each is small
+
+abbrev isSmallLog : List ℕ → Bool
+isSmallLog es = leb (length es) 2 && all-of isSmall es
+
+small-log : (es : List ℕ) → isSmallLog es ≡ true → SmallLog es
+small-log es h = record {
+  short = leb-true (length es) 2 (and-left (leb (length es) 2) (all-of isSmall es) h);
+  kind = λ w i. small-is w (all-among isSmall w es (and-right (leb (length es) 2) (all-of isSmall es) h) i);
+}
+
+tried-small : all-of isSmallLog tried ≡ true
+unfolding computing
+tried-small = refl
+
+-- ---- a small log that opening accepts is tried
+
+-- an image of 4 blocks with this log, where opening accepts it: the entries are legal
+legal-in :
+    (es scratch : List ℕ) → blockCount one (imageWith es) ≡ 4 → log (memory one (imageWith es)) ≡ es → openRefusal one (imageWith es) scratch ≡ 0
+    → (w : ℕ) → Among w es → legal one 4 w ≡ true
+unfolding badEntry
+legal-in es scratch n l h w i =
+    let all : badEntry one 4 es ≡ false =
+        subst (λ b. badEntry one b es ≡ false) n
+        (subst (λ ws. badEntry one (blockCount one (imageWith es)) ws ≡ false) l (refusal-passed one (imageWith es) scratch h .1)) in
+    not-false (legal one 4 w) (none-among (λ x. not (legal one 4 x)) w es all i)
+
+-- the log of the image is the list, since no word of the kind is empty
+filled : SmallEntry 0 → ⊥
+unfolding computing
+filled s = let e : _≡_ {A = ℕ} 0 512 = s .used in omega (arith, e)
+
+four-one : (a : ℕ) → blockCount one (imageWith (a ∷ [])) ≡ 4
+unfolding computing
+four-one a = refl
+
+four-two : (a b : ℕ) → blockCount one (imageWith (a ∷ b ∷ [])) ≡ 4
+unfolding computing
+four-two a b = refl
+
+log-one : (a : ℕ) → log (memory one (imageWith (suc a ∷ []))) ≡ suc a ∷ []
+unfolding computing
+log-one a = refl
+
+log-two : (a b : ℕ) → log (memory one (imageWith (suc a ∷ suc b ∷ []))) ≡ suc a ∷ suc b ∷ []
+unfolding computing
+log-two a b = refl
+
+-- one entry more
+in-more : (es : List ℕ) (w : ℕ) → Among w smallEntries → Among (es ++ w ∷ []) (oneMore es)
+in-more es w h = in-map (λ (e : ℕ). es ++ e ∷ []) w smallEntries h
+
+in-tried : (es scratch : List ℕ) → SmallLog es → openRefusal one (imageWith es) scratch ≡ 0 → Among es tried
+unfolding tried
+in-tried [] scratch s h = inl refl
+in-tried (zero ∷ []) scratch s h = absurd (filled (s .kind 0 (inl refl)))
+in-tried (suc a ∷ []) scratch s h =
+    let legal-is = legal-in (suc a ∷ []) scratch (four-one (suc a)) (log-one a) h in
+    inr (in-front (suc a ∷ []) (oneMore []) (flatMap oneMore (oneMore []))
+    (in-more [] (suc a) (legal-small (suc a) (s .kind (suc a) (inl refl)) (legal-is (suc a) (inl refl)))))
+in-tried (zero ∷ b ∷ []) scratch s h = absurd (filled (s .kind 0 (inl refl)))
+in-tried (suc a ∷ zero ∷ []) scratch s h = absurd (filled (s .kind 0 (inr (inl refl))))
+in-tried (suc a ∷ suc b ∷ []) scratch s h =
+    let legal-is = legal-in (suc a ∷ suc b ∷ []) scratch (four-two (suc a) (suc b)) (log-two a b) h in
+    let first = legal-small (suc a) (s .kind (suc a) (inl refl)) (legal-is (suc a) (inl refl)) in
+    let second = legal-small (suc b) (s .kind (suc b) (inr (inl refl))) (legal-is (suc b) (inr (inl refl))) in
+    inr (in-back (suc a ∷ suc b ∷ []) (oneMore []) (flatMap oneMore (oneMore []))
+    (in-each oneMore (suc a ∷ []) (oneMore []) (suc a ∷ suc b ∷ []) (in-more [] (suc a) first) (in-more (suc a ∷ []) (suc b) second)))
+in-tried (a ∷ b ∷ d ∷ es) scratch s h = absurd (omega (arith, s .short))
+
+-- ---- the order
+
+-- each comes before all that follow
+abbrev sorted : List (List ℕ) → Bool
+sorted [] = true
+sorted (l ∷ logs) = all-of (precedes l) logs && sorted logs
+
+sorted-at : (logs : List (List ℕ)) → sorted logs ≡ true → (i j : ℕ) → i < j → j < length logs → precedes (getD logs i []) (getD logs j []) ≡ true
+sorted-at [] t i j h l = absurd (omega arith)
+sorted-at (x ∷ logs) t i zero h l = absurd (omega arith)
+sorted-at (x ∷ logs) t zero (suc j) h l = all-at (precedes x) logs j [] (and-left (all-of (precedes x) logs) (sorted logs) t) (omega arith)
+sorted-at (x ∷ logs) t (suc i) (suc j) h l = sorted-at logs (and-right (all-of (precedes x) logs) (sorted logs) t) i j (omega arith) (omega arith)
+
+in-order : sorted smallLogs ≡ true
+unfolding computing
+in-order = refl
+
+-- ---- the claim
+
+number : length smallLogs ≡ 33
+unfolding computing
+number = refl
+
+pub all-small : AllSmall smallLogs
+unfolding smallLogs
+all-small = record {
+  small = λ es h. small-log es (all-among isSmallLog es tried tried-small (kept-of es tried h .0));
+  exact = λ es s scratch long. (
+    λ h. zero-is (openRefusal one (imageWith es) scratch) (sym (accepted-is es scratch long) ∙ kept-of es tried h .1),
+    λ e. kept-in es tried (in-tried es scratch s e) (accepted-is es scratch long ∙ is-zero (openRefusal one (imageWith es) scratch) e),
+  );
+  ascending = sorted-at smallLogs in-order;
+  count = number;
+}

@@ -1,0 +1,38 @@
+-- What is kept of a list of logs: those that opening accepts. Assumes nothing.
+use Prim.Native.Nat.{ℕ}
+use mathlib.Core.Path.{_≡_, refl, sym, ap, subst, _∙_}
+use mathlib.Core.Logic.{_⊎_, inl, inr}
+use mathlib.Core.Bool.{Bool, true, false}
+use mathlib.Core.List.{List, [], _∷_}
+use Rattle.small.specs.SmallLogs.{Among, accepted, kept}
+
+pub kept-yes : (es : List ℕ) (logs : List (List ℕ)) → accepted es ≡ true → kept (es ∷ logs) ≡ es ∷ kept logs
+unfolding kept
+kept-yes es logs a = rw (kept, a)
+
+pub kept-no : (es : List ℕ) (logs : List (List ℕ)) → accepted es ≡ false → kept (es ∷ logs) ≡ kept logs
+unfolding kept
+kept-no es logs a = rw (kept, a)
+
+pub kept-in : (es : List ℕ) (logs : List (List ℕ)) → Among es logs → accepted es ≡ true → Among es (kept logs)
+kept-in es [] h a = absurd h
+kept-in es (l ∷ logs) (inl h) a = subst (Among es) (sym (kept-yes l logs (ap accepted h ∙ a))) (inl h)
+kept-in es (l ∷ logs) (inr h) a = go (accepted l) refl (kept-in es logs h a)
+  where
+    go : (t : Bool) → accepted l ≡ t → Among es (kept logs) → Among es (kept (l ∷ logs))
+    go true e later = subst (Among es) (sym (kept-yes l logs e)) (inr later)
+    go false e later = subst (Among es) (sym (kept-no l logs e)) later
+
+pub kept-of : (es : List ℕ) (logs : List (List ℕ)) → Among es (kept logs) → Among es logs × (accepted es ≡ true)
+unfolding kept
+kept-of es [] h = absurd h
+kept-of es (l ∷ logs) h = go (accepted l) refl (kept-of es logs)
+  where
+    here : accepted l ≡ true → (Among es (kept logs) → Among es logs × (accepted es ≡ true)) → (l ≡ es) ⊎ Among es (kept logs)
+        → Among es (l ∷ logs) × (accepted es ≡ true)
+    here e later (inl x) = (inl x, sym (ap accepted x) ∙ e)
+    here e later (inr x) = let y = later x in (inr (y .0), y .1)
+
+    go : (t : Bool) → accepted l ≡ t → (Among es (kept logs) → Among es logs × (accepted es ≡ true)) → Among es (l ∷ logs) × (accepted es ≡ true)
+    go true e later = here e later (subst (Among es) (kept-yes l logs e) h)
+    go false e later = let y = later (subst (Among es) (kept-no l logs e) h) in (inr (y .0), y .1)

@@ -1,0 +1,3 @@
+pub mod SmallLogs
+pub mod Parts
+pub mod Computing

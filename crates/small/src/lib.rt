@@ -1,0 +1,112 @@
+// Every small log (document 02, K9): all logs of at most two entries of one kind that opening accepts. The definitions are in specs/.
+ghost use mathlib.Core.Path.{_≡_};
+ghost use mathlib.Core.List.{[], _∷_, _++_, flatMap};
+ghost use Prim.Native.Nat.{_<_};
+ghost use Rattle.small.specs.SmallLogs.{imageWith, AllSmall, smallEntry, oneMore, accepted, smallLogs, Fills};
+ghost use Rattle.small.specs.Parts.{logOf, Room, Keeps};
+use log::Reply;
+
+// How many entries of that kind there are that keep the entry's rules in 4 blocks.
+const ENTRIES: u64 = 8;
+
+// The claim: a small log is among `smallLogs` exactly when opening accepts the image with its entries; they are in order, each once, and 33.
+pub fn all_small()
+    ensures { λ _. ⌜ AllSmall smallLogs ⌝ }
+{}
+
+// Small entry k, ascending: 0 to 5 of one block, 6 and 7 of two.
+fn entry(k: u64) -> u64
+    requires { ⌜ k < 8 ⌝ }
+    ensures { λ r. ⌜ r ≡ smallEntry k ⌝ }
+{
+    if k < 6 {
+        return log::pack::entry((k % 2) as u16, (k / 2 + 1) as u16, 1, 512, 0);
+    }
+    log::pack::entry(0, (k - 5) as u16, 2, 512, 0)
+}
+
+// The laid-out image of 4 blocks with these two words in its log's first slots.
+fn image_with(first: u64, second: u64) -> [u64; 256]
+    ensures { λ r. ⌜ r ≡ imageWith (first ∷ second ∷ []) ⌝ }
+{
+    let mut image = [0u64; 256];
+    log::layout::lay_out(&mut image);
+    image[66] = first;
+    image[67] = second;
+    image
+}
+
+// Whether opening accepts that image.
+fn accepts(first: u64, second: u64) -> bool
+    ensures { λ r. ⌜ r ≡ accepted (first ∷ second ∷ []) ⌝ }
+{
+    let image = image_with(first, second);
+    let mut scratch = [0u16; 1024];
+    let opened = log::open::open(&image, &mut scratch);
+    let reply = opened.reply;
+    match reply {
+        Reply::Done => true,
+        Reply::Refused(_) => false,
+    }
+}
+
+// A log goes into the slice behind the `count` logs there, if there is room and opening accepts it; how many there are then.
+fn keep(out: &mut [u64], count: usize, first: u64, second: u64) -> usize
+    requires { ⌜ Room (now out) count ⌝ }
+    ensures { λ r. ⌜ Keeps ((first ∷ second ∷ []) ∷ []) (now (out .entry)) count (now (out .exit)) r ⌝ }
+{
+    let at = 2 * count;
+    if out.len() - at < 2 {
+        return count;
+    }
+    if !accepts(first, second) {
+        return count;
+    }
+    out[at] = first;
+    out[at + 1] = second;
+    count + 1
+}
+
+// The same of the log that has one entry more than the log of `first` alone, 0 for the empty log.
+fn keep_longer(out: &mut [u64], count: usize, first: u64, e: u64) -> usize
+    requires { ⌜ Room (now out) count ⌝ }
+    ensures { λ r. ⌜ Keeps ((logOf first ++ e ∷ []) ∷ []) (now (out .entry)) count (now (out .exit)) r ⌝ }
+{
+    if first == 0 {
+        return keep(out, count, e, 0);
+    }
+    keep(out, count, first, e)
+}
+
+// The same of all logs that have one small entry more than that.
+fn keep_each(out: &mut [u64], count: usize, first: u64) -> usize
+    requires { ⌜ Room (now out) count ⌝ }
+    ensures { λ r. ⌜ Keeps (oneMore (logOf first)) (now (out .entry)) count (now (out .exit)) r ⌝ }
+{
+    let mut n = count;
+    for k in 0..ENTRIES {
+        n = keep_longer(out, n, first, entry(k));
+    }
+    n
+}
+
+// The same of all logs of two small entries.
+fn keep_pairs(out: &mut [u64], count: usize) -> usize
+    requires { ⌜ Room (now out) count ⌝ }
+    ensures { λ r. ⌜ Keeps (flatMap oneMore (oneMore [])) (now (out .entry)) count (now (out .exit)) r ⌝ }
+{
+    let mut n = count;
+    for k in 0..ENTRIES {
+        n = keep_each(out, n, entry(k));
+    }
+    n
+}
+
+// All small logs go into the slice, as many as there is room for, two words each; how many.
+pub fn every_log(out: &mut [u64]) -> usize
+    ensures { λ r. ⌜ Fills smallLogs (now (out .entry)) (now (out .exit)) r ⌝ }
+{
+    let none = keep(out, 0, 0, 0);
+    let ones = keep_each(out, none, 0);
+    keep_pairs(out, ones)
+}
