@@ -1,36 +1,29 @@
 -- What is claimed of the small logs. A small log that opening accepts has legal entries, so it is among those tried; the order and the number
 -- are computed. Assumes nothing.
-use Prim.Native.Nat.{ℕ, zero, suc, _≤_, _<_}
+use Prim.Native.Nat.{ℕ, zero, suc, _<_}
 use native.Mathlib.Omega.{arith}
-use mathlib.Core.Path.{_≡_, refl, sym, ap, subst, _∙_}
-use mathlib.Core.Logic.{_⊎_, inl, inr}
+use mathlib.Core.Path.{_≡_, refl, sym, subst, _∙_}
+use mathlib.Core.Logic.{inl, inr}
 use mathlib.Core.Bool.{Bool, true, false, _&&_, not}
-use mathlib.Core.List.{List, [], _∷_, _++_, map, flatMap}
-use lib.ListN.{length, getD, replicate, length-replicate}
+use mathlib.Core.List.{List, [], _∷_, _++_, flatMap}
+use lib.ListN.{length, getD}
 use lib.Dec.{leb}
 use borrow.Author.Tests.{leb-true, not-false}
-use Rattle.words.specs.Edition.{one, blocksMax}
-use Rattle.words.specs.Logic.{isZero, all-of, some-of}
+use Rattle.words.specs.Edition.{one}
+use Rattle.words.specs.Logic.{all-of}
 use Rattle.words.specs.Memory.{memory, blockCount}
 use Rattle.log.specs.Chain.{log}
 use Rattle.log.specs.Entry.{legal}
 use Rattle.log.specs.Opening.{badEntry, openRefusal}
-use Rattle.words.proofs.Logic.{and-left, and-right, or-left, or-right}
+use Rattle.words.proofs.Logic.{and-left, and-right}
 use Rattle.words.proofs.Tests.{zero-is, is-zero}
-use Rattle.log.proofs.Opening.{refusal-scratch, refusal-passed}
+use Rattle.log.proofs.Opening.{refusal-passed}
 use Rattle.small.specs.SmallLogs.{SmallEntry, SmallLog, Among, AllSmall, precedes}
-use Rattle.small.specs.SmallLogs.{imageWith, smallEntry, smallEntries, oneMore, tried, accepted, kept, smallLogs}
+use Rattle.small.specs.SmallLogs.{imageWith, smallEntries, oneMore, tried, smallLogs}
 use Rattle.small.specs.Computing.{computing}
 use Rattle.small.proofs.Among.{in-front, in-back, in-map, in-each, all-among, none-among, all-at}
-use Rattle.small.proofs.Kept.{kept-in, kept-of}
+use Rattle.small.proofs.Kept.{accepted-is, kept-in, kept-of}
 use Rattle.small.proofs.Entries.{isSmall, small-is, legal-small}
-
--- ---- opening's answer does not depend on the scratch
-
-accepted-is : (es scratch : List ℕ) → blocksMax ≤ length scratch → accepted es ≡ isZero (openRefusal one (imageWith es) scratch)
-unfolding accepted
-accepted-is es scratch long =
-    rw (refusal-scratch one (imageWith es) (replicate blocksMax 0) scratch (omega (arith, length-replicate {A = ℕ} blocksMax 0)) long)
 
 -- ---- each is small
 
@@ -56,8 +49,8 @@ legal-in :
 unfolding badEntry
 legal-in es scratch n l h w i =
     let all : badEntry one 4 es ≡ false =
-        subst (λ b. badEntry one b es ≡ false) n
-        (subst (λ ws. badEntry one (blockCount one (imageWith es)) ws ≡ false) l (refusal-passed one (imageWith es) scratch h .1)) in
+    subst (λ b. badEntry one b es ≡ false) n
+    (subst (λ ws. badEntry one (blockCount one (imageWith es)) ws ≡ false) l (refusal-passed one (imageWith es) scratch h .1)) in
     not-false (legal one 4 w) (none-among (λ x. not (legal one 4 x)) w es all i)
 
 -- the log of the image is the list, since no word of the kind is empty

@@ -3,19 +3,18 @@ use Prim.Native.Nat.{ℕ, _+_, _*_, _-_, _/_, _%_, _^_, _≤_, _<_}
 use native.Mathlib.Omega.{arith}
 use native.Mathlib.Decide.{decLt}
 use mathlib.Core.Path.{_≡_, sym, ap, _∙_}
-use mathlib.Core.Bool.{Bool, true, _&&_}
+use mathlib.Core.Bool.{Bool, true}
 use mathlib.Core.List.{[], _∷_}
 use lib.Dec.{leb, ltb, eqb}
 use lib.Pow.{shr-mod}
 use borrow.Author.Tests.{ltb-true, leb-true, eqb-true, le-leb, lt-ltb, le-ltb}
 use Rattle.words.specs.Edition.{one}
-use Rattle.words.specs.Logic.{all-of, every}
+use Rattle.words.specs.Logic.{every}
 use Rattle.log.specs.Entry.{entryV, entryB, entryN, entryU, entryPoint, entryRest, entryOf, covers, legal}
 use Rattle.words.proofs.Logic.{and-right, and-both, every-all}
 use Rattle.log.proofs.Entry.{Valid, legal-valid}
 use Rattle.small.specs.SmallLogs.{SmallEntry, Among, smallEntry, smallEntries}
-use Rattle.small.specs.Computing.{computing}
-use Rattle.small.proofs.Among.{in-list, all-among}
+use Rattle.small.proofs.Among.{in-list}
 
 -- a word is its fields
 sum :

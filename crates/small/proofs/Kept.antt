@@ -1,11 +1,26 @@
--- What is kept of a list of logs: those that opening accepts. Assumes nothing.
-use Prim.Native.Nat.{ℕ}
+-- What opening accepts, and what is kept of a list of logs: those that it accepts. Assumes nothing.
+use Prim.Native.Nat.{ℕ, _≤_}
+use native.Mathlib.Omega.{arith}
 use mathlib.Core.Path.{_≡_, refl, sym, ap, subst, _∙_}
 use mathlib.Core.Logic.{_⊎_, inl, inr}
 use mathlib.Core.Bool.{Bool, true, false}
 use mathlib.Core.List.{List, [], _∷_}
-use Rattle.small.specs.SmallLogs.{Among, accepted, kept}
+use lib.ListN.{length, replicate, length-replicate}
+use Rattle.words.specs.Edition.{one, blocksMax}
+use Rattle.words.specs.Logic.{isZero}
+use Rattle.log.specs.Opening.{openRefusal}
+use Rattle.log.proofs.Opening.{refusal-scratch}
+use Rattle.small.specs.SmallLogs.{Among, imageWith, accepted, kept}
 
+-- opening with a scratch that is long enough; any other such gives the same
+pub enough : blocksMax ≤ length (replicate {A = ℕ} blocksMax 0)
+enough = omega (arith, length-replicate {A = ℕ} blocksMax 0)
+
+pub accepted-is : (es scratch : List ℕ) → blocksMax ≤ length scratch → accepted es ≡ isZero (openRefusal one (imageWith es) scratch)
+unfolding accepted
+accepted-is es scratch long = rw (refusal-scratch one (imageWith es) (replicate blocksMax 0) scratch enough long)
+
+-- what is kept
 pub kept-yes : (es : List ℕ) (logs : List (List ℕ)) → accepted es ≡ true → kept (es ∷ logs) ≡ es ∷ kept logs
 unfolding kept
 kept-yes es logs a = rw (kept, a)

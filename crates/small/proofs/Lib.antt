@@ -4,5 +4,6 @@ pub mod Among
 pub mod Entries
 pub mod Kept
 pub mod Claim
+pub mod Only
 pub mod Image
 pub mod Slice

@@ -1,17 +1,16 @@
 -- What the functions leave in the slice: a log after the other, and all of them at once. Assumes nothing.
 use Prim.Native.Nat.{ℕ, zero, suc, _+_, _*_, _-_, _/_, _≤_, _<_}
 use native.Mathlib.Omega.{arith}
-use mathlib.Core.Path.{_≡_, refl, sym, ap, subst, _∙_}
+use mathlib.Core.Path.{_≡_, refl, sym, ap, _∙_}
 use mathlib.Core.Logic.{_≢_}
 use mathlib.Core.Bool.{Bool, true, false}
 use mathlib.Core.List.{List, [], _∷_, _++_, flatMap, append-assoc}
-use lib.ListN.{length, getD, take, drop, set, replicate, length-append, length-set}
+use lib.ListN.{length, getD, take, drop, set, length-append, length-set}
 use lib.Dec.{ltb}
 use borrow.Author.Tests.{lt-ltb, le-ltb}
-use Rattle.words.specs.Edition.{one, blocksMax}
-use Rattle.words.specs.Logic.{isZero, listFrom, upToZero}
-use Rattle.log.specs.Opening.{openRefusal}
-use Rattle.small.specs.SmallLogs.{imageWith, smallEntry, smallEntries, oneMore, tried, accepted, kept, smallLogs, slots, Fills}
+use Rattle.words.specs.Edition.{one}
+use Rattle.words.specs.Logic.{listFrom}
+use Rattle.small.specs.SmallLogs.{smallEntry, oneMore, tried, accepted, kept, smallLogs, slots, Fills}
 use Rattle.small.specs.Parts.{Filled, logOf, Room, keep, keepAll, Keeps}
 use Rattle.small.specs.Computing.{computing}
 use Rattle.small.proofs.Image.{accepted-none, accepted-one}
@@ -49,9 +48,10 @@ pub keeps-one : (words : List ℕ) (n a b : ℕ) → 2 * n + 1 < length words �
     → Keeps ((a ∷ b ∷ []) ∷ []) words n (set (set words (2 * n) a) (2 * n + 1) b) (n + 1)
 unfolding keepAll
 keeps-one words n a b h t =
-    let e : suc n ≡ n + 1 = omega arith in
-    (sym (keep-done words n (a ∷ b ∷ []) h t ∙ ap (at _) e),
-    omega (arith, length-set (set words (2 * n) a) (2 * n + 1) b, length-set words (2 * n) a))
+    let e : suc n ≡ n + 1 = omega arith in (
+      sym (keep-done words n (a ∷ b ∷ []) h t ∙ ap (at _) e),
+      omega (arith, length-set (set words (2 * n) a) (2 * n + 1) b, length-set words (2 * n) a),
+    )
 
 -- an entry that is not there is an empty slot
 keep-none : (f : Filled) → keep f (0 ∷ 0 ∷ []) ≡ keep f []
@@ -186,7 +186,7 @@ pours (es ∷ logs) front n (x ∷ y ∷ back) e = go (accepted es) refl (pours 
         → keepAll (keep (at (front ++ x ∷ y ∷ back) n) es) logs ≡ poured front n (x ∷ y ∷ back) (kept (es ∷ logs))
     go true a without more =
         let done : keep (at (front ++ x ∷ y ∷ back) n) es ≡ at ((front ++ slots es) ++ back) (suc n) =
-            keep-done (front ++ x ∷ y ∷ back) n es (omega (arith, length-append front (x ∷ y ∷ back), e)) a ∙ ap (λ l. at l (suc n)) two-set in
+        keep-done (front ++ x ∷ y ∷ back) n es (omega (arith, length-append front (x ∷ y ∷ back), e)) a ∙ ap (λ l. at l (suc n)) two-set in
         ap (λ f. keepAll f logs) done ∙ more ∙ poured-more front n es x y back (kept logs) ∙ ap (poured front n (x ∷ y ∷ back)) (sym (kept-yes es logs a))
     go false a without more =
         ap (λ f. keepAll f logs) (keep-refused (front ++ x ∷ y ∷ back) n es a) ∙ without ∙ ap (poured front n (x ∷ y ∷ back)) (sym (kept-no es logs a))
@@ -198,7 +198,7 @@ pub all-filled :
 unfolding tried smallLogs keepAll
 all-filled before none ones after n m r a b c =
     let all : at after r ≡ keepAll (at before 0) tried =
-        c .0 ∙ ap (λ f. keepAll f (flatMap oneMore (oneMore []))) (b .0 ∙ ap (λ f. keepAll f (oneMore [])) (a .0 ∙ keep-none (at before 0)))
-        ∙ sym (all-append (keep (at before 0) []) (oneMore []) (flatMap oneMore (oneMore []))) in
+    c .0 ∙ ap (λ f. keepAll f (flatMap oneMore (oneMore []))) (b .0 ∙ ap (λ f. keepAll f (oneMore [])) (a .0 ∙ keep-none (at before 0)))
+    ∙ sym (all-append (keep (at before 0) []) (oneMore []) (flatMap oneMore (oneMore []))) in
     let e = all ∙ pours tried [] 0 before (omega arith) in
     (ap (λ (f : Filled). f .words) e, ap (λ (f : Filled). f .count) e ∙ omega arith)

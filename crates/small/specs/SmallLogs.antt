@@ -1,6 +1,6 @@
 -- Every small log (document 02, K9): "all legal logs for a laid-out 4-block image with all-zero data blocks, at most two plain entries, virtual
 -- blocks 0 and 1 only, used bytes 512, point 0". What is claimed of a list of logs, and the list.
-use Prim.Native.Nat.{ℕ, zero, suc, _+_, _*_, _-_, _/_, _%_, _^_, _≤_, _<_}
+use Prim.Native.Nat.{ℕ, _+_, _*_, _-_, _/_, _%_, _^_, _≤_, _<_}
 use mathlib.Core.Path.{_≡_}
 use mathlib.Core.Logic.{_↔_, _⊎_}
 use mathlib.Core.Bool.{Bool, true, false, _&&_, _||_}

@@ -1,7 +1,7 @@
 // Every small log (document 02, K9): all logs of at most two entries of one kind that opening accepts. The definitions are in specs/.
 ghost use mathlib.Core.Path.{_≡_};
-ghost use mathlib.Core.List.{[], _∷_, _++_, flatMap};
-ghost use Prim.Native.Nat.{_<_};
+ghost use mathlib.Core.List.{List, [], _∷_, _++_, flatMap};
+ghost use Prim.Native.Nat.{ℕ, _<_};
 ghost use Rattle.small.specs.SmallLogs.{imageWith, AllSmall, smallEntry, oneMore, accepted, smallLogs, Fills};
 ghost use Rattle.small.specs.Parts.{logOf, Room, Keeps};
 use log::Reply;
@@ -12,6 +12,11 @@ const ENTRIES: u64 = 8;
 // The claim: a small log is among `smallLogs` exactly when opening accepts the image with its entries; they are in order, each once, and 33.
 pub fn all_small()
     ensures { λ _. ⌜ AllSmall smallLogs ⌝ }
+{}
+
+// No other list has that: what `every_log` fills in is known without its definition.
+pub fn only_small()
+    ensures { λ _. ⌜ ((logs : List (List ℕ)) → AllSmall logs → logs ≡ smallLogs) ⌝ }
 {}
 
 // Small entry k, ascending: 0 to 5 of one block, 6 and 7 of two.

@@ -43,7 +43,7 @@ loop-again c =
       k .keep-longer .kept .0 ∙ l .inv .1,
       k .keep-longer .ensures .1,
       next-entry (longer es) (keepAll (at (a .out .now) (a .count)) (oneMore es)) (l .out) (l .n) (k .keep-longer .last .0) (k .keep-longer .result)
-      (l .k) (e .entry .result) (omega arith) (e .entry .ensures) (k .keep-longer .ensures) (l .inv .3),
+          (l .k) (e .entry .result) (omega arith) (e .entry .ensures) (k .keep-longer .ensures) (l .inv .3),
     )
 
 same-length : tie.Need-same-length Inv-loop μ-loop

@@ -43,7 +43,7 @@ loop-again c =
       k .keep-each .kept .0 ∙ l .inv .1,
       k .keep-each .ensures .1,
       next-entry (λ e. oneMore (logOf e)) (keepAll (at (a .out .now) (a .count)) (flatMap oneMore (oneMore []))) (l .out) (l .n) (k .keep-each .last .0)
-      (k .keep-each .result) (l .k) (e .entry .result) (omega arith) (e .entry .ensures) (k .keep-each .ensures) (l .inv .3),
+          (k .keep-each .result) (l .k) (e .entry .result) (omega arith) (e .entry .ensures) (k .keep-each .ensures) (l .inv .3),
     )
 
 same-length : tie.Need-same-length Inv-loop μ-loop
@@ -52,9 +52,11 @@ same-length c = c .before .loop .inv .1
 returns : tie.Need-returns Inv-loop μ-loop
 returns c =
     let l = c .before .loop in
-    let a = c .before .before .before .args in
-    (sym (no-entry-left (λ e. oneMore (logOf e)) (keepAll (at (a .out .now) (a .count)) (flatMap oneMore (oneMore []))) (l .out) (l .n) (l .k) (omega arith)
-    (l .inv .3)), l .inv .2)
+    let a = c .before .before .before .args in (
+      sym (no-entry-left (λ e. oneMore (logOf e)) (keepAll (at (a .out .now) (a .count)) (flatMap oneMore (oneMore []))) (l .out) (l .n) (l .k) (omega arith)
+          (l .inv .3)),
+      l .inv .2,
+    )
 
 pub keep-pairs-spec : {M : Type 1} → statement M
 keep-pairs-spec =
