@@ -38,6 +38,10 @@ def logged(blocks, slots):
     return words
 
 
+def image_bytes(words):
+    return struct.pack(f'<{len(words)}Q', *words)
+
+
 def p2():
     words = logged(4, {2: entry(0, 2, 2, 2, point=3)})
     put_bytes(words, 2 * 512 + 510, b'\x41\x42\x43\x44')
@@ -73,8 +77,8 @@ SAMPLES = {
 def main():
     if len(sys.argv) != 2 or sys.argv[1] not in SAMPLES:
         sys.exit(__doc__ + '\n' + '\n'.join(f'    {name:8} {text}' for name, (text, _) in SAMPLES.items()))
-    words = SAMPLES[sys.argv[1]][1]()
-    sys.stdout.buffer.write(struct.pack(f'<{len(words)}Q', *words))
+    sys.stdout.buffer.write(image_bytes(SAMPLES[sys.argv[1]][1]()))
 
 
-main()
+if __name__ == '__main__':
+    main()

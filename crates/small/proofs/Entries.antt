@@ -13,7 +13,8 @@ use Rattle.words.specs.Logic.{every}
 use Rattle.log.specs.Entry.{entryV, entryB, entryN, entryU, entryPoint, entryRest, entryOf, covers, legal}
 use Rattle.words.proofs.Logic.{and-right, and-both, every-all}
 use Rattle.log.proofs.Entry.{Valid, legal-valid}
-use Rattle.small.specs.SmallLogs.{SmallEntry, Among, smallEntry, smallEntries}
+use Rattle.small.specs.SmallLogs.{SmallEntry, Among}
+use Rattle.small.specs.Tried.{ofOneBlock, entryCount, smallEntry, smallEntries}
 use Rattle.small.proofs.Among.{in-list}
 
 -- a word is its fields
@@ -40,13 +41,13 @@ ends w n only =
     omega (arith, n, here)
 
 -- small entry k: of one block, then of two
-pub entry-one : (k : ℕ) → k < 6 → smallEntry k ≡ entryOf one (k % 2) (k / 2 + 1) 1 512 0
+pub entry-one : (k : ℕ) → k < ofOneBlock → smallEntry k ≡ entryOf one (k % 2) (k / 2 + 1) 1 512 0
 unfolding smallEntry
-entry-one k h = rw (smallEntry, lt-ltb k 6 h)
+entry-one k h = rw (smallEntry, lt-ltb k ofOneBlock h)
 
-pub entry-two : (k : ℕ) → 6 ≤ k → smallEntry k ≡ entryOf one 0 (k - 5) 2 512 0
+pub entry-two : (k : ℕ) → ofOneBlock ≤ k → smallEntry k ≡ entryOf one 0 (k + 1 - ofOneBlock) 2 512 0
 unfolding smallEntry
-entry-two k h = rw (smallEntry, le-ltb k 6 h)
+entry-two k h = rw (smallEntry, le-ltb k ofOneBlock h)
 
 -- by its block and its virtual block
 of-one : (v b : ℕ) → v < 2 → 1 ≤ b → b ≤ 3 → smallEntry (2 * (b - 1) + v) ≡ entryOf one v b 1 512 0
@@ -56,14 +57,14 @@ of-one v b hv low high =
     entry-one (2 * (b - 1) + v) (omega arith) ∙ (rw (m, d))
 
 of-two : (b : ℕ) → 1 ≤ b → smallEntry (b + 5) ≡ entryOf one 0 b 2 512 0
-of-two b low = let d : b + 5 - 5 ≡ b = omega arith in entry-two (b + 5) (omega arith) ∙ (rw d)
+of-two b low = let d : b + 5 + 1 - ofOneBlock ≡ b = omega arith in entry-two (b + 5) (omega arith) ∙ (rw d)
 
 module _ (w : ℕ) (s : SmallEntry w) (ok : legal one 4 w ≡ true) where
   valid : Valid one 4 w
   valid = legal-valid one 4 w ok
 
-  at : (k : ℕ) → k < 8 → w ≡ smallEntry k → Among w smallEntries
-  at k h e = rw e (in-list smallEntry 0 8 k (omega arith) h)
+  at : (k : ℕ) → k < entryCount → w ≡ smallEntry k → Among w smallEntries
+  at k h e = rw e (in-list smallEntry 0 entryCount k (omega arith) h)
 
   pub legal-small : Among w smallEntries
   legal-small = go (decLt (entryN w) 2)
@@ -84,7 +85,8 @@ module _ (w : ℕ) (s : SmallEntry w) (ok : legal one 4 w ≡ true) where
           let n : entryN w ≡ 2 = omega (arith, end) in
           let v : entryV w ≡ 0 = omega (arith, end) in
           at (entryB w + 5) (omega (arith, n, valid .inside))
-          (fields ∙ ap (λ n. entryOf one (entryV w) (entryB w) n 512 0) n ∙ ap (λ v. entryOf one v (entryB w) 2 512 0) v ∙ sym (of-two (entryB w) (valid .from)))
+          (fields ∙ ap (λ n. entryOf one (entryV w) (entryB w) n 512 0) n ∙ ap (λ v. entryOf one v (entryB w) 2 512 0) v
+          ∙ sym (of-two (entryB w) (valid .from)))
 
 -- the test of the kind, which computes
 abbrev pub isSmall : ℕ → Bool

@@ -12,7 +12,8 @@ use Rattle.log.specs.declared.Reply.the-variants.{Done, Refused}
 use Rattle.log.specs.Opening.{replyOf, numberOf, openRefusal, opened}
 use Rattle.words.proofs.Tests.{is-zero}
 use Rattle.log.proofs.Replies.{number-back, opened-replies}
-use Rattle.small.specs.SmallLogs.{blank, imageWith, accepted}
+use Rattle.small.specs.SmallLogs.{blank, imageWith}
+use Rattle.small.specs.Tried.{accepted}
 use Rattle.small.specs.Computing.{computing}
 
 -- two words set in the log's first slots

@@ -10,7 +10,8 @@ use Rattle.words.specs.Edition.{one, blocksMax}
 use Rattle.words.specs.Logic.{isZero}
 use Rattle.log.specs.Opening.{openRefusal}
 use Rattle.log.proofs.Opening.{refusal-scratch}
-use Rattle.small.specs.SmallLogs.{Among, imageWith, accepted, kept}
+use Rattle.small.specs.SmallLogs.{Among, imageWith}
+use Rattle.small.specs.Tried.{accepted, kept}
 
 -- opening with a scratch that is long enough; any other such gives the same
 pub enough : blocksMax ≤ length (replicate {A = ℕ} blocksMax 0)

@@ -10,7 +10,8 @@ use lib.Dec.{ltb}
 use borrow.Author.Tests.{lt-ltb, le-ltb}
 use Rattle.words.specs.Edition.{one}
 use Rattle.words.specs.Logic.{listFrom}
-use Rattle.small.specs.SmallLogs.{smallEntry, oneMore, tried, accepted, kept, smallLogs, slots, Fills}
+use Rattle.small.specs.SmallLogs.{twoSlots, Fills}
+use Rattle.small.specs.Tried.{entryCount, smallEntry, oneMore, tried, accepted, kept, smallLogs}
 use Rattle.small.specs.Parts.{Filled, logOf, Room, keep, keepAll, Keeps}
 use Rattle.small.specs.Computing.{computing}
 use Rattle.small.proofs.Image.{accepted-none, accepted-one}
@@ -82,7 +83,7 @@ all-append f (x ∷ xs) ys = all-append (keep f x) xs ys
 
 -- the logs that go in for the small entries from k on
 abbrev pub logsFrom : (ℕ → List (List ℕ)) → ℕ → List (List ℕ)
-logsFrom g k = flatMap g (listFrom k (8 - k) smallEntry)
+logsFrom g k = flatMap g (listFrom k (entryCount - k) smallEntry)
 
 -- one entry more, each in turn; and again one more of each
 abbrev pub longer : List ℕ → ℕ → List (List ℕ)
@@ -98,20 +99,20 @@ each-pair = refl
 
 module _ (g : ℕ → List (List ℕ)) (f : Filled) (words : List ℕ) (n : ℕ) where
   pub next-entry :
-      (after : List ℕ) (r k e : ℕ) → k < 8 → e ≡ smallEntry k → Keeps (g e) words n after r → f ≡ keepAll (at words n) (logsFrom g k)
+      (after : List ℕ) (r k e : ℕ) → k < entryCount → e ≡ smallEntry k → Keeps (g e) words n after r → f ≡ keepAll (at words n) (logsFrom g k)
       → f ≡ keepAll (at after r) (logsFrom g (k + 1))
   unfolding flatMap
   next-entry after r k e h is kept from =
-      let i : 8 - k ≡ suc (8 - (k + 1)) = omega arith in
+      let i : entryCount - k ≡ suc (entryCount - (k + 1)) = omega arith in
       let j : suc k ≡ k + 1 = omega arith in
       from ∙ ap (λ m. keepAll (at words n) (flatMap g (listFrom k m smallEntry))) i
-      ∙ all-append (at words n) (g (smallEntry k)) (flatMap g (listFrom (suc k) (8 - (k + 1)) smallEntry))
-      ∙ ap (λ x. keepAll x (flatMap g (listFrom (suc k) (8 - (k + 1)) smallEntry))) (sym (kept .0 ∙ ap (λ x. keepAll (at words n) (g x)) is))
-      ∙ ap (λ x. keepAll (at after r) (flatMap g (listFrom x (8 - (k + 1)) smallEntry))) j
+      ∙ all-append (at words n) (g (smallEntry k)) (flatMap g (listFrom (suc k) (entryCount - (k + 1)) smallEntry))
+      ∙ ap (λ x. keepAll x (flatMap g (listFrom (suc k) (entryCount - (k + 1)) smallEntry))) (sym (kept .0 ∙ ap (λ x. keepAll (at words n) (g x)) is))
+      ∙ ap (λ x. keepAll (at after r) (flatMap g (listFrom x (entryCount - (k + 1)) smallEntry))) j
 
-  pub no-entry-left : (k : ℕ) → 8 ≤ k → f ≡ keepAll (at words n) (logsFrom g k) → f ≡ at words n
+  pub no-entry-left : (k : ℕ) → entryCount ≤ k → f ≡ keepAll (at words n) (logsFrom g k) → f ≡ at words n
   unfolding flatMap keepAll
-  no-entry-left k h e = let z : 8 - k ≡ 0 = omega arith in e ∙ ap (λ m. keepAll (at words n) (flatMap g (listFrom k m smallEntry))) z
+  no-entry-left k h e = let z : entryCount - k ≡ 0 = omega arith in e ∙ ap (λ m. keepAll (at words n) (flatMap g (listFrom k m smallEntry))) z
 
 -- ---- all of them at once
 
@@ -133,7 +134,7 @@ set-two (z ∷ front) x y a b back (suc k) e = ap (λ (l : List ℕ). z ∷ l) (
 -- what goes in behind `front` where `back` is left
 module _ (front : List ℕ) (n : ℕ) where
   abbrev with-logs : List ℕ → List (List ℕ) → Filled
-  with-logs back shown = at (front ++ (flatMap slots shown ++ drop (2 * length shown) back)) (n + length shown)
+  with-logs back shown = at (front ++ (flatMap twoSlots shown ++ drop (2 * length shown) back)) (n + length shown)
 
   abbrev poured : List ℕ → List (List ℕ) → Filled
   poured back logs = with-logs back (take (length back / 2) logs)
@@ -150,18 +151,18 @@ take-none zero = refl
 take-none (suc m) = refl
 
 poured-more : (front : List ℕ) (n : ℕ) (es : List ℕ) (x y : ℕ) (back : List ℕ) (logs : List (List ℕ))
-    → poured (front ++ slots es) (suc n) back logs ≡ poured front n (x ∷ y ∷ back) (es ∷ logs)
+    → poured (front ++ twoSlots es) (suc n) back logs ≡ poured front n (x ∷ y ∷ back) (es ∷ logs)
 unfolding flatMap
 poured-more front n es x y back logs =
     let half : suc (length back / 2) ≡ suc (suc (length back)) / 2 = omega arith in
     go (take (length back / 2) logs) ∙ ap (λ m. with-logs front n (x ∷ y ∷ back) (take m (es ∷ logs))) half
   where
-    go : (shown : List (List ℕ)) → with-logs (front ++ slots es) (suc n) back shown ≡ with-logs front n (x ∷ y ∷ back) (es ∷ shown)
+    go : (shown : List (List ℕ)) → with-logs (front ++ twoSlots es) (suc n) back shown ≡ with-logs front n (x ∷ y ∷ back) (es ∷ shown)
     go shown =
         let two : suc (suc (2 * length shown)) ≡ 2 * suc (length shown) = omega arith in
         let next : suc n + length shown ≡ n + suc (length shown) = omega arith in
-        ap (λ (l : List ℕ). at l (suc n + length shown)) (append-assoc front (slots es) (flatMap slots shown ++ drop (2 * length shown) back)
-        ∙ ap (λ d. front ++ (slots es ++ (flatMap slots shown ++ drop d (x ∷ y ∷ back)))) two)
+        ap (λ (l : List ℕ). at l (suc n + length shown)) (append-assoc front (twoSlots es) (flatMap twoSlots shown ++ drop (2 * length shown) back)
+        ∙ ap (λ d. front ++ (twoSlots es ++ (flatMap twoSlots shown ++ drop d (x ∷ y ∷ back)))) two)
         ∙ ap (at _) next
 
 pours : (logs : List (List ℕ)) (front : List ℕ) (n : ℕ) (back : List ℕ) → length front ≡ 2 * n
@@ -173,19 +174,19 @@ pours (es ∷ logs) front n [] e =
 pours (es ∷ logs) front n (x ∷ []) e =
     none-fits (front ++ x ∷ []) n (es ∷ logs) (omega (arith, length-append front (x ∷ []), e)) ∙ sym (poured-none front n (x ∷ []) _ refl)
 pours (es ∷ logs) front n (x ∷ y ∷ back) e = go (accepted es) refl (pours logs front n (x ∷ y ∷ back) e)
-    (pours logs (front ++ slots es) (suc n) back (omega (arith, length-append front (slots es), e)))
+    (pours logs (front ++ twoSlots es) (suc n) back (omega (arith, length-append front (twoSlots es), e)))
   where
-    two-set : set (set (front ++ x ∷ y ∷ back) (2 * n) (getD es 0 0)) (2 * n + 1) (getD es 1 0) ≡ (front ++ slots es) ++ back
+    two-set : set (set (front ++ x ∷ y ∷ back) (2 * n) (getD es 0 0)) (2 * n + 1) (getD es 1 0) ≡ (front ++ twoSlots es) ++ back
     two-set =
         let s : 2 * n + 1 ≡ suc (2 * n) = omega arith in
         ap (λ k. set (set (front ++ x ∷ y ∷ back) (2 * n) (getD es 0 0)) k (getD es 1 0)) s
         ∙ set-two front x y (getD es 0 0) (getD es 1 0) back (2 * n) e
 
     go : (t : Bool) → accepted es ≡ t → keepAll (at (front ++ x ∷ y ∷ back) n) logs ≡ poured front n (x ∷ y ∷ back) (kept logs)
-        → keepAll (at ((front ++ slots es) ++ back) (suc n)) logs ≡ poured (front ++ slots es) (suc n) back (kept logs)
+        → keepAll (at ((front ++ twoSlots es) ++ back) (suc n)) logs ≡ poured (front ++ twoSlots es) (suc n) back (kept logs)
         → keepAll (keep (at (front ++ x ∷ y ∷ back) n) es) logs ≡ poured front n (x ∷ y ∷ back) (kept (es ∷ logs))
     go true a without more =
-        let done : keep (at (front ++ x ∷ y ∷ back) n) es ≡ at ((front ++ slots es) ++ back) (suc n) =
+        let done : keep (at (front ++ x ∷ y ∷ back) n) es ≡ at ((front ++ twoSlots es) ++ back) (suc n) =
         keep-done (front ++ x ∷ y ∷ back) n es (omega (arith, length-append front (x ∷ y ∷ back), e)) a ∙ ap (λ l. at l (suc n)) two-set in
         ap (λ f. keepAll f logs) done ∙ more ∙ poured-more front n es x y back (kept logs) ∙ ap (poured front n (x ∷ y ∷ back)) (sym (kept-yes es logs a))
     go false a without more =

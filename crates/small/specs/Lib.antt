@@ -1,3 +1,4 @@
 pub mod SmallLogs
+pub mod Tried
 pub mod Parts
 pub mod Computing

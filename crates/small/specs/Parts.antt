@@ -6,7 +6,7 @@ use mathlib.Core.List.{List, [], _∷_}
 use lib.ListN.{length, getD, set}
 use lib.Dec.{ltb}
 use Rattle.words.specs.Logic.{upToZero}
-use Rattle.small.specs.SmallLogs.{accepted}
+use Rattle.small.specs.Tried.{accepted}
 
 -- the log of this entry alone, 0 for the empty log
 abbrev pub logOf : ℕ → List ℕ

@@ -2,11 +2,14 @@
 ghost use mathlib.Core.Path.{_≡_};
 ghost use mathlib.Core.List.{List, [], _∷_, _++_, flatMap};
 ghost use Prim.Native.Nat.{ℕ, _<_};
-ghost use Rattle.small.specs.SmallLogs.{imageWith, AllSmall, smallEntry, oneMore, accepted, smallLogs, Fills};
+ghost use Rattle.small.specs.SmallLogs.{imageWith, AllSmall, Fills};
+ghost use Rattle.small.specs.Tried.{entryCount, smallEntry, oneMore, accepted, smallLogs};
 ghost use Rattle.small.specs.Parts.{logOf, Room, Keeps};
 use log::Reply;
 
-// How many entries of that kind there are that keep the entry's rules in 4 blocks.
+// How many entries of that kind keep the entry's rules in 4 blocks: of one block, and in all.
+const OF_ONE_BLOCK: u64 = 6;
+
 const ENTRIES: u64 = 8;
 
 // The claim: a small log is among `smallLogs` exactly when opening accepts the image with its entries; they are in order, each once, and 33.
@@ -19,15 +22,15 @@ pub fn only_small()
     ensures { λ _. ⌜ ((logs : List (List ℕ)) → AllSmall logs → logs ≡ smallLogs) ⌝ }
 {}
 
-// Small entry k, ascending: 0 to 5 of one block, 6 and 7 of two.
+// Small entry k, ascending: those of one block, then those of two.
 fn entry(k: u64) -> u64
-    requires { ⌜ k < 8 ⌝ }
+    requires { ⌜ k < entryCount ⌝ }
     ensures { λ r. ⌜ r ≡ smallEntry k ⌝ }
 {
-    if k < 6 {
+    if k < OF_ONE_BLOCK {
         return log::pack::entry((k % 2) as u16, (k / 2 + 1) as u16, 1, 512, 0);
     }
-    log::pack::entry(0, (k - 5) as u16, 2, 512, 0)
+    log::pack::entry(0, (k + 1 - OF_ONE_BLOCK) as u16, 2, 512, 0)
 }
 
 // The laid-out image of 4 blocks with these two words in its log's first slots.

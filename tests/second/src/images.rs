@@ -4,7 +4,8 @@ use crate::forge::{any_plan, damage, forge, plan_with};
 use crate::listing::MOST_BYTES;
 use crate::random::Random;
 
-fn bytes_of(image: &[u64]) -> Vec<u8> {
+/// The image's bytes, the words little-endian.
+pub fn bytes_of(image: &[u64]) -> Vec<u8> {
     image.iter().flat_map(|word| word.to_le_bytes()).collect()
 }
 

@@ -23,6 +23,8 @@ pub mod record;
 pub mod refusal;
 pub mod scripts;
 pub mod searches;
+pub mod small;
+pub mod smalls;
 pub mod step;
 pub mod tally;
 pub mod words;

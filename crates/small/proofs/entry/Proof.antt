@@ -20,6 +20,9 @@ entry-requires c κs = search needs
 returns : tie.Need-returns
 returns c = let a = c .before .before .args in c .entry .ensures ∙ sym (entry-one (a .k) (c .before .if1 .taken))
 
+add-entry-2 : tie.Need-add-entry-2
+add-entry-2 c = search needs
+
 sub-entry : tie.Need-sub-entry
 sub-entry c = search needs
 
@@ -41,6 +44,7 @@ entry-spec =
     cast-entry-2
     entry-requires
     returns
+    add-entry-2
     sub-entry
     cast-entry-3
     entry-requires-2

@@ -4,7 +4,7 @@ use native.Mathlib.Omega.{arith}
 use mathlib.Core.Path.{_≡_, refl, sym, ap, _∙_}
 use mathlib.Core.List.{[], flatMap}
 use lib.ListN.{length}
-use Rattle.small.specs.SmallLogs.{oneMore}
+use Rattle.small.specs.Tried.{entryCount, oneMore}
 use Rattle.small.specs.Parts.{logOf, Room, keepAll}
 use Rattle.small.proofs.Slice.{at, logsFrom, each-pair, next-entry, no-entry-left}
 use Rattle.small.proofs.keep_pairs.Statement.{statement}
@@ -12,11 +12,11 @@ use Rattle.small.proofs.keep_pairs.Tie as tie
 
 abbrev Inv-loop : tie.InvT-loop
 Inv-loop out₀ count n₀ k₀ out n k =
-    (k ≤ 8) × (length out ≡ length out₀) × Room out n
+    (k ≤ entryCount) × (length out ≡ length out₀) × Room out n
     × (keepAll (at out₀ count) (flatMap oneMore (oneMore [])) ≡ keepAll (at out n) (logsFrom (λ e. oneMore (logOf e)) k))
 
 abbrev μ-loop : tie.MeasureT-loop
-μ-loop out₀ count n₀ k₀ out n k = 8 - k
+μ-loop out₀ count n₀ k₀ out n k = entryCount - k
 
 loop-holds : tie.Need-loop-holds Inv-loop μ-loop
 loop-holds c = let a = c .before .args in (omega arith, refl, c .before .pre, ap (keepAll (at (a .out .now) (a .count))) each-pair)

@@ -1,5 +1,5 @@
 -- `small::only_small` meets its contract: proofs/Only.
-use Rattle.small.specs.SmallLogs.{smallLogs}
+use Rattle.small.specs.Tried.{smallLogs}
 use Rattle.small.proofs.Claim.{all-small}
 use Rattle.small.proofs.Only.{only-one}
 use Rattle.small.proofs.only_small.Statement.{statement}

@@ -3,7 +3,7 @@ use Prim.Native.Nat.{_-_, _≤_}
 use native.Mathlib.Omega.{arith}
 use mathlib.Core.Path.{_≡_, refl}
 use lib.ListN.{length, take, length-take}
-use Rattle.small.specs.SmallLogs.{smallLogs}
+use Rattle.small.specs.Tried.{smallLogs}
 use Rattle.smalllogs.proofs.main.Statement.{statement}
 use Rattle.smalllogs.proofs.main.Tie as tie
 

@@ -12,19 +12,24 @@ use second::bench::Bench;
 use second::listing::listing;
 use second::outside::ask;
 use second::random::Random;
+use second::small::{image_of, judge, line_of, smalllogs};
 use second::tally::Tally;
-use second::{images, scripts};
+use second::{images, scripts, smalls};
 
-const USAGE: &str = "compare [--session PATH] [--listing PATH] [--self] [--seed S] \
-                     [--scripts N] [--images N] [--jobs N] [--brief]";
+const USAGE: &str = "compare [--session PATH] [--listing PATH] [--smalllogs PATH] [--self] \
+                     [--seed S] [--scripts N] [--images N] [--jobs N] [--brief]";
 const SCRIPTS: usize = 2_640;
 const IMAGES: usize = 4_800;
+const SMALL_LOGS: usize = 300;
+/// The first stream of the small logs, past those of images and scripts.
+const SMALL_STREAM: u64 = 1 << 40;
 /// How long a script that differs may be made smaller.
 const SHRINKING: Duration = Duration::from_secs(30);
 
 struct Options {
     session: Option<String>,
     listing: Option<String>,
+    smalllogs: Option<String>,
     seed: u64,
     scripts: usize,
     images: usize,
@@ -41,6 +46,8 @@ struct Totals {
     images: usize,
     lines: usize,
     tally: Tally,
+    /// A difference in an image or a script was shown.
+    shown: bool,
 }
 
 fn main() -> ExitCode {
@@ -63,6 +70,7 @@ fn options() -> Option<Options> {
     let mut options = Options {
         session: None,
         listing: None,
+        smalllogs: None,
         seed: 1,
         scripts: SCRIPTS,
         images: IMAGES,
@@ -74,6 +82,7 @@ fn options() -> Option<Options> {
         match word.as_str() {
             "--session" => options.session = Some(words.next()?),
             "--listing" => options.listing = Some(words.next()?),
+            "--smalllogs" => options.smalllogs = Some(words.next()?),
             "--seed" => options.seed = words.next()?.parse().ok()?,
             "--scripts" => options.scripts = words.next()?.parse().ok()?,
             "--images" => options.images = words.next()?.parse().ok()?,
@@ -83,7 +92,8 @@ fn options() -> Option<Options> {
             _ => return None,
         }
     }
-    if options.session.is_none() && options.listing.is_none() {
+    let programs = [&options.session, &options.listing, &options.smalllogs];
+    if programs.iter().all(|program| program.is_none()) {
         return None;
     }
     Some(options)
@@ -95,27 +105,47 @@ fn with_itself(options: &mut Options) -> Option<()> {
     let beside = |name: &str| folder.join(name).to_str().map(str::to_string);
     options.session = Some(beside("second_session")?);
     options.listing = Some(beside("second_listing")?);
+    options.smalllogs = Some(beside("second_smalllogs")?);
     Some(())
 }
 
-/// Images and scripts in turn, shared out among the jobs.
+impl Options {
+    /// Random small logs ask both the program of K9 and the listing program.
+    fn small_logs(&self) -> usize {
+        if self.smalllogs.is_some() && self.listing.is_some() {
+            SMALL_LOGS
+        } else {
+            0
+        }
+    }
+}
+
+/// The program of K9, then small logs, then images and scripts in turn, shared out
+/// among the jobs.
 fn compare_all(options: &Options) -> Totals {
+    let smalls = options.small_logs();
     let images = if options.listing.is_some() { options.images } else { 0 };
     let scripts = if options.session.is_some() { options.scripts } else { 0 };
     let next = AtomicUsize::new(0);
-    let stop = AtomicBool::new(false);
     let totals = Mutex::new(Totals::default());
+    let (agreed, printed) = compare_smalllogs(options, &totals);
+    let stop = AtomicBool::new(!agreed && options.brief);
     let work = || loop {
         let index = next.fetch_add(1, Ordering::Relaxed);
-        if index >= images + scripts || stop.load(Ordering::Relaxed) {
+        if index >= smalls + images + scripts || stop.load(Ordering::Relaxed) {
             return;
         }
-        let script = index * scripts / (images + scripts);
-        let is_script = (index + 1) * scripts / (images + scripts) > script;
-        let agreed = if is_script {
-            compare_script(options, script, &totals)
+        let agreed = if index < smalls {
+            compare_small_log(options, index, &printed, &totals)
         } else {
-            compare_image(options, index - script, &totals)
+            let index = index - smalls;
+            let script = index * scripts / (images + scripts);
+            let is_script = (index + 1) * scripts / (images + scripts) > script;
+            if is_script {
+                compare_script(options, script, &totals)
+            } else {
+                compare_image(options, index - script, &totals)
+            }
         };
         if !agreed && options.brief {
             stop.store(true, Ordering::Relaxed);
@@ -129,16 +159,89 @@ fn compare_all(options: &Options) -> Totals {
     totals.into_inner().unwrap_or_default()
 }
 
-/// Counts one comparison; true the first time that one fails.
-fn count(totals: &Mutex<Totals>, agreed: bool, tally: &Tally) -> bool {
-    let Ok(mut totals) = totals.lock() else { return false };
+/// Counts one comparison.
+fn count(totals: &Mutex<Totals>, agreed: bool, tally: &Tally) {
+    let Ok(mut totals) = totals.lock() else { return };
     totals.tally.add(tally);
     if agreed {
         totals.passed += 1;
     } else {
         totals.failed += 1;
     }
-    !agreed && totals.failed == 1
+}
+
+/// Counts one image or script; true the first time that one fails.
+fn count_shown(totals: &Mutex<Totals>, agreed: bool, tally: &Tally) -> bool {
+    count(totals, agreed, tally);
+    let Ok(mut totals) = totals.lock() else { return false };
+    let is_first = !agreed && !totals.shown;
+    totals.shown |= is_first;
+    is_first
+}
+
+/// The program of K9, which reads nothing: with no input, and with some. Whether both
+/// agreed, and the lines that it printed.
+fn compare_smalllogs(options: &Options, totals: &Mutex<Totals>) -> (bool, Vec<String>) {
+    let Some(program) = options.smalllogs.as_deref() else { return (true, Vec::new()) };
+    let mut random = Random::stream(options.seed, SMALL_STREAM - 1);
+    let some: Vec<u8> = (0..random.between(1, 4_096)).map(|_| random.any() as u8).collect();
+    let (agreed, printed) = ask_smalllogs(program, "no input", &[], totals);
+    if !agreed && options.brief {
+        return (false, printed);
+    }
+    let (agreed_again, _) = ask_smalllogs(program, "some input", &some, totals);
+    (agreed && agreed_again, printed)
+}
+
+/// The program of K9 with one input.
+fn ask_smalllogs(
+    program: &str,
+    name: &str,
+    input: &[u8],
+    totals: &Mutex<Totals>,
+) -> (bool, Vec<String>) {
+    let expected = smalllogs().into_bytes();
+    let got = ask(program, input);
+    let agreed = got.as_ref().is_ok_and(|got| *got == expected);
+    count(totals, agreed, &Tally::default());
+    if !agreed {
+        println!("smalllogs with {name} differs");
+        print_difference(&expected, &got);
+    }
+    let mut printed = lines_of(&got.unwrap_or_default());
+    // What follows the last line feed is no line.
+    printed.pop();
+    (agreed, printed)
+}
+
+/// A random small log: printed by the program of K9 exactly when opening accepts it
+/// here, and its image is listed as here.
+fn compare_small_log(
+    options: &Options,
+    index: usize,
+    printed: &[String],
+    totals: &Mutex<Totals>,
+) -> bool {
+    let log = smalls::make(Random::stream(options.seed, SMALL_STREAM + index as u64));
+    let line = line_of(&log);
+    let is_legal = judge(&log).is_ok();
+    let is_printed = printed.contains(&line);
+    let input = images::bytes_of(&image_of(&log));
+    let expected = listing(&input).into_bytes();
+    let got = ask(options.listing.as_deref().unwrap_or_default(), &input);
+    let is_listed = got.as_ref().is_ok_and(|got| *got == expected);
+    let agreed = is_printed == is_legal && is_listed;
+    let mut tally = Tally::default();
+    for case in smalls::cases(&log) {
+        tally.count("small logs", case);
+    }
+    count(totals, agreed, &tally);
+    if !agreed {
+        println!("small log {index} differs: `{line}`");
+        println!("  here legal: {is_legal}, there printed: {is_printed}");
+        print_difference(&expected, &got);
+    }
+    agreed
 }
 
 fn compare_image(options: &Options, index: usize, totals: &Mutex<Totals>) -> bool {
@@ -154,7 +257,7 @@ fn compare_image(options: &Options, index: usize, totals: &Mutex<Totals>) -> boo
         totals.images += 1;
         totals.lines += expected.iter().filter(|&&byte| byte == b'\n').count();
     }
-    if count(totals, agreed, &tally) {
+    if count_shown(totals, agreed, &tally) {
         println!("image {index} differs");
         print_difference(&expected, &got);
         save(options, &format!("{}-{index}.image", options.seed), &input);
@@ -174,7 +277,7 @@ fn compare_script(options: &Options, index: usize, totals: &Mutex<Totals>) -> bo
         totals.scripts += 1;
         totals.lines += script.iter().filter(|&&byte| byte == b'\n').count();
     }
-    if count(totals, agreed, &bench.tally) {
+    if count_shown(totals, agreed, &bench.tally) {
         println!("script {index} differs ({})", scripts::KINDS[kind]);
         print_difference(&expected, &got);
         save(options, &format!("{}-{index}.script", options.seed), &script);
@@ -187,6 +290,11 @@ fn compare_script(options: &Options, index: usize, totals: &Mutex<Totals>) -> bo
     agreed
 }
 
+/// The parts between line feeds; the last one is empty where a line feed ends it.
+fn lines_of(bytes: &[u8]) -> Vec<String> {
+    bytes.split(|&b| b == b'\n').map(|l| String::from_utf8_lossy(l).into_owned()).collect()
+}
+
 /// The first line that is not the same.
 fn print_difference(expected: &[u8], got: &Result<Vec<u8>, String>) {
     let got = match got {
@@ -196,10 +304,7 @@ fn print_difference(expected: &[u8], got: &Result<Vec<u8>, String>) {
             return;
         }
     };
-    let lines = |bytes: &[u8]| -> Vec<String> {
-        bytes.split(|&b| b == b'\n').map(|l| String::from_utf8_lossy(l).into_owned()).collect()
-    };
-    let (here, there) = (lines(expected), lines(got));
+    let (here, there) = (lines_of(expected), lines_of(got));
     let count = here.len().max(there.len());
     let nothing = "(no line)".to_string();
     for i in 0..count {
@@ -261,13 +366,10 @@ fn report(options: &Options, totals: &Totals) -> bool {
         missing.extend(tally.missing());
     }
     if options.listing.is_some() {
-        let answers = listing_answers();
-        let counts: Vec<String> =
-            answers.iter().map(|a| format!("{a} {}", tally.of("listing", a))).collect();
-        println!("listing: {}", counts.join(", "));
-        missing.extend(
-            answers.iter().filter(|a| tally.of("listing", a) == 0).map(|a| format!("listing: {a}")),
-        );
+        missing.extend(print_counts(tally, "listing", &listing_answers()));
+    }
+    if options.small_logs() > 0 {
+        missing.extend(print_counts(tally, "small logs", &smalls::CASES.map(str::to_string)));
     }
     let calls: u64 = second::tally::TABLE.iter().map(|(call, _, _)| tally.total(call)).sum();
     println!(
@@ -282,6 +384,15 @@ fn report(options: &Options, totals: &Totals) -> bool {
         println!("never met: {name}");
     }
     missing.is_empty() || !whole
+}
+
+/// Prints how often each answer came up; those that never did.
+fn print_counts(tally: &Tally, call: &str, answers: &[String]) -> Vec<String> {
+    let counts: Vec<String> =
+        answers.iter().map(|a| format!("{a} {}", tally.of(call, a))).collect();
+    println!("{call}: {}", counts.join(", "));
+    let never_met = answers.iter().filter(|a| tally.of(call, a) == 0);
+    never_met.map(|a| format!("{call}: {a}")).collect()
 }
 
 /// What the listing program can say; 2 cannot be met.
