@@ -18,8 +18,7 @@ use Rattle.log.specs.Opening.{badEntry, openRefusal}
 use Rattle.words.proofs.Logic.{and-left, and-right}
 use Rattle.words.proofs.Tests.{zero-is, is-zero}
 use Rattle.log.proofs.Opening.{refusal-passed}
-use Rattle.small.specs.SmallLogs.{SmallEntry, SmallLog, Among, AllSmall, precedes}
-use Rattle.small.specs.SmallLogs.{imageWith}
+use Rattle.small.specs.SmallLogs.{SmallEntry, SmallLog, Among, imageWith, AllSmall, precedes}
 use Rattle.small.specs.Tried.{smallEntries, oneMore, tried, smallLogs}
 use Rattle.small.specs.Computing.{computing}
 use Rattle.small.proofs.Among.{in-front, in-back, in-map, in-each, all-among, none-among, all-at}

@@ -63,16 +63,15 @@ keep-one : (f : Filled) (e : ℕ) → keep f (e ∷ 0 ∷ []) ≡ keep f (e ∷ 
 unfolding keep
 keep-one f e = rw (keep, accepted-one e)
 
-module _ (words : List ℕ) (n : ℕ) (after : List ℕ) (r first e : ℕ) where
-  pub longer-empty : first ≡ 0 → Keeps ((e ∷ 0 ∷ []) ∷ []) words n after r → Keeps ((logOf first ++ e ∷ []) ∷ []) words n after r
+-- the entry alone, or behind the first
+module _ (words : List ℕ) (n : ℕ) (after : List ℕ) (r e : ℕ) where
+  pub longer-empty : (first : ℕ) → first ≡ 0 → Keeps ((e ∷ 0 ∷ []) ∷ []) words n after r → Keeps ((logOf first ++ e ∷ []) ∷ []) words n after r
   unfolding keepAll
-  longer-empty z k = rw z (k .0 ∙ keep-one (at words n) e, k .1)
+  longer-empty first z k = rw z (k .0 ∙ keep-one (at words n) e, k .1)
 
-pub longer-some :
-    (words : List ℕ) (n : ℕ) (after : List ℕ) (r first e : ℕ) → first ≢ 0 → Keeps ((first ∷ e ∷ []) ∷ []) words n after r
-    → Keeps ((logOf first ++ e ∷ []) ∷ []) words n after r
-longer-some words n after r zero e ne k = absurd (ne refl)
-longer-some words n after r (suc first) e ne k = k
+  pub longer-some : (first : ℕ) → first ≢ 0 → Keeps ((first ∷ e ∷ []) ∷ []) words n after r → Keeps ((logOf first ++ e ∷ []) ∷ []) words n after r
+  longer-some zero ne k = absurd (ne refl)
+  longer-some (suc first) ne k = k
 
 -- ---- one log after the other
 

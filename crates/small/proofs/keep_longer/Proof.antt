@@ -15,7 +15,7 @@ returns c =
     let k = c .before .before in
     let z = k .before .before in
     let a = z .before .before .args in
-    longer-empty (a .out .now) (a .count) (k .keep .last .0) (k .keep .result) (a .first) (a .e) (z .if1 .taken) (k .keep .ensures)
+    longer-empty (a .out .now) (a .count) (k .keep .last .0) (k .keep .result) (a .e) (a .first) (z .if1 .taken) (k .keep .ensures)
 
 keep-requires-2 : tie.Need-keep-requires-2
 keep-requires-2 c κs = search needs
@@ -28,7 +28,7 @@ returns-2 c =
     let k = c .before .before in
     let z = k .before .before in
     let a = z .before .before .args in
-    longer-some (a .out .now) (a .count) (k .keep2 .last .0) (k .keep2 .result) (a .first) (a .e) (z .if1 .left) (k .keep2 .ensures)
+    longer-some (a .out .now) (a .count) (k .keep2 .last .0) (k .keep2 .result) (a .e) (a .first) (z .if1 .left) (k .keep2 .ensures)
 
 pub keep-longer-spec : {M : Type 1} → statement M
 keep-longer-spec =
