@@ -39,6 +39,7 @@ def logged(blocks, slots):
 
 
 def image_bytes(words):
+    """The bytes of these words, the lowest of each first."""
     return struct.pack(f'<{len(words)}Q', *words)
 
 

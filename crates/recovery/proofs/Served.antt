@@ -7,9 +7,8 @@ use Rattle.words.specs.Edition.{one}
 use Rattle.words.specs.Memory.{after}
 use Rattle.log.specs.declared.Shared.{Shared}
 use Rattle.log.specs.declared.Reply.{Reply}
-use Rattle.log.specs.declared.Reply.the-variants.{Done}
 use Rattle.log.specs.declared.Opened.{Opened}
-use Rattle.log.specs.Opening.{openRefusal, opened, replyOf, numberOf}
+use Rattle.log.specs.Opening.{openRefusal, opened}
 use Rattle.points.specs.declared.Head.{Head}
 use Rattle.points.specs.declared.Point.{Point}
 use Rattle.points.specs.declared.Count.{Count}
@@ -21,7 +20,7 @@ use Rattle.points.specs.Calls.{joining, beginning, leaving}
 use Rattle.points.specs.Plan as plan
 use Rattle.points.specs.Stepping.{stepping}
 use Rattle.points.specs.Reading.{ReadLeaves, locateRefusal, locating}
-use Rattle.log.proofs.Replies.{number-back, opened-replies}
+use Rattle.log.proofs.Replies.{number-back, done-none, opened-replies}
 use Rattle.recovery.specs.World.{serve}
 use Rattle.recovery.specs.Claim.{Answered, NoFault}
 use Rattle.recovery.specs.Served.{OpenServed, JoinServed, BeginServed, StepServed, LeaveServed, ReadServed, LocateServed}
@@ -34,9 +33,6 @@ open-served words scratch r e = (λ d. done-none (openRefusal one words scratch)
   where
     reply : Opened → Reply
     reply o = o .reply
-
-    done-none : (n : ℕ) → replyOf n ≡ Done → n ≡ 0
-    done-none n d = sym (number-back n) ∙ ap numberOf d
 
 module _ (words : List ℕ) (s : Shared) where
   pub join-served : (n : ℕ) (r : Joined) → r ≡ joining one words s n → JoinServed one words s n r

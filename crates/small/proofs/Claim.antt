@@ -1,14 +1,14 @@
--- What is claimed of the small logs. A small log that opening accepts has legal entries, so it is among those tried; the order and the number
+-- What is claimed of the legal small logs. A small log that opening accepts has legal entries, so it is among those tried; the order and the number
 -- are computed. Assumes nothing.
-use Prim.Native.Nat.{ℕ, zero, suc, _<_}
+use Prim.Native.Nat.{ℕ, zero, suc}
 use native.Mathlib.Omega.{arith}
 use mathlib.Core.Path.{_≡_, refl, sym, subst, _∙_}
 use mathlib.Core.Logic.{inl, inr}
-use mathlib.Core.Bool.{Bool, true, false, _&&_, not}
+use mathlib.Core.Bool.{Bool, true, false, _&&_}
 use mathlib.Core.List.{List, [], _∷_, _++_, flatMap}
-use lib.ListN.{length, getD}
+use lib.ListN.{length}
 use lib.Dec.{leb}
-use borrow.Author.Tests.{leb-true, not-false}
+use borrow.Author.Tests.{leb-true}
 use Rattle.words.specs.Edition.{one}
 use Rattle.words.specs.Logic.{all-of}
 use Rattle.words.specs.Memory.{memory, blockCount}
@@ -17,12 +17,13 @@ use Rattle.log.specs.Entry.{legal}
 use Rattle.log.specs.Opening.{badEntry, openRefusal}
 use Rattle.words.proofs.Logic.{and-left, and-right}
 use Rattle.words.proofs.Tests.{zero-is, is-zero}
+use Rattle.log.proofs.Reasons.{entries-legal}
 use Rattle.log.proofs.Opening.{refusal-passed}
-use Rattle.small.specs.SmallLogs.{SmallEntry, SmallLog, Among, imageWith, AllSmall, precedes}
-use Rattle.small.specs.Tried.{smallEntries, oneMore, tried, smallLogs}
+use Rattle.small.specs.SmallLogs.{SmallEntry, SmallLog, Among, imageWith, precedes, Ascending, AllLegal}
+use Rattle.small.specs.Tried.{legalEntries, oneMore, tried, legalLogs}
 use Rattle.small.specs.Computing.{computing}
-use Rattle.small.proofs.Among.{in-front, in-back, in-map, in-each, all-among, none-among, all-at}
-use Rattle.small.proofs.Kept.{accepted-is, kept-in, kept-of}
+use Rattle.small.proofs.Among.{in-front, in-back, in-map, in-each, all-among, all-at}
+use Rattle.small.proofs.Kept.{accepts-is, kept-in, kept-of}
 use Rattle.small.proofs.Entries.{isSmall, small-is, legal-small}
 
 -- ---- each is small
@@ -46,17 +47,16 @@ tried-small = refl
 legal-in :
     (es scratch : List ℕ) → blockCount one (imageWith es) ≡ 4 → log (memory one (imageWith es)) ≡ es → openRefusal one (imageWith es) scratch ≡ 0
     → (w : ℕ) → Among w es → legal one 4 w ≡ true
-unfolding badEntry
 legal-in es scratch n l h w i =
-    let all : badEntry one 4 es ≡ false =
+    let none : badEntry one 4 es ≡ false =
     subst (λ b. badEntry one b es ≡ false) n
     (subst (λ ws. badEntry one (blockCount one (imageWith es)) ws ≡ false) l (refusal-passed one (imageWith es) scratch h .1)) in
-    not-false (legal one 4 w) (none-among (λ x. not (legal one 4 x)) w es all i)
+    all-among (legal one 4) w es (entries-legal one 4 es none) i
 
 -- the log of the image is the list, since no word of the kind is empty
-filled : SmallEntry 0 → ⊥
+not-empty : SmallEntry 0 → ⊥
 unfolding computing
-filled s = let e : _≡_ {A = ℕ} 0 512 = s .used in omega (arith, e)
+not-empty s = let e : _≡_ {A = ℕ} 0 512 = s .used in omega (arith, e)
 
 four-one : (a : ℕ) → blockCount one (imageWith (a ∷ [])) ≡ 4
 unfolding computing
@@ -75,19 +75,19 @@ unfolding computing
 log-two a b = refl
 
 -- one entry more
-in-more : (es : List ℕ) (w : ℕ) → Among w smallEntries → Among (es ++ w ∷ []) (oneMore es)
-in-more es w h = in-map (λ (e : ℕ). es ++ e ∷ []) w smallEntries h
+in-more : (es : List ℕ) (w : ℕ) → Among w legalEntries → Among (es ++ w ∷ []) (oneMore es)
+in-more es w h = in-map (λ (e : ℕ). es ++ e ∷ []) w legalEntries h
 
 in-tried : (es scratch : List ℕ) → SmallLog es → openRefusal one (imageWith es) scratch ≡ 0 → Among es tried
 unfolding tried
 in-tried [] scratch s h = inl refl
-in-tried (zero ∷ []) scratch s h = absurd (filled (s .kind 0 (inl refl)))
+in-tried (zero ∷ []) scratch s h = absurd (not-empty (s .kind 0 (inl refl)))
 in-tried (suc a ∷ []) scratch s h =
     let legal-is = legal-in (suc a ∷ []) scratch (four-one (suc a)) (log-one a) h in
     inr (in-front (suc a ∷ []) (oneMore []) (flatMap oneMore (oneMore []))
     (in-more [] (suc a) (legal-small (suc a) (s .kind (suc a) (inl refl)) (legal-is (suc a) (inl refl)))))
-in-tried (zero ∷ b ∷ []) scratch s h = absurd (filled (s .kind 0 (inl refl)))
-in-tried (suc a ∷ zero ∷ []) scratch s h = absurd (filled (s .kind 0 (inr (inl refl))))
+in-tried (zero ∷ b ∷ []) scratch s h = absurd (not-empty (s .kind 0 (inl refl)))
+in-tried (suc a ∷ zero ∷ []) scratch s h = absurd (not-empty (s .kind 0 (inr (inl refl))))
 in-tried (suc a ∷ suc b ∷ []) scratch s h =
     let legal-is = legal-in (suc a ∷ suc b ∷ []) scratch (four-two (suc a) (suc b)) (log-two a b) h in
     let first = legal-small (suc a) (s .kind (suc a) (inl refl)) (legal-is (suc a) (inl refl)) in
@@ -103,30 +103,30 @@ abbrev sorted : List (List ℕ) → Bool
 sorted [] = true
 sorted (l ∷ logs) = all-of (precedes l) logs && sorted logs
 
-sorted-at : (logs : List (List ℕ)) → sorted logs ≡ true → (i j : ℕ) → i < j → j < length logs → precedes (getD logs i []) (getD logs j []) ≡ true
+sorted-at : (logs : List (List ℕ)) → sorted logs ≡ true → Ascending logs
 sorted-at [] t i j h l = absurd (omega arith)
 sorted-at (x ∷ logs) t i zero h l = absurd (omega arith)
 sorted-at (x ∷ logs) t zero (suc j) h l = all-at (precedes x) logs j [] (and-left (all-of (precedes x) logs) (sorted logs) t) (omega arith)
 sorted-at (x ∷ logs) t (suc i) (suc j) h l = sorted-at logs (and-right (all-of (precedes x) logs) (sorted logs) t) i j (omega arith) (omega arith)
 
-in-order : sorted smallLogs ≡ true
+in-order : sorted legalLogs ≡ true
 unfolding computing
 in-order = refl
 
 -- ---- the claim
 
-number : length smallLogs ≡ 33
+number : length legalLogs ≡ 33
 unfolding computing
 number = refl
 
-pub all-small : AllSmall smallLogs
-unfolding smallLogs
-all-small = record {
+pub all-legal : AllLegal legalLogs
+unfolding legalLogs
+all-legal = record {
   small = λ es h. small-log es (all-among isSmallLog es tried tried-small (kept-of es tried h .0));
   exact = λ es s scratch long. (
-    λ h. zero-is (openRefusal one (imageWith es) scratch) (sym (accepted-is es scratch long) ∙ kept-of es tried h .1),
-    λ e. kept-in es tried (in-tried es scratch s e) (accepted-is es scratch long ∙ is-zero (openRefusal one (imageWith es) scratch) e),
+    λ h. zero-is (openRefusal one (imageWith es) scratch) (sym (accepts-is es scratch long) ∙ kept-of es tried h .1),
+    λ e. kept-in es tried (in-tried es scratch s e) (accepts-is es scratch long ∙ is-zero (openRefusal one (imageWith es) scratch) e),
   );
-  ascending = sorted-at smallLogs in-order;
+  ascending = sorted-at legalLogs in-order;
   count = number;
 }

@@ -9,11 +9,11 @@ use Rattle.words.specs.Logic.{isZero}
 use Rattle.log.specs.declared.Opened.{Opened}
 use Rattle.log.specs.declared.Reply.{Reply}
 use Rattle.log.specs.declared.Reply.the-variants.{Done, Refused}
-use Rattle.log.specs.Opening.{replyOf, numberOf, openRefusal, opened}
+use Rattle.log.specs.Opening.{replyOf, openRefusal, opened}
 use Rattle.words.proofs.Tests.{is-zero}
-use Rattle.log.proofs.Replies.{number-back, opened-replies}
+use Rattle.log.proofs.Replies.{done-none, opened-replies}
 use Rattle.small.specs.SmallLogs.{blank, imageWith}
-use Rattle.small.specs.Tried.{accepted}
+use Rattle.small.specs.Tried.{accepts}
 use Rattle.small.specs.Computing.{computing}
 
 -- two words set in the log's first slots
@@ -33,15 +33,15 @@ one-entry : (e : ℕ) → imageWith (e ∷ 0 ∷ []) ≡ imageWith (e ∷ [])
 unfolding computing
 one-entry e = refl
 
-same-image : (es fs : List ℕ) → imageWith es ≡ imageWith fs → accepted es ≡ accepted fs
-unfolding accepted
+same-image : (es fs : List ℕ) → imageWith es ≡ imageWith fs → accepts es ≡ accepts fs
+unfolding accepts
 same-image es fs e = ap (λ (i : List ℕ). isZero (openRefusal one i (replicate blocksMax 0))) e
 
-pub accepted-none : accepted (0 ∷ 0 ∷ []) ≡ accepted []
-accepted-none = same-image (0 ∷ 0 ∷ []) [] no-entry
+pub accepts-none : accepts (0 ∷ 0 ∷ []) ≡ accepts []
+accepts-none = same-image (0 ∷ 0 ∷ []) [] no-entry
 
-pub accepted-one : (e : ℕ) → accepted (e ∷ 0 ∷ []) ≡ accepted (e ∷ [])
-accepted-one e = same-image (e ∷ 0 ∷ []) (e ∷ []) (one-entry e)
+pub accepts-one : (e : ℕ) → accepts (e ∷ 0 ∷ []) ≡ accepts (e ∷ [])
+accepts-one e = same-image (e ∷ 0 ∷ []) (e ∷ []) (one-entry e)
 
 -- opening's reply
 module _ (words es : List ℕ) (o : Opened) (i : words ≡ imageWith es) (e : o ≡ opened one words (replicate blocksMax 0)) where
@@ -49,14 +49,14 @@ module _ (words es : List ℕ) (o : Opened) (i : words ≡ imageWith es) (e : o 
   replied = ap (λ (x : Opened). x .reply) e ∙ opened-replies one words (replicate blocksMax 0)
       ∙ ap (λ (l : List ℕ). replyOf (openRefusal one l (replicate blocksMax 0))) i
 
-  pub replied-done : o .reply ≡ Done → true ≡ accepted es
-  unfolding accepted
+  pub replied-done : o .reply ≡ Done → true ≡ accepts es
+  unfolding accepts
   replied-done d =
       let n = openRefusal one (imageWith es) (replicate blocksMax 0) in
-      sym (is-zero n (sym (number-back n) ∙ ap numberOf (sym replied ∙ d)))
+      sym (is-zero n (done-none n (sym replied ∙ d)))
 
-  pub replied-refused : (k : ℕ) → o .reply ≡ Refused k → false ≡ accepted es
-  unfolding accepted
+  pub replied-refused : (k : ℕ) → o .reply ≡ Refused k → false ≡ accepts es
+  unfolding accepts
   replied-refused k d = go (openRefusal one (imageWith es) (replicate blocksMax 0)) (sym replied ∙ d)
     where
       isRefused : Reply → Bool

@@ -11,44 +11,44 @@ use Rattle.words.specs.Logic.{isZero}
 use Rattle.log.specs.Opening.{openRefusal}
 use Rattle.log.proofs.Opening.{refusal-scratch}
 use Rattle.small.specs.SmallLogs.{Among, imageWith}
-use Rattle.small.specs.Tried.{accepted, kept}
+use Rattle.small.specs.Tried.{accepts, kept}
 
 -- opening with a scratch that is long enough; any other such gives the same
 pub enough : blocksMax ≤ length (replicate {A = ℕ} blocksMax 0)
 enough = omega (arith, length-replicate {A = ℕ} blocksMax 0)
 
-pub accepted-is : (es scratch : List ℕ) → blocksMax ≤ length scratch → accepted es ≡ isZero (openRefusal one (imageWith es) scratch)
-unfolding accepted
-accepted-is es scratch long = rw (refusal-scratch one (imageWith es) (replicate blocksMax 0) scratch enough long)
+pub accepts-is : (es scratch : List ℕ) → blocksMax ≤ length scratch → accepts es ≡ isZero (openRefusal one (imageWith es) scratch)
+unfolding accepts
+accepts-is es scratch long = rw (refusal-scratch one (imageWith es) (replicate blocksMax 0) scratch enough long)
 
 -- what is kept
-pub kept-yes : (es : List ℕ) (logs : List (List ℕ)) → accepted es ≡ true → kept (es ∷ logs) ≡ es ∷ kept logs
+pub kept-yes : (es : List ℕ) (logs : List (List ℕ)) → accepts es ≡ true → kept (es ∷ logs) ≡ es ∷ kept logs
 unfolding kept
 kept-yes es logs a = rw (kept, a)
 
-pub kept-no : (es : List ℕ) (logs : List (List ℕ)) → accepted es ≡ false → kept (es ∷ logs) ≡ kept logs
+pub kept-no : (es : List ℕ) (logs : List (List ℕ)) → accepts es ≡ false → kept (es ∷ logs) ≡ kept logs
 unfolding kept
 kept-no es logs a = rw (kept, a)
 
-pub kept-in : (es : List ℕ) (logs : List (List ℕ)) → Among es logs → accepted es ≡ true → Among es (kept logs)
+pub kept-in : (es : List ℕ) (logs : List (List ℕ)) → Among es logs → accepts es ≡ true → Among es (kept logs)
 kept-in es [] h a = absurd h
-kept-in es (l ∷ logs) (inl h) a = subst (Among es) (sym (kept-yes l logs (ap accepted h ∙ a))) (inl h)
-kept-in es (l ∷ logs) (inr h) a = go (accepted l) refl (kept-in es logs h a)
+kept-in es (l ∷ logs) (inl h) a = subst (Among es) (sym (kept-yes l logs (ap accepts h ∙ a))) (inl h)
+kept-in es (l ∷ logs) (inr h) a = go (accepts l) refl (kept-in es logs h a)
   where
-    go : (t : Bool) → accepted l ≡ t → Among es (kept logs) → Among es (kept (l ∷ logs))
+    go : (t : Bool) → accepts l ≡ t → Among es (kept logs) → Among es (kept (l ∷ logs))
     go true e later = subst (Among es) (sym (kept-yes l logs e)) (inr later)
     go false e later = subst (Among es) (sym (kept-no l logs e)) later
 
-pub kept-of : (es : List ℕ) (logs : List (List ℕ)) → Among es (kept logs) → Among es logs × (accepted es ≡ true)
+pub kept-of : (es : List ℕ) (logs : List (List ℕ)) → Among es (kept logs) → Among es logs × (accepts es ≡ true)
 unfolding kept
 kept-of es [] h = absurd h
-kept-of es (l ∷ logs) h = go (accepted l) refl (kept-of es logs)
+kept-of es (l ∷ logs) h = go (accepts l) refl (kept-of es logs)
   where
-    here : accepted l ≡ true → (Among es (kept logs) → Among es logs × (accepted es ≡ true)) → (l ≡ es) ⊎ Among es (kept logs)
-        → Among es (l ∷ logs) × (accepted es ≡ true)
-    here e later (inl x) = (inl x, sym (ap accepted x) ∙ e)
+    here : accepts l ≡ true → (Among es (kept logs) → Among es logs × (accepts es ≡ true)) → (l ≡ es) ⊎ Among es (kept logs)
+        → Among es (l ∷ logs) × (accepts es ≡ true)
+    here e later (inl x) = (inl x, sym (ap accepts x) ∙ e)
     here e later (inr x) = let y = later x in (inr (y .0), y .1)
 
-    go : (t : Bool) → accepted l ≡ t → (Among es (kept logs) → Among es logs × (accepted es ≡ true)) → Among es (l ∷ logs) × (accepted es ≡ true)
+    go : (t : Bool) → accepts l ≡ t → (Among es (kept logs) → Among es logs × (accepts es ≡ true)) → Among es (l ∷ logs) × (accepts es ≡ true)
     go true e later = here e later (subst (Among es) (kept-yes l logs e) h)
     go false e later = let y = later (subst (Among es) (kept-no l logs e) h) in (inr (y .0), y .1)

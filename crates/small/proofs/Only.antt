@@ -1,4 +1,4 @@
--- Only one list has what is claimed of the small logs: two lists in ascending order with the same elements are one. Assumes nothing.
+-- Only one list has what is claimed of the legal small logs: two lists in ascending order with the same elements are one. Assumes nothing.
 use Prim.Native.Nat.{ℕ, suc, _<_}
 use native.Mathlib.Omega.{arith}
 use mathlib.Core.Path.{_≡_, refl, sym, ap, subst, _∙_}
@@ -11,7 +11,7 @@ use borrow.Author.Tests.{ltb-true, eqb-true}
 use Rattle.words.specs.Edition.{blocksMax}
 use Rattle.words.proofs.Logic.{and-left, and-right}
 use Rattle.words.proofs.Tests.{or-split, no-true}
-use Rattle.small.specs.SmallLogs.{Among, AllSmall, smaller, precedes}
+use Rattle.small.specs.SmallLogs.{Among, smaller, precedes, Ascending, AllLegal}
 use Rattle.small.proofs.Kept.{enough}
 
 -- ---- the order is strict
@@ -44,9 +44,6 @@ once xs ys h g = go (or-split _ _ h) (or-split _ _ g)
     go (inr a) (inr b) = smaller-once xs ys (and-right (eqb m n) (smaller xs ys) a) (and-right (eqb n m) (smaller ys xs) b)
 
 -- ---- in ascending order
-
-abbrev Ascending : List (List ℕ) → Type 0
-Ascending logs = (i j : ℕ) → i < j → j < length logs → precedes (getD logs i []) (getD logs j []) ≡ true
 
 tail : (l : List ℕ) (logs : List (List ℕ)) → Ascending (l ∷ logs) → Ascending logs
 tail l logs s i j h g = s (suc i) (suc j) (omega arith) (omega arith)
@@ -92,10 +89,10 @@ one-list (x ∷ xs) (y ∷ ys) s t f g =
     ∙ ap (λ (l : List (List ℕ)). y ∷ l) (one-list xs ys (tail x xs s) (tail y ys t) (rest-within x xs y ys s e f) (rest-within y ys x xs t (sym e) g))
 
 -- what is among one is small and accepted, so it is among the other
-pub only-one : (xs ys : List (List ℕ)) → AllSmall xs → AllSmall ys → xs ≡ ys
+pub only-one : (xs ys : List (List ℕ)) → AllLegal xs → AllLegal ys → xs ≡ ys
 only-one xs ys a b = one-list xs ys (a .ascending) (b .ascending) (within xs ys a b) (within ys xs b a)
   where
-    within : (us vs : List (List ℕ)) → AllSmall us → AllSmall vs → Within us vs
+    within : (us vs : List (List ℕ)) → AllLegal us → AllLegal vs → Within us vs
     within us vs c d es h =
         let scratch = replicate {A = ℕ} blocksMax 0 in
         let small = c .small es h in

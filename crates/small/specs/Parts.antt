@@ -6,7 +6,7 @@ use mathlib.Core.List.{List, [], _∷_}
 use lib.ListN.{length, getD, set}
 use lib.Dec.{ltb}
 use Rattle.words.specs.Logic.{upToZero}
-use Rattle.small.specs.Tried.{accepted}
+use Rattle.small.specs.Tried.{accepts}
 
 -- the log of this entry alone, 0 for the empty log
 abbrev pub logOf : ℕ → List ℕ
@@ -26,7 +26,7 @@ unfoldable pub keep : Filled → List ℕ → Filled
 keep f es =
     let at = 2 * f .count in
     let longer : Filled = record { words = set (set (f .words) at (getD es 0 0)) (at + 1) (getD es 1 0); count = suc (f .count) } in
-    elim (ltb (at + 1) (length (f .words)) && accepted es) [ true ↦ longer | false ↦ f ]
+    elim (ltb (at + 1) (length (f .words)) && accepts es) [ true ↦ longer | false ↦ f ]
 
 -- one log after the other
 unfoldable pub keepAll : Filled → List (List ℕ) → Filled

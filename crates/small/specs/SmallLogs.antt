@@ -1,6 +1,6 @@
 -- Every small log (document 02, K9): "all legal logs for a laid-out 4-block image with all-zero data blocks, at most two plain entries, virtual
--- blocks 0 and 1 only, used bytes 512, point 0". What makes a list of logs the list of these, and how a slice holds them.
-use Prim.Native.Nat.{ℕ, _+_, _*_, _/_, _^_, _≤_, _<_}
+-- blocks 0 and 1 only, used bytes 512, point 0". What makes a list of logs the list of these, how a slice holds them, and how one is printed.
+use Prim.Native.Nat.{ℕ, _+_, _*_, _-_, _/_, _^_, _≤_, _<_}
 use mathlib.Core.Path.{_≡_}
 use mathlib.Core.Logic.{_↔_, _⊎_}
 use mathlib.Core.Bool.{Bool, true, false, _&&_, _||_}
@@ -8,6 +8,8 @@ use mathlib.Core.List.{List, [], _∷_, _++_, flatMap}
 use lib.ListN.{length, getD, take, drop, replicate}
 use lib.Dec.{ltb, eqb}
 use Rattle.words.specs.Edition.{one, blocksMax}
+use Rattle.words.specs.Logic.{listFrom}
+use Rattle.words.specs.Word.{bits}
 use Rattle.log.specs.Entry.{entryU, entryPoint, covers}
 use Rattle.log.specs.Opening.{layout, openRefusal}
 
@@ -53,13 +55,17 @@ smaller (x ∷ xs) (y ∷ ys) = ltb x y || (eqb x y && smaller xs ys)
 abbrev pub precedes : List ℕ → List ℕ → Bool
 precedes xs ys = ltb (length xs) (length ys) || (eqb (length xs) (length ys) && smaller xs ys)
 
--- These are all small logs: each is small; "Legal means that opening accepts": a small log is among them exactly when opening, lent any scratch that is
--- long enough, accepts the image with its entries; each comes before all that follow, so once; "There are 33".
-pub record AllSmall (logs : List (List ℕ)) : Type 0 where
+-- "ascending, each once": each log precedes all that follow
+abbrev pub Ascending : List (List ℕ) → Type 0
+Ascending logs = (i j : ℕ) → i < j → j < length logs → precedes (getD logs i []) (getD logs j []) ≡ true
+
+-- These are all legal small logs: each is small; "Legal means that opening accepts": a small log is among them exactly when opening, lent any scratch that
+-- is long enough, accepts the image with its entries; they ascend; "There are 33".
+pub record AllLegal (logs : List (List ℕ)) : Type 0 where
   pub small : (es : List ℕ) → Among es logs → SmallLog es
   pub exact : (es : List ℕ) → SmallLog es → (scratch : List ℕ) → blocksMax ≤ length scratch
       → Among es logs ↔ (openRefusal one (imageWith es) scratch ≡ 0)
-  pub ascending : (i j : ℕ) → i < j → j < length logs → precedes (getD logs i []) (getD logs j []) ≡ true
+  pub ascending : Ascending logs
   pub count : length logs ≡ 33
 
 -- ---- the slice
@@ -73,3 +79,13 @@ abbrev pub Fills : List (List ℕ) → List ℕ → List ℕ → ℕ → Type 0
 Fills logs before after r =
     let shown = take (length before / 2) logs in
     (after ≡ flatMap twoSlots shown ++ drop (2 * length shown) before) × (r ≡ length shown)
+
+-- ---- a line
+
+-- a hexadecimal digit in ASCII, "in capitals": 48 is `0`, 65 is `A`
+unfoldable pub hexDigit : ℕ → ℕ
+hexDigit d = elim (ltb d 10) [ true ↦ 48 + d | false ↦ 55 + d ]
+
+-- "each entry as 16 hexadecimal digits": four bits each, the highest first
+abbrev pub digitsOf : ℕ → List ℕ
+digitsOf e = listFrom 0 16 (λ i. hexDigit (bits e (60 - 4 * i) 4))

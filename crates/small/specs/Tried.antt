@@ -1,5 +1,5 @@
--- The list of all small logs, as it is found: by trying opening. None of this has to be believed: `AllSmall smallLogs` is proved, and that no other
--- list has that.
+-- The list of all legal small logs, as it is found: by trying opening. None of this has to be believed: `AllLegal legalLogs` is proved, and that no
+-- other list has that.
 use Prim.Native.Nat.{ℕ, _+_, _*_, _-_, _/_, _%_}
 use mathlib.Core.Bool.{Bool, true, false}
 use mathlib.Core.List.{List, [], _∷_, _++_, map, flatMap}
@@ -15,36 +15,36 @@ use Rattle.small.specs.SmallLogs.{imageWith}
 abbrev pub endMost : ℕ
 endMost = 4
 
--- how many small entries are legal: of one block two for each first block from 1 on, of two blocks one; and all
+-- how many small entries are legal: of one block, two for each first block from 1 on; and in all, of two blocks one for each
 abbrev pub ofOneBlock : ℕ
 ofOneBlock = 2 * (endMost - 1)
 
 abbrev pub entryCount : ℕ
 entryCount = ofOneBlock + (endMost - 2)
 
--- the k-th of them, ascending: those of one block, then those of two
-unfoldable pub smallEntry : ℕ → ℕ
-smallEntry k = elim (ltb k ofOneBlock) [ true ↦ entryOf one (k % 2) (k / 2 + 1) 1 512 0 | false ↦ entryOf one 0 (k + 1 - ofOneBlock) 2 512 0 ]
+-- legal small entry k, ascending: those of one block, then those of two
+unfoldable pub legalEntry : ℕ → ℕ
+legalEntry k = elim (ltb k ofOneBlock) [ true ↦ entryOf one (k % 2) (k / 2 + 1) 1 512 0 | false ↦ entryOf one 0 (k + 1 - ofOneBlock) 2 512 0 ]
 
-abbrev pub smallEntries : List ℕ
-smallEntries = listFrom 0 entryCount smallEntry
+abbrev pub legalEntries : List ℕ
+legalEntries = listFrom 0 entryCount legalEntry
 
 -- a log with one entry more, each in turn
 abbrev pub oneMore : List ℕ → List (List ℕ)
-oneMore es = map (λ e. es ++ e ∷ []) smallEntries
+oneMore es = map (λ e. es ++ e ∷ []) legalEntries
 
--- the lists of at most two small entries, in order
+-- the lists of at most two legal small entries, in order
 unfoldable pub tried : List (List ℕ)
 tried = [] ∷ oneMore [] ++ flatMap oneMore (oneMore [])
 
 -- opening accepts the image with these entries
-unfoldable pub accepted : List ℕ → Bool
-accepted es = isZero (openRefusal one (imageWith es) (replicate blocksMax 0))
+unfoldable pub accepts : List ℕ → Bool
+accepts es = isZero (openRefusal one (imageWith es) (replicate blocksMax 0))
 
 -- those that opening accepts
 unfoldable pub kept : List (List ℕ) → List (List ℕ)
 kept [] = []
-kept (es ∷ logs) = elim (accepted es) [ true ↦ es ∷ kept logs | false ↦ kept logs ]
+kept (es ∷ logs) = elim (accepts es) [ true ↦ es ∷ kept logs | false ↦ kept logs ]
 
-unfoldable pub smallLogs : List (List ℕ)
-smallLogs = kept tried
+unfoldable pub legalLogs : List (List ℕ)
+legalLogs = kept tried

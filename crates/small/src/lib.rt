@@ -2,30 +2,30 @@
 ghost use mathlib.Core.Path.{_≡_};
 ghost use mathlib.Core.List.{List, [], _∷_, _++_, flatMap};
 ghost use Prim.Native.Nat.{ℕ, _<_};
-ghost use Rattle.small.specs.SmallLogs.{imageWith, AllSmall, Fills};
-ghost use Rattle.small.specs.Tried.{entryCount, smallEntry, oneMore, accepted, smallLogs};
+ghost use Rattle.small.specs.SmallLogs.{imageWith, AllLegal, Fills, hexDigit, digitsOf};
+ghost use Rattle.small.specs.Tried.{entryCount, legalEntry, oneMore, accepts, legalLogs};
 ghost use Rattle.small.specs.Parts.{logOf, Room, Keeps};
 use log::Reply;
 
-// How many entries of that kind keep the entry's rules in 4 blocks: of one block, and in all.
+// How many entries of that kind are legal in 4 blocks: of one block, and in all.
 const OF_ONE_BLOCK: u64 = 6;
 
 const ENTRIES: u64 = 8;
 
-// The claim: a small log is among `smallLogs` exactly when opening accepts the image with its entries; they are in order, each once, and 33.
-pub fn all_small()
-    ensures { λ _. ⌜ AllSmall smallLogs ⌝ }
+// The claim: a small log is among `legalLogs` exactly when opening accepts the image with its entries; they ascend, each once, and are 33.
+pub fn all_legal()
+    ensures { λ _. ⌜ AllLegal legalLogs ⌝ }
 {}
 
 // No other list has that: what `every_log` fills in is known without its definition.
-pub fn only_small()
-    ensures { λ _. ⌜ ((logs : List (List ℕ)) → AllSmall logs → logs ≡ smallLogs) ⌝ }
+pub fn only_legal()
+    ensures { λ _. ⌜ ((logs : List (List ℕ)) → AllLegal logs → logs ≡ legalLogs) ⌝ }
 {}
 
-// Small entry k, ascending: those of one block, then those of two.
-fn entry(k: u64) -> u64
+// Legal entry k of that kind, ascending: those of one block, then those of two.
+fn legal_entry(k: u64) -> u64
     requires { ⌜ k < entryCount ⌝ }
-    ensures { λ r. ⌜ r ≡ smallEntry k ⌝ }
+    ensures { λ r. ⌜ r ≡ legalEntry k ⌝ }
 {
     if k < OF_ONE_BLOCK {
         return log::pack::entry((k % 2) as u16, (k / 2 + 1) as u16, 1, 512, 0);
@@ -46,7 +46,7 @@ fn image_with(first: u64, second: u64) -> [u64; 256]
 
 // Whether opening accepts that image.
 fn accepts(first: u64, second: u64) -> bool
-    ensures { λ r. ⌜ r ≡ accepted (first ∷ second ∷ []) ⌝ }
+    ensures { λ r. ⌜ r ≡ accepts (first ∷ second ∷ []) ⌝ }
 {
     let image = image_with(first, second);
     let mut scratch = [0u16; 1024];
@@ -86,35 +86,58 @@ fn keep_longer(out: &mut [u64], count: usize, first: u64, e: u64) -> usize
     keep(out, count, first, e)
 }
 
-// The same of all logs that have one small entry more than that.
+// The same of all logs that have one legal entry more than that.
 fn keep_each(out: &mut [u64], count: usize, first: u64) -> usize
     requires { ⌜ Room (now out) count ⌝ }
     ensures { λ r. ⌜ Keeps (oneMore (logOf first)) (now (out .entry)) count (now (out .exit)) r ⌝ }
 {
     let mut n = count;
     for k in 0..ENTRIES {
-        n = keep_longer(out, n, first, entry(k));
+        n = keep_longer(out, n, first, legal_entry(k));
     }
     n
 }
 
-// The same of all logs of two small entries.
+// The same of all logs of two legal entries.
 fn keep_pairs(out: &mut [u64], count: usize) -> usize
     requires { ⌜ Room (now out) count ⌝ }
     ensures { λ r. ⌜ Keeps (flatMap oneMore (oneMore [])) (now (out .entry)) count (now (out .exit)) r ⌝ }
 {
     let mut n = count;
     for k in 0..ENTRIES {
-        n = keep_each(out, n, entry(k));
+        n = keep_each(out, n, legal_entry(k));
     }
     n
 }
 
-// All small logs go into the slice, as many as there is room for, two words each; how many.
+// All legal small logs go into the slice, as many as there is room for, two words each, 0 for an entry that a log does not have: 66 words hold all. The first
+// is the empty log, two words 0. How many there are then.
 pub fn every_log(out: &mut [u64]) -> usize
-    ensures { λ r. ⌜ Fills smallLogs (now (out .entry)) (now (out .exit)) r ⌝ }
+    ensures { λ r. ⌜ Fills legalLogs (now (out .entry)) (now (out .exit)) r ⌝ }
 {
-    let none = keep(out, 0, 0, 0);
-    let ones = keep_each(out, none, 0);
+    let empty = keep(out, 0, 0, 0);
+    let ones = keep_each(out, empty, 0);
     keep_pairs(out, ones)
+}
+
+// A hexadecimal digit, in capitals.
+fn hex_digit(d: u64) -> u8
+    requires { ⌜ d < 16 ⌝ }
+    ensures { λ r. ⌜ r ≡ hexDigit d ⌝ }
+{
+    if d < 10 {
+        return (48 + d) as u8;
+    }
+    (55 + d) as u8
+}
+
+// An entry as 16 hexadecimal digits, the highest first.
+pub fn digits(e: u64) -> [u8; 16]
+    ensures { λ r. ⌜ r ≡ digitsOf e ⌝ }
+{
+    let mut text = [0u8; 16];
+    for i in 0..16 {
+        text[i] = hex_digit((e >> (60 - 4 * i)) % 16);
+    }
+    text
 }

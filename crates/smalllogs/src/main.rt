@@ -1,20 +1,8 @@
-// Prints every small log, one a line: each entry as 16 hexadecimal digits, a blank between two; the empty log is an empty line.
-// Which logs these are is said by the contract of `small::every_log`; here they are only printed.
-
-// The last digit of a number, in capitals.
-fn digit(n: u64) -> u8 {
-    let d = n % 16;
-    if d < 10 {
-        return (48 + d) as u8;
-    }
-    (55 + d) as u8
-}
+// Prints every legal small log, one a line: each entry as 16 hexadecimal digits, a blank between two; the empty log is an empty line.
+// Which logs these are, and an entry's digits, the contracts of `small::every_log` and `small::digits` say; here they are only printed.
 
 fn print_entry(e: u64) {
-    let mut text = [0u8; 16];
-    for i in 0..16 {
-        text[i] = digit(e >> (60 - 4 * i));
-    }
+    let text = small::digits(e);
     io::write_all(1, &text);
 }
 
@@ -31,6 +19,7 @@ fn print_log(first: u64, second: u64) {
 }
 
 fn main() {
+    // 33 logs of two words each.
     let mut logs = [0u64; 66];
     let n = small::every_log(&mut logs);
     for k in 0..n {

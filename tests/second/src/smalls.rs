@@ -29,7 +29,7 @@ pub fn make(mut random: Random) -> Vec<u64> {
 /// Any entry, or one that has to do with the first.
 fn a_second(random: &mut Random, first: &Entry) -> Entry {
     match random.below(4) {
-        // Overrules it, and is not on the log block.
+        // Covers what it covers, and is not on the log block.
         0 => Entry { b: random.between(2, BLOCKS - first.n), ..*first },
         // The other virtual block on the same block.
         1 if first.n == 1 => Entry { v: 1 - first.v, ..*first },

@@ -103,7 +103,7 @@ fn is_legal(log: &[u64]) -> bool {
     !table.contains(&1) && (table[0] != table[1] || table == [0, 0])
 }
 
-/// 300 random small logs meet every case, whatever the seed.
+/// 300 random small logs meet every case, with each of 40 seeds.
 #[test]
 fn random_small_logs() {
     let all = small_logs();

@@ -6,23 +6,23 @@ use mathlib.Core.List.{[], flatMap}
 use lib.ListN.{length}
 use Rattle.small.specs.Tried.{entryCount, oneMore}
 use Rattle.small.specs.Parts.{logOf, Room, keepAll}
-use Rattle.small.proofs.Slice.{at, logsFrom, each-pair, next-entry, no-entry-left}
+use Rattle.small.proofs.Slice.{filled, logsFrom, each-pair, next-entry, no-entry-left}
 use Rattle.small.proofs.keep_pairs.Statement.{statement}
 use Rattle.small.proofs.keep_pairs.Tie as tie
 
 abbrev Inv-loop : tie.InvT-loop
 Inv-loop out₀ count n₀ k₀ out n k =
     (k ≤ entryCount) × (length out ≡ length out₀) × Room out n
-    × (keepAll (at out₀ count) (flatMap oneMore (oneMore [])) ≡ keepAll (at out n) (logsFrom (λ e. oneMore (logOf e)) k))
+    × (keepAll (filled out₀ count) (flatMap oneMore (oneMore [])) ≡ keepAll (filled out n) (logsFrom (λ e. oneMore (logOf e)) k))
 
 abbrev μ-loop : tie.MeasureT-loop
 μ-loop out₀ count n₀ k₀ out n k = entryCount - k
 
 loop-holds : tie.Need-loop-holds Inv-loop μ-loop
-loop-holds c = let a = c .before .args in (omega arith, refl, c .before .pre, ap (keepAll (at (a .out .now) (a .count))) each-pair)
+loop-holds c = let a = c .before .args in (omega arith, refl, c .before .pre, ap (keepAll (filled (a .out .now) (a .count))) each-pair)
 
-entry-requires : tie.Need-entry-requires Inv-loop μ-loop
-entry-requires c κs = omega arith
+legal-entry-requires : tie.Need-legal-entry-requires Inv-loop μ-loop
+legal-entry-requires c κs = omega arith
 
 keep-each-requires : tie.Need-keep-each-requires Inv-loop μ-loop
 keep-each-requires c κs = c .before .before .before .loop .inv .2
@@ -42,8 +42,8 @@ loop-again c =
       omega arith,
       k .keep-each .kept .0 ∙ l .inv .1,
       k .keep-each .ensures .1,
-      next-entry (λ e. oneMore (logOf e)) (keepAll (at (a .out .now) (a .count)) (flatMap oneMore (oneMore []))) (l .out) (l .n) (k .keep-each .last .0)
-          (k .keep-each .result) (l .k) (e .entry .result) (omega arith) (e .entry .ensures) (k .keep-each .ensures) (l .inv .3),
+      next-entry (λ e. oneMore (logOf e)) (keepAll (filled (a .out .now) (a .count)) (flatMap oneMore (oneMore []))) (l .out) (l .n) (k .keep-each .last .0)
+          (k .keep-each .result) (l .k) (e .legal-entry .result) (omega arith) (e .legal-entry .ensures) (k .keep-each .ensures) (l .inv .3),
     )
 
 same-length : tie.Need-same-length Inv-loop μ-loop
@@ -53,7 +53,7 @@ returns : tie.Need-returns Inv-loop μ-loop
 returns c =
     let l = c .before .loop in
     let a = c .before .before .before .args in (
-      sym (no-entry-left (λ e. oneMore (logOf e)) (keepAll (at (a .out .now) (a .count)) (flatMap oneMore (oneMore []))) (l .out) (l .n) (l .k) (omega arith)
+      sym (no-entry-left (λ e. oneMore (logOf e)) (keepAll (filled (a .out .now) (a .count)) (flatMap oneMore (oneMore []))) (l .out) (l .n) (l .k) (omega arith)
           (l .inv .3)),
       l .inv .2,
     )
@@ -65,7 +65,7 @@ keep-pairs-spec =
     Inv-loop
     μ-loop
     loop-holds
-    entry-requires
+    legal-entry-requires
     keep-each-requires
     add-k
     loop-less

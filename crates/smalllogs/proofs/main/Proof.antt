@@ -3,7 +3,7 @@ use Prim.Native.Nat.{_-_, _≤_}
 use native.Mathlib.Omega.{arith}
 use mathlib.Core.Path.{_≡_, refl}
 use lib.ListN.{length, take, length-take}
-use Rattle.small.specs.Tried.{smallLogs}
+use Rattle.small.specs.Tried.{legalLogs}
 use Rattle.smalllogs.proofs.main.Statement.{statement}
 use Rattle.smalllogs.proofs.main.Tie as tie
 
@@ -22,8 +22,8 @@ every-log-requires c κs = tt
 loop-holds : tie.Need-loop-holds Inv-loop μ-loop
 loop-holds c =
     let e = c .before .every-log in
-    let shown : e .result ≡ length (take 33 smallLogs) = e .ensures .1 in
-    (omega arith, omega (arith, shown, length-take 33 smallLogs))
+    let shown : e .result ≡ length (take 33 legalLogs) = e .ensures .1 in
+    (omega arith, omega (arith, shown, length-take 33 legalLogs))
 
 mul-print-log : tie.Need-mul-print-log Inv-loop μ-loop
 mul-print-log c = omega arith

@@ -185,11 +185,12 @@ fn compare_smalllogs(options: &Options, totals: &Mutex<Totals>) -> (bool, Vec<St
     let Some(program) = options.smalllogs.as_deref() else { return (true, Vec::new()) };
     let mut random = Random::stream(options.seed, SMALL_STREAM - 1);
     let some: Vec<u8> = (0..random.between(1, 4_096)).map(|_| random.any() as u8).collect();
-    let (agreed, printed) = ask_smalllogs(program, "no input", &[], totals);
+    let expected = smalllogs().into_bytes();
+    let (agreed, printed) = ask_smalllogs(program, "no input", &[], &expected, totals);
     if !agreed && options.brief {
         return (false, printed);
     }
-    let (agreed_again, _) = ask_smalllogs(program, "some input", &some, totals);
+    let (agreed_again, _) = ask_smalllogs(program, "some input", &some, &expected, totals);
     (agreed && agreed_again, printed)
 }
 
@@ -198,15 +199,15 @@ fn ask_smalllogs(
     program: &str,
     name: &str,
     input: &[u8],
+    expected: &[u8],
     totals: &Mutex<Totals>,
 ) -> (bool, Vec<String>) {
-    let expected = smalllogs().into_bytes();
     let got = ask(program, input);
     let agreed = got.as_ref().is_ok_and(|got| *got == expected);
     count(totals, agreed, &Tally::default());
     if !agreed {
         println!("smalllogs with {name} differs");
-        print_difference(&expected, &got);
+        print_difference(expected, &got);
     }
     let mut printed = lines_of(&got.unwrap_or_default());
     // What follows the last line feed is no line.

@@ -2,8 +2,8 @@
 use mathlib.Core.Path.{_∙_, sym}
 use borrow.Author.Needs.{needs}
 use Rattle.small.proofs.Entries.{entry-one, entry-two}
-use Rattle.small.proofs.entry.Statement.{statement}
-use Rattle.small.proofs.entry.Tie as tie
+use Rattle.small.proofs.legal_entry.Statement.{statement}
+use Rattle.small.proofs.legal_entry.Tie as tie
 
 cast-entry : tie.Need-cast-entry
 cast-entry c = search needs
@@ -35,8 +35,8 @@ entry-requires-2 c κs = search needs
 returns-2 : tie.Need-returns-2
 returns-2 c = let a = c .before .before .args in c .entry2 .ensures ∙ sym (entry-two (a .k) (c .before .if1 .left))
 
-pub entry-spec : {M : Type 1} → statement M
-entry-spec =
+pub legal-entry-spec : {M : Type 1} → statement M
+legal-entry-spec =
     tie.close
     (tie.spec
     cast-entry
