@@ -5,7 +5,7 @@ use native.Mathlib.Omega.{arith}
 use mathlib.Core.Path.{_≡_, refl, sym, subst, _∙_}
 use mathlib.Core.Logic.{inl, inr}
 use mathlib.Core.Bool.{Bool, true, false, _&&_}
-use mathlib.Core.List.{List, [], _∷_, _++_, flatMap}
+use mathlib.Core.List.{List, [], _∷_, _++_}
 use lib.ListN.{length}
 use lib.Dec.{leb}
 use borrow.Author.Tests.{leb-true}
@@ -20,7 +20,7 @@ use Rattle.words.proofs.Tests.{zero-is, is-zero}
 use Rattle.log.proofs.Reasons.{entries-legal}
 use Rattle.log.proofs.Opening.{refusal-passed}
 use Rattle.small.specs.SmallLogs.{SmallEntry, SmallLog, Among, imageWith, precedes, Ascending, AllLegal}
-use Rattle.small.specs.Tried.{legalEntries, oneMore, tried, legalLogs}
+use Rattle.small.specs.Tried.{legalEntries, oneMore, pairs, tried, legalLogs}
 use Rattle.small.specs.Computing.{computing}
 use Rattle.small.proofs.Among.{in-front, in-back, in-map, in-each, all-among, all-at}
 use Rattle.small.proofs.Kept.{accepts-is, kept-in, kept-of}
@@ -84,7 +84,7 @@ in-tried [] scratch s h = inl refl
 in-tried (zero ∷ []) scratch s h = absurd (not-empty (s .kind 0 (inl refl)))
 in-tried (suc a ∷ []) scratch s h =
     let legal-is = legal-in (suc a ∷ []) scratch (four-one (suc a)) (log-one a) h in
-    inr (in-front (suc a ∷ []) (oneMore []) (flatMap oneMore (oneMore []))
+    inr (in-front (suc a ∷ []) (oneMore []) pairs
     (in-more [] (suc a) (legal-small (suc a) (s .kind (suc a) (inl refl)) (legal-is (suc a) (inl refl)))))
 in-tried (zero ∷ b ∷ []) scratch s h = absurd (not-empty (s .kind 0 (inl refl)))
 in-tried (suc a ∷ zero ∷ []) scratch s h = absurd (not-empty (s .kind 0 (inr (inl refl))))
@@ -92,7 +92,7 @@ in-tried (suc a ∷ suc b ∷ []) scratch s h =
     let legal-is = legal-in (suc a ∷ suc b ∷ []) scratch (four-two (suc a) (suc b)) (log-two a b) h in
     let first = legal-small (suc a) (s .kind (suc a) (inl refl)) (legal-is (suc a) (inl refl)) in
     let second = legal-small (suc b) (s .kind (suc b) (inr (inl refl))) (legal-is (suc b) (inr (inl refl))) in
-    inr (in-back (suc a ∷ suc b ∷ []) (oneMore []) (flatMap oneMore (oneMore []))
+    inr (in-back (suc a ∷ suc b ∷ []) (oneMore []) pairs
     (in-each oneMore (suc a ∷ []) (oneMore []) (suc a ∷ suc b ∷ []) (in-more [] (suc a) first) (in-more (suc a ∷ []) (suc b) second)))
 in-tried (a ∷ b ∷ d ∷ es) scratch s h = absurd (omega (arith, s .short))
 

@@ -10,7 +10,7 @@ use lib.Dec.{ltb}
 use borrow.Author.Tests.{lt-ltb, le-ltb}
 use Rattle.words.specs.Logic.{listFrom}
 use Rattle.small.specs.SmallLogs.{twoSlots, Fills}
-use Rattle.small.specs.Tried.{entryCount, legalEntry, oneMore, tried, accepts, kept, legalLogs}
+use Rattle.small.specs.Tried.{entryCount, legalEntry, oneMore, pairs, tried, accepts, kept, legalLogs}
 use Rattle.small.specs.Parts.{Filled, logOf, Room, keep, keepAll, Keeps}
 use Rattle.small.specs.Computing.{computing}
 use Rattle.small.proofs.Image.{accepts-none, accepts-one}
@@ -91,7 +91,7 @@ pub each-longer : (es : List ℕ) → oneMore es ≡ logsFrom (longer es) 0
 unfolding flatMap
 each-longer es = refl
 
-pub each-pair : flatMap oneMore (oneMore []) ≡ logsFrom (λ e. oneMore (logOf e)) 0
+pub each-pair : pairs ≡ logsFrom (λ e. oneMore (logOf e)) 0
 unfolding computing
 each-pair = refl
 
@@ -193,11 +193,11 @@ pours (es ∷ logs) front n (x ∷ y ∷ back) e = go (accepts es) refl (pours l
 -- the empty log, those of one entry, those of two
 pub all-filled :
     (before none ones after : List ℕ) (n m r : ℕ) → Keeps ((0 ∷ 0 ∷ []) ∷ []) before 0 none n → Keeps (oneMore []) none n ones m
-    → Keeps (flatMap oneMore (oneMore [])) ones m after r → Fills legalLogs before after r
+    → Keeps pairs ones m after r → Fills legalLogs before after r
 unfolding tried legalLogs keepAll
 all-filled before none ones after n m r a b c =
     let all : filled after r ≡ keepAll (filled before 0) tried =
-    c .0 ∙ ap (λ f. keepAll f (flatMap oneMore (oneMore []))) (b .0 ∙ ap (λ f. keepAll f (oneMore [])) (a .0 ∙ keep-none (filled before 0)))
-    ∙ sym (all-append (keep (filled before 0) []) (oneMore []) (flatMap oneMore (oneMore []))) in
+    c .0 ∙ ap (λ f. keepAll f pairs) (b .0 ∙ ap (λ f. keepAll f (oneMore [])) (a .0 ∙ keep-none (filled before 0)))
+    ∙ sym (all-append (keep (filled before 0) []) (oneMore []) pairs) in
     let e = all ∙ pours tried [] 0 before (omega arith) in
     (ap (λ (f : Filled). f .words) e, ap (λ (f : Filled). f .count) e ∙ omega arith)

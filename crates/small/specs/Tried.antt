@@ -33,9 +33,12 @@ legalEntries = listFrom 0 entryCount legalEntry
 abbrev pub oneMore : List ℕ → List (List ℕ)
 oneMore es = map (λ e. es ++ e ∷ []) legalEntries
 
--- the lists of at most two legal small entries, in order
+-- the lists of two legal small entries, in order; and of at most two
+abbrev pub pairs : List (List ℕ)
+pairs = flatMap oneMore (oneMore [])
+
 unfoldable pub tried : List (List ℕ)
-tried = [] ∷ oneMore [] ++ flatMap oneMore (oneMore [])
+tried = [] ∷ oneMore [] ++ pairs
 
 -- opening accepts the image with these entries
 unfoldable pub accepts : List ℕ → Bool

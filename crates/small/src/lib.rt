@@ -1,9 +1,9 @@
 // Every small log (document 02, K9): all logs of at most two entries of one kind that opening accepts. The definitions are in specs/.
 ghost use mathlib.Core.Path.{_≡_};
-ghost use mathlib.Core.List.{List, [], _∷_, _++_, flatMap};
+ghost use mathlib.Core.List.{List, [], _∷_, _++_};
 ghost use Prim.Native.Nat.{ℕ, _<_};
 ghost use Rattle.small.specs.SmallLogs.{imageWith, AllLegal, Fills, hexDigit, digitsOf};
-ghost use Rattle.small.specs.Tried.{entryCount, legalEntry, oneMore, accepts, legalLogs};
+ghost use Rattle.small.specs.Tried.{entryCount, legalEntry, oneMore, pairs, accepts, legalLogs};
 ghost use Rattle.small.specs.Parts.{logOf, Room, Keeps};
 use log::Reply;
 
@@ -101,7 +101,7 @@ fn keep_each(out: &mut [u64], count: usize, first: u64) -> usize
 // The same of all logs of two legal entries.
 fn keep_pairs(out: &mut [u64], count: usize) -> usize
     requires { ⌜ Room (now out) count ⌝ }
-    ensures { λ r. ⌜ Keeps (flatMap oneMore (oneMore [])) (now (out .entry)) count (now (out .exit)) r ⌝ }
+    ensures { λ r. ⌜ Keeps pairs (now (out .entry)) count (now (out .exit)) r ⌝ }
 {
     let mut n = count;
     for k in 0..ENTRIES {

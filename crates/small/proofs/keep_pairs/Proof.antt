@@ -2,9 +2,8 @@
 use Prim.Native.Nat.{_-_, _≤_}
 use native.Mathlib.Omega.{arith}
 use mathlib.Core.Path.{_≡_, refl, sym, ap, _∙_}
-use mathlib.Core.List.{[], flatMap}
 use lib.ListN.{length}
-use Rattle.small.specs.Tried.{entryCount, oneMore}
+use Rattle.small.specs.Tried.{entryCount, oneMore, pairs}
 use Rattle.small.specs.Parts.{logOf, Room, keepAll}
 use Rattle.small.proofs.Slice.{filled, logsFrom, each-pair, next-entry, no-entry-left}
 use Rattle.small.proofs.keep_pairs.Statement.{statement}
@@ -13,7 +12,7 @@ use Rattle.small.proofs.keep_pairs.Tie as tie
 abbrev Inv-loop : tie.InvT-loop
 Inv-loop out₀ count n₀ k₀ out n k =
     (k ≤ entryCount) × (length out ≡ length out₀) × Room out n
-    × (keepAll (filled out₀ count) (flatMap oneMore (oneMore [])) ≡ keepAll (filled out n) (logsFrom (λ e. oneMore (logOf e)) k))
+    × (keepAll (filled out₀ count) pairs ≡ keepAll (filled out n) (logsFrom (λ e. oneMore (logOf e)) k))
 
 abbrev μ-loop : tie.MeasureT-loop
 μ-loop out₀ count n₀ k₀ out n k = entryCount - k
@@ -42,7 +41,7 @@ loop-again c =
       omega arith,
       k .keep-each .kept .0 ∙ l .inv .1,
       k .keep-each .ensures .1,
-      next-entry (λ e. oneMore (logOf e)) (keepAll (filled (a .out .now) (a .count)) (flatMap oneMore (oneMore []))) (l .out) (l .n) (k .keep-each .last .0)
+      next-entry (λ e. oneMore (logOf e)) (keepAll (filled (a .out .now) (a .count)) pairs) (l .out) (l .n) (k .keep-each .last .0)
           (k .keep-each .result) (l .k) (e .legal-entry .result) (omega arith) (e .legal-entry .ensures) (k .keep-each .ensures) (l .inv .3),
     )
 
@@ -53,7 +52,7 @@ returns : tie.Need-returns Inv-loop μ-loop
 returns c =
     let l = c .before .loop in
     let a = c .before .before .before .args in (
-      sym (no-entry-left (λ e. oneMore (logOf e)) (keepAll (filled (a .out .now) (a .count)) (flatMap oneMore (oneMore []))) (l .out) (l .n) (l .k) (omega arith)
+      sym (no-entry-left (λ e. oneMore (logOf e)) (keepAll (filled (a .out .now) (a .count)) pairs) (l .out) (l .n) (l .k) (omega arith)
           (l .inv .3)),
       l .inv .2,
     )
