@@ -12,7 +12,7 @@ use borrow.Author.Tests.{lt-ltb, ltb-true}
 use Rattle.words.specs.Edition.{Edition, blockBytes, fileEnd}
 use Rattle.words.proofs.Sizes.{sized, split-byte}
 use Rattle.words.specs.BlockMap.{setBlock, setAll}
-use Rattle.words.proofs.Logic.{agree}
+use Rattle.words.proofs.Logic.{take-none, agree}
 use Rattle.log.specs.Entry.{entryOf, legal}
 use Rattle.points.specs.declared.Write.{Write}
 use Rattle.points.specs.declared.Head.{Head}
@@ -105,10 +105,6 @@ pub free-cons : (map : List ℕ) (b : ℕ) (bs : List ℕ) → setAll false map 
 unfolding setAll
 free-cons map zero bs = refl
 free-cons map (suc b) bs = refl
-
-take-none : (n : ℕ) → take {A = ℕ} n [] ≡ []
-take-none zero = refl
-take-none (suc n) = refl
 
 -- at a place of a table; past its end there is 0, and nothing
 pub free-at :

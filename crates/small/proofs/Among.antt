@@ -4,11 +4,11 @@ use native.Mathlib.Decide.{decLt}
 use native.Mathlib.Omega.{arith}
 use mathlib.Core.Path.{_≡_, sym, ap, subst}
 use mathlib.Core.Logic.{inl, inr}
-use mathlib.Core.Bool.{Bool, true, false}
+use mathlib.Core.Bool.{Bool, true}
 use mathlib.Core.List.{List, [], _∷_, _++_, map, flatMap}
 use lib.ListN.{length, getD}
-use Rattle.words.specs.Logic.{some-of, all-of, listFrom}
-use Rattle.words.proofs.Logic.{and-left, and-right, or-left, or-right}
+use Rattle.words.specs.Logic.{all-of, listFrom}
+use Rattle.words.proofs.Logic.{and-left, and-right}
 use Rattle.small.specs.SmallLogs.{Among}
 
 module _ {A : Type 0} where
@@ -29,16 +29,11 @@ module _ {A : Type 0} where
       go (yes g) later = inr (later g)
       go (no g) later = let e : i ≡ k = omega arith in inl (ap f e)
 
-  -- a test that all pass, or none: each element, and the one at a place
+  -- a test that all pass: each element, and the one at a place
   pub all-among : (p : A → Bool) (e : A) (xs : List A) → all-of p xs ≡ true → Among e xs → p e ≡ true
   all-among p e [] t h = absurd h
   all-among p e (x ∷ xs) t (inl h) = subst (λ (y : A). p y ≡ true) h (and-left (p x) (all-of p xs) t)
   all-among p e (x ∷ xs) t (inr h) = all-among p e xs (and-right (p x) (all-of p xs) t) h
-
-  pub none-among : (p : A → Bool) (e : A) (xs : List A) → some-of p xs ≡ false → Among e xs → p e ≡ false
-  none-among p e [] t h = absurd h
-  none-among p e (x ∷ xs) t (inl h) = subst (λ (y : A). p y ≡ false) h (or-left (p x) (some-of p xs) t)
-  none-among p e (x ∷ xs) t (inr h) = none-among p e xs (or-right (p x) (some-of p xs) t) h
 
   pub all-at : (p : A → Bool) (xs : List A) (i : ℕ) (d : A) → all-of p xs ≡ true → i < length xs → p (getD xs i d) ≡ true
   all-at p [] i d t h = absurd (omega arith)

@@ -48,12 +48,13 @@ once xs ys h g = go (or-split _ _ h) (or-split _ _ g)
 tail : (l : List ℕ) (logs : List (List ℕ)) → Ascending (l ∷ logs) → Ascending logs
 tail l logs s i j h g = s (suc i) (suc j) (omega arith) (omega arith)
 
--- the first comes before each other
+-- where an element stands
 place : (es : List ℕ) (logs : List (List ℕ)) → Among es logs → (k : ℕ) × (k < length logs) × (getD logs k [] ≡ es)
 place es [] h = absurd h
 place es (l ∷ logs) (inl h) = (0, omega arith, h)
 place es (l ∷ logs) (inr h) = let p = place es logs h in (suc (p .0), omega (arith, p .1), p .2)
 
+-- the first comes before each other
 first : (l : List ℕ) (logs : List (List ℕ)) → Ascending (l ∷ logs) → (es : List ℕ) → Among es logs → precedes l es ≡ true
 first l logs s es h =
     let p = place es logs h in

@@ -9,6 +9,7 @@ use lib.ListN.{length, getD, take, drop, set, length-append, length-set}
 use lib.Dec.{ltb}
 use borrow.Author.Tests.{lt-ltb, le-ltb}
 use Rattle.words.specs.Logic.{listFrom}
+use Rattle.words.proofs.Logic.{take-none}
 use Rattle.small.specs.SmallLogs.{twoSlots, Fills}
 use Rattle.small.specs.Tried.{entryCount, legalEntry, oneMore, pairs, tried, accepts, kept, legalLogs}
 use Rattle.small.specs.Parts.{Filled, logOf, Room, keep, keepAll, Keeps}
@@ -79,7 +80,7 @@ unfolding keepAll
 all-append f [] ys = refl
 all-append f (x ∷ xs) ys = all-append (keep f x) xs ys
 
--- the logs that go in for the small entries from k on
+-- the logs that go in for the legal entries from k on
 abbrev pub logsFrom : (ℕ → List (List ℕ)) → ℕ → List (List ℕ)
 logsFrom g k = flatMap g (listFrom k (entryCount - k) legalEntry)
 
@@ -143,10 +144,6 @@ module _ (front : List ℕ) (n : ℕ) where
       let z : n + 0 ≡ n = omega arith in
       let e : with-logs back [] ≡ filled (front ++ back) n = ap (filled (front ++ back)) z in
       ap (with-logs back) h ∙ e
-
-take-none : (m : ℕ) → take {A = List ℕ} m [] ≡ []
-take-none zero = refl
-take-none (suc m) = refl
 
 poured-more : (front : List ℕ) (n : ℕ) (es : List ℕ) (x y : ℕ) (back : List ℕ) (logs : List (List ℕ))
     → poured (front ++ twoSlots es) (suc n) back logs ≡ poured front n (x ∷ y ∷ back) (es ∷ logs)

@@ -1,5 +1,5 @@
 -- Every small log (document 02, K9): "all legal logs for a laid-out 4-block image with all-zero data blocks, at most two plain entries, virtual
--- blocks 0 and 1 only, used bytes 512, point 0". What makes a list of logs the list of these, how a slice holds them, and how one is printed.
+-- blocks 0 and 1 only, used bytes 512, point 0". What makes a list of logs the list of these, how a slice holds them, and how an entry is printed.
 use Prim.Native.Nat.{ℕ, _+_, _*_, _-_, _/_, _^_, _≤_, _<_}
 use mathlib.Core.Path.{_≡_}
 use mathlib.Core.Logic.{_↔_, _⊎_}
@@ -80,7 +80,7 @@ Fills logs before after r =
     let shown = take (length before / 2) logs in
     (after ≡ flatMap twoSlots shown ++ drop (2 * length shown) before) × (r ≡ length shown)
 
--- ---- a line
+-- ---- an entry's digits
 
 -- a hexadecimal digit in ASCII, "in capitals": 48 is `0`, 65 is `A`
 unfoldable pub hexDigit : ℕ → ℕ

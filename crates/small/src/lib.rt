@@ -1,4 +1,4 @@
-// Every small log (document 02, K9): all logs of at most two entries of one kind that opening accepts. The definitions are in specs/.
+// Every small log (document 02, K9): all logs of at most two entries of one kind that opening accepts; and an entry's digits. The definitions are in specs/.
 ghost use mathlib.Core.Path.{_≡_};
 ghost use mathlib.Core.List.{List, [], _∷_, _++_};
 ghost use Prim.Native.Nat.{ℕ, _<_};
@@ -10,9 +10,10 @@ use log::Reply;
 // How many entries of that kind are legal in 4 blocks: of one block, and in all.
 const OF_ONE_BLOCK: u64 = 6;
 
-const ENTRIES: u64 = 8;
+const ENTRY_COUNT: u64 = 8;
 
-// The claim: a small log is among `legalLogs` exactly when opening accepts the image with its entries; they ascend, each once, and are 33.
+// The claim: each of `legalLogs` is a small log; a small log is among them exactly when opening accepts the image with its entries; they ascend, and
+// are 33.
 pub fn all_legal()
     ensures { λ _. ⌜ AllLegal legalLogs ⌝ }
 {}
@@ -92,7 +93,7 @@ fn keep_each(out: &mut [u64], count: usize, first: u64) -> usize
     ensures { λ r. ⌜ Keeps (oneMore (logOf first)) (now (out .entry)) count (now (out .exit)) r ⌝ }
 {
     let mut n = count;
-    for k in 0..ENTRIES {
+    for k in 0..ENTRY_COUNT {
         n = keep_longer(out, n, first, legal_entry(k));
     }
     n
@@ -104,7 +105,7 @@ fn keep_pairs(out: &mut [u64], count: usize) -> usize
     ensures { λ r. ⌜ Keeps pairs (now (out .entry)) count (now (out .exit)) r ⌝ }
 {
     let mut n = count;
-    for k in 0..ENTRIES {
+    for k in 0..ENTRY_COUNT {
         n = keep_each(out, n, legal_entry(k));
     }
     n
@@ -132,7 +133,7 @@ fn hex_digit(d: u64) -> u8
 }
 
 // An entry as 16 hexadecimal digits, the highest first.
-pub fn digits(e: u64) -> [u8; 16]
+pub fn digits_of(e: u64) -> [u8; 16]
     ensures { λ r. ⌜ r ≡ digitsOf e ⌝ }
 {
     let mut text = [0u8; 16];

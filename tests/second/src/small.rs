@@ -71,7 +71,7 @@ fn candidates() -> Vec<Vec<u64>> {
 
 /// "shortest first, then by the first entry and then the second as whole numbers,
 /// ascending, each once"
-pub fn small_logs() -> Vec<Vec<u64>> {
+pub fn legal_logs() -> Vec<Vec<u64>> {
     let mut logs = candidates();
     logs.retain(|log| judge(log).is_ok());
     logs.sort_by_key(|log| (log.len(), log.clone()));
@@ -88,5 +88,5 @@ pub fn line_of(log: &[u64]) -> String {
 
 /// What the program prints: "one log a line".
 pub fn smalllogs() -> String {
-    small_logs().iter().map(|log| line_of(log) + "\n").collect()
+    legal_logs().iter().map(|log| line_of(log) + "\n").collect()
 }

@@ -3,7 +3,7 @@
 
 use second::image::Entry;
 use second::random::Random;
-use second::small::{is_of_the_kind, judge, line_of, small_logs, smalllogs};
+use second::small::{is_of_the_kind, judge, line_of, legal_logs, smalllogs};
 use second::smalls;
 
 /// v + 2^16 b + 2^32 n + 2^40 × 512 for the entries that keep the entry's rules: one
@@ -20,7 +20,7 @@ const AB23: u64 = 0x0002_0002_0002_0000;
 
 #[test]
 fn one_5_and_27() {
-    let logs = small_logs();
+    let logs = legal_logs();
     let count = |length: usize| logs.iter().filter(|log| log.len() == length).count();
     assert_eq!((logs.len(), count(0), count(1), count(2)), (33, 1, 5, 27));
 }
@@ -29,7 +29,7 @@ fn one_5_and_27() {
 /// ascending, each once"
 #[test]
 fn strictly_ascending() {
-    for pair in small_logs().windows(2) {
+    for pair in legal_logs().windows(2) {
         let (one, other) = (&pair[0], &pair[1]);
         let first = one.iter().zip(other).find(|(x, y)| x != y);
         let ascends = one.len() < other.len()
@@ -62,7 +62,7 @@ fn the_logs_by_hand() {
     for (first, seconds) in seconds {
         expected.extend(seconds.iter().map(|&second| vec![first, second]));
     }
-    assert_eq!(small_logs(), expected);
+    assert_eq!(legal_logs(), expected);
 }
 
 #[test]
@@ -106,7 +106,7 @@ fn is_legal(log: &[u64]) -> bool {
 /// 300 random small logs meet every case, with each of 40 seeds.
 #[test]
 fn random_small_logs() {
-    let all = small_logs();
+    let all = legal_logs();
     for seed in 0..40 {
         let mut met = Vec::new();
         for index in 0..300 {

@@ -1,4 +1,4 @@
--- No room, not accepts, or two words more.
+-- No room, not accepted, or two words more.
 use Prim.Native.Nat.{_+_, _*_, _<_}
 use native.Mathlib.Omega.{arith}
 use mathlib.Core.Path.{sym, _∙_}
@@ -45,7 +45,7 @@ add-out c = search needs
 mul-out-2 : tie.Need-mul-out-2
 mul-out-2 c = search needs
 
--- where there is room and the log is accepts
+-- where there is room and the log is accepted
 room-for-two : (c : tie.Else2) → let a = c .before .before .before .before .args in 2 * a .count + 1 < length (a .out .now)
 room-for-two c = omega (arith, c .before .before .if1 .left)
 

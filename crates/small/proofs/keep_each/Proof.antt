@@ -1,4 +1,4 @@
--- One small entry after the other.
+-- One legal entry after the other.
 use Prim.Native.Nat.{_-_, _≤_}
 use native.Mathlib.Omega.{arith}
 use mathlib.Core.Path.{_≡_, refl, sym, ap, _∙_}

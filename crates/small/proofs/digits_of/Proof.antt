@@ -8,8 +8,8 @@ use Rattle.words.specs.Logic.{listFrom}
 use Rattle.words.specs.Word.{bits}
 use Rattle.words.proofs.Logic.{listFrom-set}
 use Rattle.small.specs.SmallLogs.{hexDigit}
-use Rattle.small.proofs.digits.Statement.{statement}
-use Rattle.small.proofs.digits.Tie as tie
+use Rattle.small.proofs.digits_of.Statement.{statement}
+use Rattle.small.proofs.digits_of.Tie as tie
 
 abbrev digitAt : ℕ → ℕ → ℕ
 digitAt e i = hexDigit (bits e (60 - 4 * i) 4)
@@ -61,8 +61,8 @@ loop-again c =
 returns : tie.Need-returns Inv-loop μ-loop
 returns c = let l = c .before .loop in let n : l .i ≡ 16 = omega arith in rw n at (l .inv .1)
 
-pub digits-spec : {M : Type 1} → statement M
-digits-spec =
+pub digits-of-spec : {M : Type 1} → statement M
+digits-of-spec =
     tie.close
     (tie.spec
     Inv-loop
