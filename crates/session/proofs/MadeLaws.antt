@@ -8,7 +8,6 @@ use native.Mathlib.Numerals.{add-one}
 use lib.ListN.{length, take, drop, set, drop-of-length-le}
 use lib.Seq.{take-suc-set, take-all, append-snoc}
 use Rattle.words.specs.Logic.{listFrom}
-use Rattle.words.proofs.Logic.{listFrom-set}
 use Rattle.session.specs.Made.{firstNoise, scrambled, noise, textByte, textOf}
 
 pub first-zero : {s : ℕ} → s ≡ 0 → firstNoise s ≡ 88172645463325252
@@ -46,9 +45,6 @@ module _ (x n i : ℕ) (part whole : List ℕ) (size : length part ≡ n) (so-fa
       sym (append-nil part) ∙ s
 
 module _ (seed i : ℕ) (text before : List ℕ) (so-far : text ≡ listFrom 0 i (textByte seed) ++ drop i before) where
-  pub text-next : i < length before → set text i (textByte seed i) ≡ listFrom 0 (i + 1) (textByte seed) ++ drop (i + 1) before
-  text-next l = let z : 0 + i ≡ i = omega arith in rw (so-far, add-one) (rw z at (listFrom-set 0 i (textByte seed) before l))
-
   pub text-end : i ≡ length before → text ≡ textOf seed (length before)
   unfolding textOf
   text-end e =

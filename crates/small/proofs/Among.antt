@@ -6,7 +6,6 @@ use mathlib.Core.Path.{_≡_, sym, ap, subst}
 use mathlib.Core.Logic.{inl, inr}
 use mathlib.Core.Bool.{Bool, true}
 use mathlib.Core.List.{List, [], _∷_, _++_, map, flatMap}
-use lib.ListN.{length, getD}
 use Rattle.words.specs.Logic.{all-of, listFrom}
 use Rattle.words.proofs.Logic.{and-left, and-right}
 use Rattle.small.specs.SmallLogs.{Among}
@@ -29,16 +28,11 @@ module _ {A : Type 0} where
       go (yes g) later = inr (later g)
       go (no g) later = let e : i ≡ k = omega arith in inl (ap f e)
 
-  -- a test that all pass: each element, and the one at a place
+  -- an element of a list that all pass
   pub all-among : (p : A → Bool) (e : A) (xs : List A) → all-of p xs ≡ true → Among e xs → p e ≡ true
   all-among p e [] t h = absurd h
   all-among p e (x ∷ xs) t (inl h) = subst (λ (y : A). p y ≡ true) h (and-left (p x) (all-of p xs) t)
   all-among p e (x ∷ xs) t (inr h) = all-among p e xs (and-right (p x) (all-of p xs) t) h
-
-  pub all-at : (p : A → Bool) (xs : List A) (i : ℕ) (d : A) → all-of p xs ≡ true → i < length xs → p (getD xs i d) ≡ true
-  all-at p [] i d t h = absurd (omega arith)
-  all-at p (x ∷ xs) zero d t h = and-left (p x) (all-of p xs) t
-  all-at p (x ∷ xs) (suc i) d t h = all-at p xs i d (and-right (p x) (all-of p xs) t) (omega arith)
 
 module _ {A B : Type 0} where
   pub in-map : (f : A → B) (x : A) (xs : List A) → Among x xs → Among (f x) (map f xs)

@@ -16,13 +16,13 @@ use Rattle.log.specs.Chain.{log}
 use Rattle.log.specs.Entry.{legal}
 use Rattle.log.specs.Opening.{badEntry, openRefusal}
 use Rattle.words.proofs.Logic.{and-left, and-right}
-use Rattle.words.proofs.Tests.{zero-is, is-zero}
+use Rattle.words.proofs.Tests.{zero-is, is-zero, all-of-at}
 use Rattle.log.proofs.Reasons.{entries-legal}
 use Rattle.log.proofs.Opening.{refusal-passed}
 use Rattle.small.specs.SmallLogs.{SmallEntry, SmallLog, Among, imageWith, precedes, Ascending, AllLegal}
 use Rattle.small.specs.Tried.{legalEntries, oneMore, pairs, tried, legalLogs}
 use Rattle.small.specs.Computing.{computing}
-use Rattle.small.proofs.Among.{in-front, in-back, in-map, in-each, all-among, all-at}
+use Rattle.small.proofs.Among.{in-front, in-back, in-map, in-each, all-among}
 use Rattle.small.proofs.Kept.{accepts-is, kept-in, kept-of}
 use Rattle.small.proofs.Entries.{isSmall, small-is, legal-small}
 
@@ -106,7 +106,7 @@ sorted (l ∷ logs) = all-of (precedes l) logs && sorted logs
 sorted-at : (logs : List (List ℕ)) → sorted logs ≡ true → Ascending logs
 sorted-at [] t i j h l = absurd (omega arith)
 sorted-at (x ∷ logs) t i zero h l = absurd (omega arith)
-sorted-at (x ∷ logs) t zero (suc j) h l = all-at (precedes x) logs j [] (and-left (all-of (precedes x) logs) (sorted logs) t) (omega arith)
+sorted-at (x ∷ logs) t zero (suc j) h l = all-of-at (precedes x) logs j [] (and-left (all-of (precedes x) logs) (sorted logs) t) (omega arith)
 sorted-at (x ∷ logs) t (suc i) (suc j) h l = sorted-at logs (and-right (all-of (precedes x) logs) (sorted logs) t) i j (omega arith) (omega arith)
 
 in-order : sorted legalLogs ≡ true

@@ -3,8 +3,8 @@ use Prim.Native.Nat.{ℕ, zero, suc}
 use mathlib.Core.Path.{_≡_, refl, sym, ap, _∙_}
 use mathlib.Core.Bool.{Bool, true, false}
 use mathlib.Core.List.{List, [], _∷_}
-use lib.ListN.{set, replicate}
-use Rattle.words.specs.Edition.{one, blocksMax}
+use lib.ListN.{set}
+use Rattle.words.specs.Edition.{one}
 use Rattle.words.specs.Logic.{isZero}
 use Rattle.log.specs.declared.Opened.{Opened}
 use Rattle.log.specs.declared.Reply.{Reply}
@@ -13,7 +13,7 @@ use Rattle.log.specs.Opening.{replyOf, openRefusal, opened}
 use Rattle.words.proofs.Tests.{is-zero}
 use Rattle.log.proofs.Replies.{done-none, opened-replies}
 use Rattle.small.specs.SmallLogs.{blank, imageWith}
-use Rattle.small.specs.Tried.{accepts}
+use Rattle.small.specs.Tried.{enough, accepts}
 use Rattle.small.specs.Computing.{computing}
 
 -- two words set in the log's first slots
@@ -35,7 +35,7 @@ one-entry e = refl
 
 same-image : (es fs : List ℕ) → imageWith es ≡ imageWith fs → accepts es ≡ accepts fs
 unfolding accepts
-same-image es fs e = ap (λ (i : List ℕ). isZero (openRefusal one i (replicate blocksMax 0))) e
+same-image es fs e = ap (λ (i : List ℕ). isZero (openRefusal one i enough)) e
 
 pub accepts-none : accepts (0 ∷ 0 ∷ []) ≡ accepts []
 accepts-none = same-image (0 ∷ 0 ∷ []) [] no-entry
@@ -44,20 +44,20 @@ pub accepts-one : (e : ℕ) → accepts (e ∷ 0 ∷ []) ≡ accepts (e ∷ [])
 accepts-one e = same-image (e ∷ 0 ∷ []) (e ∷ []) (one-entry e)
 
 -- opening's reply
-module _ (words es : List ℕ) (o : Opened) (i : words ≡ imageWith es) (e : o ≡ opened one words (replicate blocksMax 0)) where
-  replied : o .reply ≡ replyOf (openRefusal one (imageWith es) (replicate blocksMax 0))
-  replied = ap (λ (x : Opened). x .reply) e ∙ opened-replies one words (replicate blocksMax 0)
-      ∙ ap (λ (l : List ℕ). replyOf (openRefusal one l (replicate blocksMax 0))) i
+module _ (words es : List ℕ) (o : Opened) (i : words ≡ imageWith es) (e : o ≡ opened one words enough) where
+  replied : o .reply ≡ replyOf (openRefusal one (imageWith es) enough)
+  replied = ap (λ (x : Opened). x .reply) e ∙ opened-replies one words enough
+      ∙ ap (λ (l : List ℕ). replyOf (openRefusal one l enough)) i
 
   pub replied-done : o .reply ≡ Done → true ≡ accepts es
   unfolding accepts
   replied-done d =
-      let n = openRefusal one (imageWith es) (replicate blocksMax 0) in
+      let n = openRefusal one (imageWith es) enough in
       sym (is-zero n (done-none n (sym replied ∙ d)))
 
   pub replied-refused : (k : ℕ) → o .reply ≡ Refused k → false ≡ accepts es
   unfolding accepts
-  replied-refused k d = go (openRefusal one (imageWith es) (replicate blocksMax 0)) (sym replied ∙ d)
+  replied-refused k d = go (openRefusal one (imageWith es) enough) (sym replied ∙ d)
     where
       isRefused : Reply → Bool
       isRefused Done = false

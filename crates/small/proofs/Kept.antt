@@ -5,21 +5,21 @@ use mathlib.Core.Path.{_≡_, refl, sym, ap, subst, _∙_}
 use mathlib.Core.Logic.{_⊎_, inl, inr}
 use mathlib.Core.Bool.{Bool, true, false}
 use mathlib.Core.List.{List, [], _∷_}
-use lib.ListN.{length, replicate, length-replicate}
+use lib.ListN.{length, length-replicate}
 use Rattle.words.specs.Edition.{one, blocksMax}
 use Rattle.words.specs.Logic.{isZero}
 use Rattle.log.specs.Opening.{openRefusal}
 use Rattle.log.proofs.Opening.{refusal-scratch}
 use Rattle.small.specs.SmallLogs.{Among, imageWith}
-use Rattle.small.specs.Tried.{accepts, kept}
+use Rattle.small.specs.Tried.{enough, accepts, kept}
 
--- opening with a scratch that is long enough; any other such gives the same
-pub enough : blocksMax ≤ length (replicate {A = ℕ} blocksMax 0)
-enough = omega (arith, length-replicate {A = ℕ} blocksMax 0)
+-- the scratch is long enough, and any other such gives the same
+pub enough-long : blocksMax ≤ length enough
+enough-long = omega (arith, length-replicate {A = ℕ} blocksMax 0)
 
 pub accepts-is : (es scratch : List ℕ) → blocksMax ≤ length scratch → accepts es ≡ isZero (openRefusal one (imageWith es) scratch)
 unfolding accepts
-accepts-is es scratch long = rw (refusal-scratch one (imageWith es) (replicate blocksMax 0) scratch enough long)
+accepts-is es scratch long = rw (refusal-scratch one (imageWith es) enough scratch enough-long long)
 
 -- what is kept
 pub kept-yes : (es : List ℕ) (logs : List (List ℕ)) → accepts es ≡ true → kept (es ∷ logs) ≡ es ∷ kept logs

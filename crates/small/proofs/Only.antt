@@ -5,21 +5,21 @@ use mathlib.Core.Path.{_≡_, refl, sym, ap, subst, _∙_}
 use mathlib.Core.Logic.{_⊎_, inl, inr}
 use mathlib.Core.Bool.{true, false, _&&_}
 use mathlib.Core.List.{List, [], _∷_}
-use lib.ListN.{length, getD, replicate}
+use lib.ListN.{length, getD}
 use lib.Dec.{ltb, eqb}
 use borrow.Author.Tests.{ltb-true, eqb-true}
-use Rattle.words.specs.Edition.{blocksMax}
 use Rattle.words.proofs.Logic.{and-left, and-right}
 use Rattle.words.proofs.Tests.{or-split, no-true}
 use Rattle.small.specs.SmallLogs.{Among, smaller, precedes, Ascending, AllLegal}
-use Rattle.small.proofs.Kept.{enough}
+use Rattle.small.specs.Tried.{enough}
+use Rattle.small.proofs.Kept.{enough-long}
 
 -- ---- the order is strict
 
 smaller-once : (xs ys : List ℕ) → smaller xs ys ≡ true → smaller ys xs ≡ true → ⊥
 smaller-once [] ys h g = no-true {b = false} h refl
 smaller-once (x ∷ xs) [] h g = no-true {b = false} h refl
-smaller-once (x ∷ xs) (y ∷ ys) h g = go (or-split (ltb x y) (eqb x y && smaller xs ys) h) (or-split (ltb y x) (eqb y x && smaller ys xs) g) (smaller-once xs ys)
+smaller-once (x ∷ xs) (y ∷ ys) h g = go (or-split _ _ h) (or-split _ _ g) (smaller-once xs ys)
   where
     go : (ltb x y ≡ true) ⊎ (eqb x y && smaller xs ys ≡ true) → (ltb y x ≡ true) ⊎ (eqb y x && smaller ys xs ≡ true)
         → (smaller xs ys ≡ true → smaller ys xs ≡ true → ⊥) → ⊥
@@ -95,6 +95,5 @@ only-one xs ys a b = one-list xs ys (a .ascending) (b .ascending) (within xs ys 
   where
     within : (us vs : List (List ℕ)) → AllLegal us → AllLegal vs → Within us vs
     within us vs c d es h =
-        let scratch = replicate {A = ℕ} blocksMax 0 in
         let small = c .small es h in
-        d .exact es small scratch enough .1 (c .exact es small scratch enough .0 h)
+        d .exact es small enough enough-long .1 (c .exact es small enough enough-long .0 h)

@@ -13,13 +13,13 @@ use Rattle.words.specs.Word.{bits}
 use Rattle.log.specs.Entry.{entryU, entryPoint, covers}
 use Rattle.log.specs.Opening.{layout, openRefusal}
 
--- ---- the kind
-
--- e is one of them
+-- e is an element of the list
 module _ {A : Type 0} where
   abbrev pub Among : A → List A → Type 0
   Among e [] = ⊥
   Among e (x ∷ xs) = (x ≡ e) ⊎ Among e xs
+
+-- ---- the kind
 
 -- "virtual blocks 0 and 1 only, used bytes 512, point 0"; otherwise any word
 pub record SmallEntry (w : ℕ) : Type 0 where
@@ -82,10 +82,14 @@ Fills logs before after r =
 
 -- ---- an entry's digits
 
--- a hexadecimal digit in ASCII, "in capitals": 48 is `0`, 65 is `A`
+-- a hexadecimal digit in ASCII, in capitals: 48 is `0`, 65 is `A`
 unfoldable pub hexDigit : ℕ → ℕ
 hexDigit d = elim (ltb d 10) [ true ↦ 48 + d | false ↦ 55 + d ]
 
--- "each entry as 16 hexadecimal digits": four bits each, the highest first
+-- an entry's digit i is four bits, the highest first
+abbrev pub digitAt : ℕ → ℕ → ℕ
+digitAt e i = hexDigit (bits e (60 - 4 * i) 4)
+
+-- "each entry as 16 hexadecimal digits"
 abbrev pub digitsOf : ℕ → List ℕ
-digitsOf e = listFrom 0 16 (λ i. hexDigit (bits e (60 - 4 * i) 4))
+digitsOf e = listFrom 0 16 (digitAt e)

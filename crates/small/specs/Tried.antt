@@ -40,9 +40,13 @@ pairs = flatMap oneMore (oneMore [])
 unfoldable pub tried : List (List ℕ)
 tried = [] ∷ oneMore [] ++ pairs
 
+-- a scratch that is long enough
+abbrev pub enough : List ℕ
+enough = replicate blocksMax 0
+
 -- opening accepts the image with these entries
 unfoldable pub accepts : List ℕ → Bool
-accepts es = isZero (openRefusal one (imageWith es) (replicate blocksMax 0))
+accepts es = isZero (openRefusal one (imageWith es) enough)
 
 -- those that opening accepts
 unfoldable pub kept : List (List ℕ) → List (List ℕ)

@@ -40,8 +40,8 @@ fn image_with(first: u64, second: u64) -> [u64; 256]
 {
     let mut image = [0u64; 256];
     log::layout::lay_out(&mut image);
-    image[66] = first;
-    image[67] = second;
+    words::image::store(&mut image, 1, 2, first);
+    words::image::store(&mut image, 1, 3, second);
     image
 }
 

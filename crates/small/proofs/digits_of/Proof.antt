@@ -1,26 +1,14 @@
 -- After i digits the first i stand there.
-use Prim.Native.Nat.{ℕ, suc, _+_, _*_, _-_, _≤_, _<_}
+use Prim.Native.Nat.{_-_, _≤_}
 use native.Mathlib.Omega.{arith}
-use mathlib.Core.Path.{_≡_, refl, ap, _∙_}
-use mathlib.Core.List.{List, _++_}
-use lib.ListN.{length, drop, set, replicate}
+use mathlib.Core.Path.{_≡_, refl}
+use mathlib.Core.List.{_++_}
+use lib.ListN.{drop, replicate}
 use Rattle.words.specs.Logic.{listFrom}
-use Rattle.words.specs.Word.{bits}
-use Rattle.words.proofs.Logic.{listFrom-set}
-use Rattle.small.specs.SmallLogs.{hexDigit}
+use Rattle.words.proofs.Logic.{listFrom-next}
+use Rattle.small.specs.SmallLogs.{digitAt}
 use Rattle.small.proofs.digits_of.Statement.{statement}
 use Rattle.small.proofs.digits_of.Tie as tie
-
-abbrev digitAt : ℕ → ℕ → ℕ
-digitAt e i = hexDigit (bits e (60 - 4 * i) 4)
-
-one-more : (f : ℕ → ℕ) (text xs : List ℕ) (i v : ℕ) → i < length xs → v ≡ f i → text ≡ listFrom 0 i f ++ drop i xs
-    → set text i v ≡ listFrom 0 (i + 1) f ++ drop (i + 1) xs
-one-more f text xs i v h e from =
-    let n : suc i ≡ i + 1 = omega arith in
-    let z : i ≡ 0 + i = omega arith in
-    ap (λ t. set t i v) from ∙ ap (set (listFrom 0 i f ++ drop i xs) i) (e ∙ ap f z) ∙ listFrom-set 0 i f xs h
-    ∙ ap (λ k. listFrom 0 k f ++ drop k xs) n
 
 abbrev Inv-loop : tie.InvT-loop
 Inv-loop e text₀ i₀ text i = (i ≤ 16) × (text ≡ listFrom 0 i (digitAt e) ++ drop i (replicate 16 0))
@@ -56,7 +44,7 @@ loop-again : tie.Need-loop-again Inv-loop μ-loop
 loop-again c =
     let l = c .before .before .loop in
     let e = c .before .before .before .args .e in
-    (omega arith, one-more (digitAt e) (l .text) (replicate 16 0) (l .i) (c .hex-digit .result) (omega arith) (c .hex-digit .ensures) (l .inv .1))
+    (omega arith, listFrom-next (digitAt e) (l .text) (replicate 16 0) (l .i) (c .hex-digit .result) (l .inv .1) (c .hex-digit .ensures) (omega arith))
 
 returns : tie.Need-returns Inv-loop μ-loop
 returns c = let l = c .before .loop in let n : l .i ≡ 16 = omega arith in rw n at (l .inv .1)

@@ -6,7 +6,8 @@ use native.Mathlib.Omega.{arith}
 use lib.ListN.{length, drop, length-set}
 use Rattle.words.specs.Logic.{listFrom}
 use Rattle.session.specs.Made.{textByte}
-use Rattle.session.proofs.MadeLaws.{text-next, text-end}
+use Rattle.words.proofs.Logic.{listFrom-next}
+use Rattle.session.proofs.MadeLaws.{text-end}
 use Rattle.session.proofs.calls.fill_text.Statement.{statement}
 use Rattle.session.proofs.calls.fill_text.Tie as tie
 
@@ -41,7 +42,7 @@ loop-less c = omega arith
 loop-again : tie.Need-loop-again Inv-loop μ-loop
 loop-again c = let l = c .before .loop in
     let a = c .before .before .args in
-    (refl, omega arith, simp length-set (l .inv .2), text-next (a .seed) (l .i) (l .text) (a .text .now) (l .inv .3) (omega arith))
+    (refl, omega arith, simp length-set (l .inv .2), listFrom-next (textByte (a .seed)) (l .text) (a .text .now) (l .i) _ (l .inv .3) refl (omega arith))
 
 same-length : tie.Need-same-length Inv-loop μ-loop
 same-length c = c .before .loop .inv .2

@@ -1,14 +1,13 @@
 -- After i words the first i are those that the bytes make, and the others are as they came.
-use mathlib.Core.Path.{_≡_, refl, sym, ap, _∙_}
-use mathlib.Core.List.{List, _++_}
-use Prim.Native.Nat.{ℕ, _+_, _-_, _*_, _≤_}
-use native.Mathlib.Numerals.{add-one}
+use mathlib.Core.Path.{_≡_, refl, _∙_}
+use mathlib.Core.List.{_++_}
+use Prim.Native.Nat.{ℕ, _-_, _*_, _≤_}
 use native.Mathlib.Omega.{arith}
-use lib.ListN.{length, drop, set, getD, length-set}
+use lib.ListN.{length, drop, getD, length-set}
 use borrow.Author.Tests.{ltb-true, ltb-false}
 use Rattle.words.specs.Logic.{listFrom}
 use Rattle.words.specs.Word.{fromBytes, wordsOf}
-use Rattle.words.proofs.Logic.{listFrom-set}
+use Rattle.words.proofs.Logic.{listFrom-next}
 use Rattle.words.proofs.bytes.words_of.Statement.{statement}
 use Rattle.words.proofs.bytes.words_of.Tie as tie
 
@@ -47,15 +46,11 @@ loop-again : tie.Need-loop-again Inv-loop μ-loop
 loop-again c = let turn = c .before .before .before in
     let l = turn .loop in
     let a = turn .before .before .before .before .args in
-    let z : 0 + l .i ≡ l .i = omega arith in
-    let m : List ℕ = a .words .now in
     let w : ℕ → ℕ = λ k. fromBytes (listFrom (8 * k) 8 (λ j. getD (a .bytes .now) j 0)) in (
       omega arith,
       omega (arith, ltb-true),
       length-set (l .words) (l .i) (c .word-at .result) ∙ l .inv .2,
-      ap (λ (x : List ℕ). set x (l .i) (c .word-at .result)) (l .inv .3)
-          ∙ ap (set (wordsOf (a .bytes .now) (l .i) ++ drop (l .i) m) (l .i)) (c .word-at .ensures ∙ ap w (sym z))
-          ∙ listFrom-set 0 (l .i) w m (omega (arith, ltb-true)) ∙ (rw add-one),
+      listFrom-next w (l .words) (a .words .now) (l .i) (c .word-at .result) (l .inv .3) (c .word-at .ensures) (omega (arith, ltb-true)),
     )
 
 same-length : tie.Need-same-length Inv-loop μ-loop
