@@ -3,7 +3,7 @@ use Prim.Native.Nat.{ℕ, zero, suc, _+_, _-_, _≤_, _<_}
 use mathlib.Core.Path.{_≡_}
 use mathlib.Core.Bool.{Bool, true, false, _&&_}
 use mathlib.Core.List.{List, [], _∷_, _++_}
-use mathlib.Core.Option.{Option}
+use mathlib.Core.Option.{Option, none}
 use lib.ListN.{getD}
 use lib.Dec.{leb, ltb}
 use Rattle.words.specs.Edition.{Edition, one, blocksMax, fileBlocks, fileEnd}
@@ -14,7 +14,7 @@ use Rattle.log.specs.declared.Shared.{Shared}
 use Rattle.log.specs.declared.Place.{Place}
 use Rattle.log.specs.Entry.{legal}
 use Rattle.log.specs.Replay.{Mapped}
-use Rattle.log.specs.CatchUp.{ahead, broken}
+use Rattle.log.specs.CatchUp.{Walk, ahead, placeAfter, broken}
 use Rattle.points.specs.declared.Write.{Write}
 use Rattle.points.specs.declared.Head.{Head}
 use Rattle.points.specs.declared.Point.{Point}
@@ -28,10 +28,12 @@ use Rattle.points.specs.declared.plan.Reads.the-variants.{NoEntry, OwnEn
 use Rattle.points.specs.declared.plan.Frees.{Frees}
 use Rattle.points.specs.declared.plan.Frees.the-variants.{NoBlock, Run, Replaced, Zeroed}
 use Rattle.points.specs.declared.plan.Plan.{Plan}
+use Rattle.points.specs.declared.read_step.Ahead.{Ahead}
 use Rattle.points.specs.Record.{textMax, runFirst, runBlocks, runWords, pointOf, recordReasons, brokenAhead}
 use Rattle.points.specs.Search.{sharedOf}
-use Rattle.points.specs.Plan.{storedAt}
-use Rattle.points.specs.Stepping.{stepRefusal, stepping, StepLeaves}
+use Rattle.points.specs.Plan.{Outcome, answered, storedAt}
+use Rattle.points.specs.ReadSteps.{covered}
+use Rattle.points.specs.Stepping.{stepRefusal, stepping, bytesAfter, StepLeaves}
 use Rattle.points.specs.Reading.{seen}
 
 -- ---- answers: the record is the head that is answered, with the arrays as they are left
@@ -49,9 +51,23 @@ pub record Stores (words : List ℕ) (store : Option Store) (image : List ℕ) (
   pub stored : image ≡ after one words store
   pub place : word ≡ storedAt one store
 
+-- what a step of a write leaves, to which no bytes are lent, and which word of the image it stored
+pub record WriteTells (words : List ℕ) (s : Shared) (p : Point) (answer : Stepped) (image : List ℕ) (word : ℕ) : Type 0 where
+  pub answers : answer ≡ answered (stepping one words s p)
+  pub stored : image ≡ after one words (stepping one words s p .store)
+  pub silent : stepping one words s p .bytes ≡ []
+  pub place : word ≡ storedAt one (stepping one words s p .store)
+
+-- what a step of a read leaves, by an outcome of which the shared record's map is no part: nothing is stored
+pub record ReadTells (outcome : Shared → Outcome) (n : Numbers) (lent : List ℕ) (left : LentStepped) (table text bytes : List ℕ) : Type 0 where
+  pub answers : (taken : List ℕ) → steppedOf n left taken table text ≡ answered (outcome (sharedOf n taken))
+  pub unstored : (taken : List ℕ) → outcome (sharedOf n taken) .store ≡ none
+  pub handed : (taken : List ℕ) → bytes ≡ bytesAfter (outcome (sharedOf n taken) .bytes) lent
+  pub place : left .word ≡ 0
+
 -- what a step leaves, and which word of the image it stored
-pub record StepTells (words : List ℕ) (s : Shared) (p : Point) (answer : Stepped) (image : List ℕ) (word : ℕ) : Type 0 where
-  pub leaves : StepLeaves words s p answer image
+pub record StepTells (words : List ℕ) (s : Shared) (p : Point) (lent : List ℕ) (answer : Stepped) (image bytes : List ℕ) (word : ℕ) : Type 0 where
+  pub leaves : StepLeaves words s p lent answer image bytes
   pub place : word ≡ storedAt one (stepping one words s p .store)
 
 -- ---- plans
@@ -79,6 +95,11 @@ InTable NoBlock E w = Unit {0}
 InTable Run E w = Unit {0}
 InTable Replaced E w = runFirst E w + runBlocks E w ≤ fileBlocks
 InTable Zeroed E w = Unit {0}
+
+-- ---- what the last step of a read sees ahead
+
+abbrev pub aheadOf : Edition → ℕ → Head → Walk → Ahead
+aheadOf E blocks h w = record { broken = broken E blocks w; covered = covered E (h .write) (w .entries); place = placeAfter (h .place) w }
 
 -- ---- the file as a point sees it, caught up privately
 

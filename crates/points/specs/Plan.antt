@@ -112,12 +112,13 @@ storedAt E (some s) = s .block * E .blockWords + s .word
 
 -- ---- carrying it out
 
--- the answer, both records, and at most one store
+-- the answer, both records, at most one store, and the bytes that a read answers, beside the answer
 pub record Outcome : Type 0 where
   pub step : StepAnswer
   pub shared : Shared
   pub point : Point
   pub store : Option Store
+  pub bytes : List ℕ
 
 -- what the call answers of an outcome; its store is made in the image
 abbrev pub answered : Outcome → Stepped
@@ -133,4 +134,5 @@ carriedOut E m s p plan =
       shared = withTaken s (setAll true (freed (plan .frees) E (s .taken) (h .write) (p .table)) (plan .takes ∷ []));
       point = pointOf (standing h (f .size) (plan .place) (plan .write)) (f .table) (textAfter (plan .clears) (p .text));
       store = storeOf E (plan .kind) (plan .block) (plan .word) (plan .value);
+      bytes = [];
     }

@@ -8,11 +8,17 @@ use Rattle.log.specs.declared.Shared.{Shared}
 use Rattle.log.specs.declared.Place.{Place}
 use Rattle.log.specs.CatchUp.{ahead, placeAfter}
 use Rattle.points.specs.declared.Head.{Head}
+use Rattle.points.specs.declared.Numbers.{Numbers}
 use Rattle.points.specs.Record.{span}
-use Rattle.points.specs.Search.{search}
-use Rattle.points.specs.Calls.{beginRefusal}
+use Rattle.points.specs.Search.{sharedOf, search}
+use Rattle.points.specs.Calls.{beginRefusal, beginReadRefusal}
 
--- the first reason that holds and, where none does, the log place at the tail and the run's first block
+-- of either kind: the first reason that holds and, where none does, the log place at the tail; the map of taken blocks has no say
+pub record Settled (words : List ℕ) (n : Numbers) (h : Head) (table : List ℕ) (offset size reason : ℕ) (place : Place) : Type 0 where
+  pub refusal : (taken : List ℕ) → reason ≡ beginReadRefusal one words (sharedOf n taken) h table offset size
+  pub tail : reason ≡ 0 → place ≡ placeAfter (h .place) (ahead one (memory one words) (n .blocks) (h .place))
+
+-- of a write: the run's first block too
 pub record Started (words : List ℕ) (s : Shared) (h : Head) (table : List ℕ) (offset size reason : ℕ) (place : Place) (run : ℕ) : Type 0 where
   pub refusal : reason ≡ beginRefusal one words s h table offset size
   pub tail : reason ≡ 0 → place ≡ placeAfter (h .place) (ahead one (memory one words) (s .blocks) (h .place))

@@ -1,11 +1,12 @@
-// Beginning a write.
+// Beginning a write, and beginning a read.
 ghost use mathlib.Core.Path.{_≡_};
-ghost use Prim.Native.Nat.{_≤_};
+ghost use mathlib.Core.List.{List};
+ghost use Prim.Native.Nat.{ℕ, _≤_};
 ghost use lib.ListN.{length};
 ghost use Rattle.words.specs.Edition.{one};
 ghost use Rattle.points.specs.Record.{pointOf};
-ghost use Rattle.points.specs.Calls.{newWrite, textOf, beginning};
-ghost use Rattle.points.specs.Start.{Started};
+ghost use Rattle.points.specs.Calls.{newWrite, newRead, textOf, beginning, beginningRead};
+ghost use Rattle.points.specs.Start.{Settled, Started};
 ghost use Rattle.points.specs.Search.{sharedOf};
 ghost use Rattle.points.specs.Lent.{begunOf};
 use crate::Begun;
@@ -40,18 +41,16 @@ fn refused(reason: u32) -> Start
     }
 }
 
-// The first reason that holds. The walk to the tail settles 18, the search 19; nothing is changed.
+// The first reason that holds of those that a write and a read share, 18 being the last: the walk to the tail settles it. Nothing is changed.
 fn settle(
     image: &[u64],
     numbers: Numbers,
-    taken: &[u64; 16],
     head: Head,
     table: &[u16; 256],
     offset: usize,
     size: usize,
 ) -> Start
-    ensures { λ r. ⌜ Started (now (image .entry)) (sharedOf numbers (now (taken .entry))) head (now (table .entry)) offset size
-        (r .reason) (r .place) (r .run) ⌝ }
+    ensures { λ r. ⌜ Settled (now (image .entry)) numbers head (now (table .entry)) offset size (r .reason) (r .place) ⌝ }
 {
     let reason = crate::record::unfit_numbers(image, numbers, head, table);
     if reason != 0 {
@@ -72,12 +71,37 @@ fn settle(
     if seen.broken {
         return refused(log::LOG_BROKEN);
     }
+    let place = seen.place;
+    Start {
+        reason: 0,
+        place,
+        run: 0,
+    }
+}
+
+// The same for a write, with 19: the search settles it.
+fn settle_write(
+    image: &[u64],
+    numbers: Numbers,
+    taken: &[u64; 16],
+    head: Head,
+    table: &[u16; 256],
+    offset: usize,
+    size: usize,
+) -> Start
+    ensures { λ r. ⌜ Started (now (image .entry)) (sharedOf numbers (now (taken .entry))) head (now (table .entry)) offset size
+        (r .reason) (r .place) (r .run) ⌝ }
+{
+    let start = settle(image, numbers, head, table, offset, size);
+    if start.reason != 0 {
+        return refused(start.reason);
+    }
     let span = crate::record::span(offset as u32, size as u32);
     let run = words::map::search(taken, numbers.blocks, span);
     if run == 0 {
         return refused(crate::NO_RUN);
     }
-    let place = seen.place;
+    let place = start.place;
     Start {
         reason: 0,
         place,
@@ -111,6 +135,21 @@ fn new_write(offset: u32, size: u32, run: u32) -> Write
     }
 }
 
+// The read as it begins.
+pub(crate) fn new_read(offset: u32, size: u32) -> Write
+    ensures { λ r. ⌜ r ≡ newRead offset size ⌝ }
+{
+    Write {
+        offset,
+        size,
+        run: 0,
+        phase: Phase::Reading,
+        position: 0,
+        zeroing: 0,
+        retries: 0,
+    }
+}
+
 // Beginning, with the map and the record's table and text lent: the point catches up and takes a run of the blocks that the write spans.
 pub fn begin_lent(
     image: &[u64],
@@ -125,7 +164,7 @@ pub fn begin_lent(
     ensures { λ r. ⌜ begunOf numbers r (now (taken .exit)) (now (table .exit)) (now (text .exit)) ≡ beginning one (now (image .entry))
         (sharedOf numbers (now (taken .entry))) (pointOf head (now (table .entry)) (now (text .entry))) offset (now (bytes .entry)) ⌝ }
 {
-    let start = settle(image, numbers, taken, head, table, offset, bytes.len());
+    let start = settle_write(image, numbers, taken, head, table, offset, bytes.len());
     if start.reason != 0 {
         return LentBegun {
             reply: Reply::Refused(start.reason),
@@ -145,6 +184,39 @@ pub fn begin_lent(
             length,
             start.place,
             new_write(at, size, start.run),
+        ),
+    }
+}
+
+// Beginning a read, with the record's table and text lent: the point catches up. It takes no block.
+pub fn begin_read_lent(
+    image: &[u64],
+    numbers: Numbers,
+    head: Head,
+    table: &mut [u16; 256],
+    text: &mut [u8; 1024],
+    offset: usize,
+    size: usize,
+) -> LentBegun
+    ensures { λ r. ⌜ ((taken : List ℕ) → begunOf numbers r taken (now (table .exit)) (now (text .exit)) ≡ beginningRead one (now (image .entry))
+        (sharedOf numbers taken) (pointOf head (now (table .entry)) (now (text .entry))) offset size) ⌝ }
+{
+    let start = settle(image, numbers, head, table, offset, size);
+    if start.reason != 0 {
+        return LentBegun {
+            reply: Reply::Refused(start.reason),
+            head,
+        };
+    }
+    let length = log::ahead::catch_up(image, numbers.blocks, head.place, table, head.length);
+    *text = crate::record::no_text();
+    LentBegun {
+        reply: Reply::Done,
+        head: crate::plan::head_of(
+            head.number,
+            length,
+            start.place,
+            new_read(offset as u32, size as u32),
         ),
     }
 }
@@ -173,6 +245,36 @@ pub fn begin(image: &[u64], shared: Shared, point: Point, offset: usize, text: &
     Begun {
         reply,
         shared: crate::shared::with_taken(shared, taken),
+        point: Point {
+            head,
+            table,
+            text: kept,
+        },
+    }
+}
+
+// Beginning a read.
+pub fn begin_read(image: &[u64], shared: Shared, point: Point, offset: usize, size: usize) -> Begun
+    ensures { λ r. ⌜ r ≡ beginningRead one (now (image .entry)) shared point offset size ⌝ }
+{
+    let numbers = crate::shared::numbers(shared);
+    let head = point.head;
+    let mut table = point.table;
+    let mut kept = point.text;
+    let left = begin_read_lent(
+        image,
+        numbers,
+        head,
+        &mut table,
+        &mut kept,
+        offset,
+        size,
+    );
+    let reply = left.reply;
+    let head = left.head;
+    Begun {
+        reply,
+        shared,
         point: Point {
             head,
             table,

@@ -188,5 +188,6 @@ pub(crate) fn next_word(write: Write, words: u32) -> u32
         Phase::RefillLast => next_in_last(write, words),
         Phase::RefillBoth => next_in_both(write, words),
         Phase::Zeroing => words,
+        Phase::Reading => words,
     }
 }

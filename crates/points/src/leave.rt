@@ -12,12 +12,12 @@ use crate::Write;
 use log::Reply;
 use log::Shared;
 
-// What a point holds becomes free: the run of its write, and the log block being zeroed.
+// What a point holds becomes free: the run of its write, and the log block being zeroed. A read holds nothing.
 fn free_held(map: &mut [u64], write: Write)
     ensures { λ _. ⌜ now (map .exit) ≡ withoutHeld one (now (map .entry)) write ⌝ }
 {
     let phase = write.phase;
-    if crate::record::is_idle(phase) {
+    if !crate::record::is_writing(phase) {
         return;
     }
     crate::release::free_run(map, write);

@@ -7,8 +7,8 @@ ghost use lib.ListN.{length};
 ghost use Rattle.words.specs.Edition.{one, blockBytes};
 ghost use Rattle.words.specs.Logic.{between};
 ghost use Rattle.words.specs.Word.{bit};
-ghost use Rattle.points.specs.Record.{noText, phaseNumber, phaseOf, isIdle, isZeroing, badShared, badText, pastEnd, inside, span, runFirst};
-ghost use Rattle.points.specs.Record.{placeFits, zeroingFits, writeFits, headFits, tableFits, fits, unfit};
+ghost use Rattle.points.specs.Record.{noText, phaseNumber, phaseOf, isIdle, isZeroing, isReading, isWriting, badShared, badText, pastEnd, inside};
+ghost use Rattle.points.specs.Record.{span, runFirst, rangeWords, placeFits, zeroingFits, writeFits, rangeFits, workFits, headFits, tableFits, fits, unfit};
 ghost use Rattle.points.specs.Search.{sharedOf};
 use crate::Head;
 use crate::Numbers;
@@ -62,7 +62,7 @@ pub fn is_joined(joined: u32, number: u32) -> bool
     (joined >> number) & 1 == 1
 }
 
-// A phase as a number, and back: numbers above 5 are no phase's, and stand for Idle.
+// A phase as a number, and back: numbers above 6 are no phase's, and stand for Idle.
 pub fn phase_number(phase: Phase) -> u32
     ensures { λ r. ⌜ r ≡ phaseNumber phase ⌝ }
 {
@@ -73,6 +73,7 @@ pub fn phase_number(phase: Phase) -> u32
         Phase::RefillLast => 3,
         Phase::RefillBoth => 4,
         Phase::Zeroing => 5,
+        Phase::Reading => 6,
     }
 }
 
@@ -85,11 +86,12 @@ pub fn phase_of(number: u32) -> Phase
         3 => Phase::RefillLast,
         4 => Phase::RefillBoth,
         5 => Phase::Zeroing,
+        6 => Phase::Reading,
         _ => Phase::Idle,
     }
 }
 
-// Whether no write is under way.
+// Whether neither a write nor a read is under way.
 pub fn is_idle(phase: Phase) -> bool
     ensures { λ r. ⌜ r ≡ isIdle phase ⌝ }
 {
@@ -100,6 +102,7 @@ pub fn is_idle(phase: Phase) -> bool
         Phase::RefillLast => false,
         Phase::RefillBoth => false,
         Phase::Zeroing => false,
+        Phase::Reading => false,
     }
 }
 
@@ -114,6 +117,37 @@ pub fn is_zeroing(phase: Phase) -> bool
         Phase::RefillLast => false,
         Phase::RefillBoth => false,
         Phase::Zeroing => true,
+        Phase::Reading => false,
+    }
+}
+
+// Whether a read is under way.
+pub fn is_reading(phase: Phase) -> bool
+    ensures { λ r. ⌜ r ≡ isReading phase ⌝ }
+{
+    match phase {
+        Phase::Idle => false,
+        Phase::Filling => false,
+        Phase::RefillFirst => false,
+        Phase::RefillLast => false,
+        Phase::RefillBoth => false,
+        Phase::Zeroing => false,
+        Phase::Reading => true,
+    }
+}
+
+// Whether a write is under way.
+pub fn is_writing(phase: Phase) -> bool
+    ensures { λ r. ⌜ r ≡ isWriting phase ⌝ }
+{
+    match phase {
+        Phase::Idle => false,
+        Phase::Filling => true,
+        Phase::RefillFirst => true,
+        Phase::RefillLast => true,
+        Phase::RefillBoth => true,
+        Phase::Zeroing => true,
+        Phase::Reading => false,
     }
 }
 
@@ -125,6 +159,18 @@ pub fn span(offset: u32, size: u32) -> u32
         return 1;
     }
     words::offset::blocks_for(words::offset::in_block(offset as usize) + size as usize) as u32
+}
+
+// The words of eight bytes that a range touches: up to 129 where it obeys 16 and 17.
+pub(crate) fn range_words(write: Write) -> u32
+    ensures { λ r. ⌜ r ≡ rangeWords write ⌝ }
+{
+    if write.size == 0 {
+        return 1;
+    }
+    let last = write.offset as usize + write.size as usize - 1;
+    let words = words::offset::whole_words(last) - words::offset::whole_words(write.offset as usize);
+    words as u32 + 1
 }
 
 // The virtual block in which a write begins.
@@ -191,6 +237,25 @@ fn write_fits(blocks: u32, place: Place, write: Write) -> bool
     run & (write.position <= 64 * n)
 }
 
+// Whether the range of a read under way fits: 16 and 17, and the position.
+fn range_fits(write: Write) -> bool
+    ensures { λ r. ⌜ r ≡ rangeFits one write ⌝ }
+{
+    let size = write.size as usize;
+    !bad_text(size) & !past_end(write.offset as usize, size) & (write.position <= range_words(write))
+}
+
+// Whether what is under way fits, a write or a read.
+fn work_fits(blocks: u32, place: Place, write: Write) -> bool
+    ensures { λ r. ⌜ r ≡ workFits one blocks place write ⌝ }
+{
+    let phase = write.phase;
+    if is_reading(phase) {
+        return range_fits(write);
+    }
+    write_fits(blocks, place, write)
+}
+
 // Whether the numbers of a record fit. An idle record's write is not looked at.
 pub fn head_fits(blocks: u32, head: Head) -> bool
     ensures { λ r. ⌜ r ≡ headFits one blocks head ⌝ }
@@ -201,7 +266,7 @@ pub fn head_fits(blocks: u32, head: Head) -> bool
     if is_idle(phase) {
         return ok;
     }
-    ok & write_fits(blocks, head.place, write)
+    ok & work_fits(blocks, head.place, write)
 }
 
 fn greater(a: u16, b: u16) -> u16

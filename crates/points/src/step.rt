@@ -5,11 +5,11 @@ ghost use Prim.Native.Nat.{_<_};
 ghost use Rattle.words.specs.Edition.{one};
 ghost use Rattle.words.specs.Memory.{memory};
 ghost use Rattle.log.specs.declared.Shared.{Shared};
-ghost use Rattle.points.specs.Record.{runWords, isZeroing, pointOf};
+ghost use Rattle.points.specs.Record.{runWords, isZeroing, isReading, pointOf};
 ghost use Rattle.points.specs.Search.{sharedOf};
 ghost use Rattle.points.specs.Plan.{readIn, textAfter, stores, storeOf};
 ghost use Rattle.points.specs.Stepping.{fill, filling, writeOn, planned, StepLeaves};
-ghost use Rattle.points.specs.Lent.{Plans, Readable, StepsOn, TextFits, Stores, StepTells, steppedOf};
+ghost use Rattle.points.specs.Lent.{Plans, Readable, StepsOn, TextFits, Stores, WriteTells, StepTells, steppedOf};
 use crate::Head;
 use crate::LentStepped;
 use crate::Numbers;
@@ -73,7 +73,7 @@ fn write_on<'a>(
     filling(image, numbers, taken, head, table, text)
 }
 
-// The plan of a step.
+// The plan of a write's step.
 fn settle<'a>(
     image: &[u64],
     numbers: Numbers,
@@ -153,7 +153,7 @@ fn store(image: &mut [u64], kind: Kind, block: u32, word: u32, value: u64) -> us
 }
 
 // A step of a write, with the shared record's map and the record's table and text lent.
-pub fn step_lent(
+fn write_lent(
     image: &mut [u64],
     numbers: Numbers,
     taken: &mut [u64; 16],
@@ -161,7 +161,8 @@ pub fn step_lent(
     table: &mut [u16; 256],
     text: &mut [u8; 1024],
 ) -> LentStepped
-    ensures { λ r. ⌜ StepTells (now (image .entry)) (sharedOf numbers (now (taken .entry))) (pointOf head (now (table .entry)) (now (text .entry)))
+    requires { ⌜ isReading (head .write .phase) ≡ false ⌝ }
+    ensures { λ r. ⌜ WriteTells (now (image .entry)) (sharedOf numbers (now (taken .entry))) (pointOf head (now (table .entry)) (now (text .entry)))
         (steppedOf numbers r (now (taken .exit)) (now (table .exit)) (now (text .exit))) (now (image .exit)) (r .word) ⌝ }
 {
     let plan = settle(image, numbers, taken, head, table, text);
@@ -190,16 +191,46 @@ pub fn step_lent(
     }
 }
 
-// A step of the point's write.
-pub fn step(image: &mut [u64], shared: Shared, point: Point) -> Stepped
-    ensures { λ r. ⌜ StepLeaves (now (image .entry)) shared point r (now (image .exit)) ⌝ }
+// A step of a write or of a read, with the shared record's map, the record's table and text, and room for the bytes that a read answers lent.
+pub fn step_lent(
+    image: &mut [u64],
+    numbers: Numbers,
+    taken: &mut [u64; 16],
+    head: Head,
+    table: &mut [u16; 256],
+    text: &mut [u8; 1024],
+    bytes: &mut [u8; 1024],
+) -> LentStepped
+    ensures { λ r. ⌜ StepTells (now (image .entry)) (sharedOf numbers (now (taken .entry))) (pointOf head (now (table .entry)) (now (text .entry)))
+        (now (bytes .entry)) (steppedOf numbers r (now (taken .exit)) (now (table .exit)) (now (text .exit)))
+        (now (image .exit)) (now (bytes .exit)) (r .word) ⌝ }
+{
+    let write = head.write;
+    let phase = write.phase;
+    if crate::record::is_reading(phase) {
+        return crate::read_step::step(image, numbers, head, table, text, bytes);
+    }
+    write_lent(image, numbers, taken, head, table, text)
+}
+
+// A step of the point's write or read.
+pub fn step(image: &mut [u64], shared: Shared, point: Point, bytes: &mut [u8; 1024]) -> Stepped
+    ensures { λ r. ⌜ StepLeaves (now (image .entry)) shared point (now (bytes .entry)) r (now (image .exit)) (now (bytes .exit)) ⌝ }
 {
     let numbers = crate::shared::numbers(shared);
     let mut taken = shared.taken;
     let head = point.head;
     let mut table = point.table;
     let mut text = point.text;
-    let left = step_lent(image, numbers, &mut taken, head, &mut table, &mut text);
+    let left = step_lent(
+        image,
+        numbers,
+        &mut taken,
+        head,
+        &mut table,
+        &mut text,
+        bytes,
+    );
     let answer = left.step;
     let head = left.head;
     Stepped {
