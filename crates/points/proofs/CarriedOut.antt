@@ -1,7 +1,7 @@
 -- What a step leaves that carries out the plan of each thing that it may do: answer, records and store, written out.
 use mathlib.Core.Path.{_≡_, refl, ap}
-use mathlib.Core.Bool.{true, false}
-use mathlib.Core.List.{List}
+use mathlib.Core.Bool.{Bool, true, false}
+use mathlib.Core.List.{List, []}
 use mathlib.Core.Option.{none, some}
 use Prim.Native.Nat.{ℕ, zero, suc, _<_}
 use native.Mathlib.Omega.{arith}
@@ -18,13 +18,15 @@ use Rattle.points.specs.declared.Head.{Head}
 use Rattle.points.specs.declared.Point.{Point}
 use Rattle.points.specs.declared.StepAnswer.the-variants.{Stored, Moved, Extending, Committed, Refused}
 use Rattle.points.specs.declared.plan.Plan.{Plan}
-use Rattle.points.specs.Record.{noWrite, noText, fileAt, pointOf, standing, writing, withHead, caughtUp}
+use Rattle.points.specs.Record.{noWrite, noText, isReading, fileAt, pointOf, standing, writing, withHead, caughtUp}
 use Rattle.points.specs.Search.{withTaken}
 use Rattle.points.specs.Fill.{newWord}
 use Rattle.points.specs.Plan.{Outcome, carriedOut, readIn, freed, withoutRun, replaced, wordFrom}
+use Rattle.points.specs.ReadSteps.{untouched}
 use Rattle.points.specs.Stepping.{turned, toCommit, retried, filled, refillAfter, nextSlot, entering, entryFor}
 use Rattle.points.specs.Stepping.{refused, commit, giveUp, extend, zeroOut, link, giveBack, moveOn, fill, stepping}
 use Rattle.points.proofs.StepCases.{go-on}
+use Rattle.points.proofs.ReadCases.{write-kind, step-stays}
 
 module _ (E : Edition) (m : Memory) (s : Shared) (p : Point) where
   abbrev h : Head
@@ -39,7 +41,7 @@ module _ (E : Edition) (m : Memory) (s : Shared) (p : Point) where
   -- ---- refused: nothing changes
 
   unfoldable pub afterRefusal : ℕ → Outcome
-  afterRefusal n = record { step = Refused n; shared = s; point = p; store = none }
+  afterRefusal n = untouched s p (Refused n)
 
   pub refusal-leaves : (n : ℕ) → out (refused E h n) ≡ afterRefusal n
   unfolding carriedOut readIn freed setAll afterRefusal
@@ -54,6 +56,7 @@ module _ (E : Edition) (m : Memory) (s : Shared) (p : Point) where
         shared = s;
         point = withHead p (writing h (filled w k));
         store = some (wordFrom E (w .run) k (newWord E m h (p .table) (p .text) k));
+        bytes = [];
       }
 
   pub fill-leaves : (k : ℕ) → out (fill E m s p k) ≡ afterFill k
@@ -72,6 +75,7 @@ module _ (E : Edition) (m : Memory) (s : Shared) (p : Point) where
         shared = withTaken s (setAll false (s .taken) (replaced E w (p .table)));
         point = pointOf (standing h (committed .size) (nextSlot (h .place)) noWrite) (committed .table) noText;
         store = some (record { block = h .place .block; word = h .place .slot; value = entryFor E h });
+        bytes = [];
       }
 
   pub commit-leaves : h .place .slot < E .blockWords → out (commit E h) ≡ afterCommit
@@ -80,7 +84,7 @@ module _ (E : Edition) (m : Memory) (s : Shared) (p : Point) where
 
   unfoldable pub afterGiveUp : ℕ → Outcome
   afterGiveUp n =
-      record { step = Refused n; shared = withTaken s (withoutRun E (s .taken) w); point = pointOf (writing h noWrite) (p .table) noText; store = none }
+      record { step = Refused n; shared = withTaken s (withoutRun E (s .taken) w); point = pointOf (writing h noWrite) (p .table) noText; store = none; bytes = [] }
 
   pub give-up-leaves : (n : ℕ) → out (giveUp E h n) ≡ afterGiveUp n
   unfolding carriedOut readIn freed setAll giveUp afterGiveUp
@@ -94,7 +98,7 @@ module _ (E : Edition) (m : Memory) (s : Shared) (p : Point) where
   abbrev pub afterMove : Outcome
   afterMove =
       let c = caughtUp E walked p in
-      record { step = Moved; shared = s; point = withHead c (writing (c .head) (refillAfter E (walked .entries) w)); store = none }
+      record { step = Moved; shared = s; point = withHead c (writing (c .head) (refillAfter E (walked .entries) w)); store = none; bytes = [] }
 
   pub move-leaves : broken E (s .blocks) walked ≡ false → out (moveOn E m h (s .blocks)) ≡ afterMove
   unfolding carriedOut readIn freed setAll caughtUp
@@ -109,6 +113,7 @@ module _ (E : Edition) (m : Memory) (s : Shared) (p : Point) where
         shared = withTaken s (setBlock true (s .taken) b);
         point = withHead p (writing h (turned w Zeroing 0 b (w .retries)));
         store = none;
+        bytes = [];
       }
 
   pub extend-leaves : (b : ℕ) → (b ≡ 0 → ⊥) → out (extend E h b) ≡ afterExtend b
@@ -123,6 +128,7 @@ module _ (E : Edition) (m : Memory) (s : Shared) (p : Point) where
         shared = s;
         point = withHead p (writing h (turned w Zeroing (suc (w .position)) (w .zeroing) (w .retries)));
         store = some (record { block = w .zeroing; word = w .position; value = 0 });
+        bytes = [];
       }
 
   pub zero-leaves : w .position < E .blockWords → out (zeroOut E h) ≡ afterZero
@@ -136,6 +142,7 @@ module _ (E : Edition) (m : Memory) (s : Shared) (p : Point) where
         shared = s;
         point = withHead p (standing h (h .length) (entering (h .place) (w .zeroing)) (toCommit E w (w .retries)));
         store = some (record { block = h .place .block; word = 0; value = w .zeroing });
+        bytes = [];
       }
 
   pub link-leaves : out (link E h) ≡ afterLink
@@ -149,13 +156,18 @@ module _ (E : Edition) (m : Memory) (s : Shared) (p : Point) where
         shared = withTaken s (setBlock false (s .taken) (w .zeroing));
         point = withHead p (writing h (toCommit E w (retried w)));
         store = none;
+        bytes = [];
       }
 
   pub give-back-leaves : out (giveBack E h) ≡ afterGiveBack
   unfolding carriedOut readIn freed setAll giveBack afterGiveBack
   give-back-leaves = refl
 
--- a step changes the map alone of the shared record
+-- a step changes the map alone of the shared record, a read's step not even that
 pub step-map : (E : Edition) (words : List ℕ) (s : Shared) (p : Point) → withTaken s (stepping E words s p .shared .taken) ≡ stepping E words s p .shared
-unfolding stepping carriedOut
-step-map E words s p = refl
+unfolding carriedOut
+step-map E words s p = go (isReading (p .head .write .phase)) refl
+  where
+    go : (b : Bool) → isReading (p .head .write .phase) ≡ b → withTaken s (stepping E words s p .shared .taken) ≡ stepping E words s p .shared
+    go true e = rw (step-stays E words s p e .shared)
+    go false e = rw (write-kind E words s p e)

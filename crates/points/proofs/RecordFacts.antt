@@ -8,6 +8,7 @@ use lib.ListN.{length, getD}
 use lib.Dec.{leb, ltb}
 use borrow.Author.Tests.{leb-true, ltb-true, ltb-false, eqb-true, not-true, not-false, le-leb, eq-eqb}
 use Rattle.words.specs.Edition.{Edition, fileEnd, chainMax}
+use Rattle.points.proofs.Phases.{writing-busy, writing-apart, reading-busy}
 use Rattle.points.proofs.Spans.{lies}
 use Rattle.words.specs.Logic.{between, all-of}
 use Rattle.words.proofs.Logic.{and-left, and-right, and-both, every-all, any-none, none-any}
@@ -17,8 +18,8 @@ use Rattle.log.specs.declared.Place.{Place}
 use Rattle.log.specs.declared.Shared.{Shared}
 use Rattle.points.specs.declared.Write.{Write}
 use Rattle.points.specs.declared.Head.{Head}
-use Rattle.points.specs.Record.{isIdle, isZeroing, span, badShared, badText, pastEnd, inside}
-use Rattle.points.specs.Record.{placeFits, zeroingFits, writeFits, headFits, tableFits, fits}
+use Rattle.points.specs.Record.{isIdle, isZeroing, isReading, isWriting, span, rangeWords, badShared, badText, pastEnd, inside}
+use Rattle.points.specs.Record.{placeFits, zeroingFits, writeFits, rangeFits, workFits, headFits, tableFits, fits}
 
 -- ---- a test as its facts
 
@@ -131,6 +132,16 @@ module _ (E : Edition) (blocks : ℕ) (p : Place) (w : Write) (e : writeFits E b
       (sym (choose-false (isZeroing (w .phase)) _ _ z) ∙ every-all _ e .1 .1 .1 .0) in
       omega arith
 
+pub record RangeFits (E : Edition) (w : Write) : Type 0 where
+  pub text : TextFits E (w .offset) (w .size)
+  pub position : w .position ≤ rangeWords w
+
+range-facts : (E : Edition) (w : Write) → rangeFits E w ≡ true → RangeFits E w
+unfolding rangeFits
+range-facts E w e =
+    let f = every-all _ e in
+    record { text = text-facts E (w .offset) (w .size) (not-true _ (f .0)) (not-true _ (f .1 .0)); position = leb-true _ _ (f .1 .1 .0) }
+
 module _ (E : Edition) (blocks : ℕ) (h : Head) (table : List ℕ) (e : fits E blocks h table ≡ true) where
   fits-head : headFits E blocks h ≡ true
   unfolding fits
@@ -144,9 +155,19 @@ module _ (E : Edition) (blocks : ℕ) (h : Head) (table : List ℕ) (e : fits E 
   unfolding headFits
   fits-length = leb-true (h .length) (fileEnd E) (every-all _ fits-head .1 .0)
 
-  pub fits-write : isIdle (h .write .phase) ≡ false → writeFits E blocks (h .place) (h .write) ≡ true
+  -- what is under way fits: a write; a read
+  fits-work : isIdle (h .write .phase) ≡ false → workFits E blocks (h .place) (h .write) ≡ true
   unfolding headFits
-  fits-write i = sym (choose-false (isIdle (h .write .phase)) true _ i) ∙ every-all _ fits-head .1 .1 .0
+  fits-work i = sym (choose-false (isIdle (h .write .phase)) true _ i) ∙ every-all _ fits-head .1 .1 .0
+
+  pub fits-write : isWriting (h .write .phase) ≡ true → writeFits E blocks (h .place) (h .write) ≡ true
+  fits-write i =
+      sym (choose-false (isReading (h .write .phase)) (rangeFits E (h .write)) _ (writing-apart (h .write .phase) i))
+      ∙ fits-work (writing-busy (h .write .phase) i)
+
+  pub fits-range : isReading (h .write .phase) ≡ true → RangeFits E (h .write)
+  fits-range i = range-facts E (h .write)
+      (sym (choose-true (isReading (h .write .phase)) (rangeFits E (h .write)) _ i) ∙ fits-work (reading-busy (h .write .phase) i))
 
   pub fits-table : tableFits blocks table ≡ true
   unfolding fits

@@ -21,12 +21,13 @@ use Rattle.points.specs.declared.Point.{Point}
 use Rattle.points.specs.declared.StepAnswer.the-variants.{Moved}
 use Rattle.points.specs.declared.plan.Reads.the-variants.{AllAhead}
 use Rattle.points.specs.declared.plan.Frees.the-variants.{NoBlock}
-use Rattle.points.specs.Record.{runFirst, runBlocks, firstEdge, lastEdge, runWords, isIdle, isZeroing, isJoined, fits, unfit, pointOf}
+use Rattle.points.specs.Record.{runFirst, runBlocks, firstEdge, lastEdge, runWords, isIdle, isZeroing, isReading, isWriting, isJoined, fits, unfit, pointOf}
 use Rattle.points.specs.Fill.{nextWord}
 use Rattle.points.specs.Search.{search}
 use Rattle.points.specs.Plan.{resting}
 use Rattle.points.specs.Stepping.{refill, refillAfter, refused, commit, giveUp, extend, moveOn}
 use Rattle.points.specs.Stepping.{atEnd, committing, fill, filling, writeOn, stepRefusal, planned}
+use Rattle.points.proofs.Phases.{is-writing}
 use Rattle.points.proofs.RecordFacts.{SharedFits, PlaceFits, RunFits, ZeroingFits, shared-facts, fits-place}
 use Rattle.points.proofs.RecordFacts.{fits-write, run-facts, write-zeroing-facts, write-position, span-few}
 use Rattle.points.proofs.RecordReasons.{unfit-before, fit-goes-on, first-settled, first-goes-on}
@@ -41,14 +42,20 @@ pub record Ready (E : Edition) (words : List ℕ) (s : Shared) (h : Head) (table
   pub run : RunFits E (s .blocks) (h .write)
   pub joined : isJoined s (h .number) ≡ true
 
-module _ (E : Edition) (words : List ℕ) (s : Shared) (h : Head) (table : List ℕ) (e : stepRefusal E words s h table ≡ 0) where
+module _ (E : Edition) (words : List ℕ) (s : Shared) (h : Head) (table : List ℕ) (on : (stepRefusal E words s h table ≡ 0) × (isReading (h .write .phase) ≡ false)) where
+  abbrev e : stepRefusal E words s h table ≡ 0
+  e = on .0
+
+  writing : isWriting (h .write .phase) ≡ true
+  writing = is-writing (h .write .phase) (step-busy E words s (pointOf h table []) e) (on .1)
+
   fit : fits E (s .blocks) h table ≡ true
   fit = not-false _ (step-fits E words s (pointOf h table []) e)
 
   pub ready : Ready E words s h table
   ready =
       let f = shared-facts E words s (step-shared E words s (pointOf h table []) e) in
-      let w = fits-write E (s .blocks) h table fit (step-busy E words s (pointOf h table []) e) in
+      let w = fits-write E (s .blocks) h table fit writing in
       record {
         shared = f;
         place = fits-place E (s .blocks) h table fit;
@@ -58,11 +65,11 @@ module _ (E : Edition) (words : List ℕ) (s : Shared) (h : Head) (table : List 
 
   pub ready-zeroing : isZeroing (h .write .phase) ≡ true → ZeroingFits E (s .blocks) (h .place) (h .write)
   ready-zeroing z =
-      write-zeroing-facts E (s .blocks) (h .place) (h .write) (fits-write E (s .blocks) h table fit (step-busy E words s (pointOf h table []) e)) z
+      write-zeroing-facts E (s .blocks) (h .place) (h .write) (fits-write E (s .blocks) h table fit writing) z
 
   pub ready-position : isZeroing (h .write .phase) ≡ false → h .write .position ≤ runWords E (h .write)
   ready-position z =
-      let l = write-position E (s .blocks) (h .place) (h .write) (fits-write E (s .blocks) h table fit (step-busy E words s (pointOf h table []) e)) z in
+      let l = write-position E (s .blocks) (h .place) (h .write) (fits-write E (s .blocks) h table fit writing) z in
       omega arith
 
 -- the run's first block is one of 1,024

@@ -29,7 +29,7 @@ use Rattle.points.specs.declared.plan.Frees.{Frees}
 use Rattle.points.specs.declared.plan.Frees.the-variants.{NoBlock, Run, Replaced, Zeroed}
 use Rattle.points.specs.declared.plan.Plan.{Plan}
 use Rattle.points.specs.declared.read_step.Ahead.{Ahead}
-use Rattle.points.specs.Record.{textMax, runFirst, runBlocks, runWords, pointOf, recordReasons, brokenAhead}
+use Rattle.points.specs.Record.{textMax, isReading, runFirst, runBlocks, runWords, pointOf, recordReasons, brokenAhead}
 use Rattle.points.specs.Search.{sharedOf}
 use Rattle.points.specs.Plan.{Outcome, answered, storedAt}
 use Rattle.points.specs.ReadSteps.{covered}
@@ -77,9 +77,9 @@ abbrev pub Plans : (Edition → Memory → Shared → Point → Plan)
     → List ℕ → Numbers → List ℕ → Head → List ℕ → List ℕ → Plan → Type 0
 Plans part words n taken h table text r = r ≡ part one (memory one words) (sharedOf n taken) (pointOf h table text)
 
--- no reason of a step holds
+-- no reason of a step holds, and it is a write's
 abbrev pub StepsOn : List ℕ → Numbers → List ℕ → Head → List ℕ → Type 0
-StepsOn words n taken h table = stepRefusal one words (sharedOf n taken) h table ≡ 0
+StepsOn words n taken h table = (stepRefusal one words (sharedOf n taken) h table ≡ 0) × (isReading (h .write .phase) ≡ false)
 
 -- ---- what carrying out a plan asks for
 
