@@ -10,7 +10,7 @@ use mathlib.Core.List.{List, [], _∷_}
 use lib.ListN.{length, replicate, drop, set, getD}
 use lib.Seq.{paste, paste-suc, take-length}
 use Rattle.words.specs.Edition.{Edition, one}
-use Rattle.words.specs.Logic.{Reason, isZero, first, _when_}
+use Rattle.words.specs.Logic.{Reason, first, _when_}
 use Rattle.words.specs.Memory.{memory}
 use Rattle.words.specs.BlockMap.{setRun}
 use Rattle.words.proofs.Choice.{chosen-zero}
@@ -28,10 +28,10 @@ use Rattle.points.specs.declared.Numbers.{Numbers}
 use Rattle.points.specs.Record.{noText, isIdle, badText, pastEnd, span, fileAt, caughtUp, unfit}
 use Rattle.points.specs.Search.{sharedOf, numbersOf, search, withTaken}
 use Rattle.points.specs.Lent.{begunOf}
-use Rattle.points.specs.Start.{Started}
-use Rattle.points.specs.Calls.{beginRefusal, beginning, textOf, newWrite}
+use Rattle.points.specs.Start.{Settled, Started}
+use Rattle.points.specs.Calls.{beginRefusal, beginning, beginReadRefusal, beginningRead, textOf, newWrite, newRead}
 use Rattle.points.proofs.RecordFacts.{TextFits, text-facts, shared-facts}
-use Rattle.points.proofs.NotRefused.{begin-shared, begin-text, begin-end, begin-sound}
+use Rattle.points.proofs.NotRefused.{write-refused, write-goes-on, begin-either, begin-shared, begin-text, begin-end, begin-sound}
 use Rattle.points.proofs.RecordReasons.{refused-so, unfit-before, fit-goes-on}
 
 -- ---- the text
@@ -63,9 +63,10 @@ text-end text = rw (take-length, zero-add, drop-zeros)
 
 -- ---- the reasons
 
+-- of either kind
 module _ (E : Edition) (words : List ℕ) (s : Shared) (h : Head) (table : List ℕ) (offset size : ℕ) where
   abbrev refusal : ℕ
-  refusal = beginRefusal E words s h table offset size
+  refusal = beginReadRefusal E words s h table offset size
 
   abbrev walk : Walk
   walk = ahead E (memory E words) (s .blocks) (h .place)
@@ -73,17 +74,16 @@ module _ (E : Edition) (words : List ℕ) (s : Shared) (h : Head) (table : List 
   -- those after 10, 11 and 14
   abbrev more : List Reason
   more =
-      15 when not (isIdle (h .write .phase)) ∷ 16 when badText size ∷ 17 when pastEnd E offset size
-      ∷ 18 when broken E (s .blocks) walk ∷ 19 when isZero (search s (span E offset size)) ∷ []
+      15 when not (isIdle (h .write .phase)) ∷ 16 when badText size ∷ 17 when pastEnd E offset size ∷ 18 when broken E (s .blocks) walk ∷ []
 
   pub begin-unfit : (r : ℕ) → r ≡ unfit E words s h table → (r ≡ 0 → ⊥) → r ≡ refusal
-  unfolding beginRefusal
+  unfolding beginReadRefusal
   begin-unfit zero e ne = absurd (ne refl)
   begin-unfit (suc k) e ne = sym (unfit-before E words s h table more k (sym e))
 
   module _ (e : unfit E words s h table ≡ 0) where
     after-14 : refusal ≡ first more
-    unfolding beginRefusal
+    unfolding beginReadRefusal
     after-14 = fit-goes-on E words s h table e more
 
     pub begin-15 : isIdle (h .write .phase) ≡ false → 15 ≡ refusal
@@ -101,14 +101,30 @@ module _ (E : Edition) (words : List ℕ) (s : Shared) (h : Head) (table : List 
           pub begin-18 : broken E (s .blocks) walk ≡ true → 18 ≡ refusal
           begin-18 x = sym (after-14 ∙ rw (i, t, p, x))
 
-          module _ (b : broken E (s .blocks) walk ≡ false) where
-            pub begin-19 : search s (span E offset size) ≡ 0 → 19 ≡ refusal
-            begin-19 x = sym (after-14 ∙ rw (i, t, p, b, x))
+          pub begin-0 : broken E (s .blocks) walk ≡ false → 0 ≡ refusal
+          begin-0 x = sym (after-14 ∙ rw (i, t, p, x))
 
-            pub begin-0 : (search s (span E offset size) ≡ 0 → ⊥) → 0 ≡ refusal
-            begin-0 x = sym (after-14 ∙ rw (i, t, p, b, not-zero (search s (span E offset size)) x))
+-- what is settled: a reason; or none, with the place and the run. The contracts that these serve are edition one's
+module _ (words : List ℕ) (n : Numbers) (h : Head) (table : List ℕ) (offset size : ℕ) where
+  pub settled-refused :
+      (r k : ℕ) (place : Place) → r ≡ k → (k ≡ 0 → ⊥) → ((taken : List ℕ) → k ≡ beginReadRefusal one words (sharedOf n taken) h table offset size)
+      → Settled words n h table offset size r place
+  settled-refused r k place e ne x = record { refusal = λ t. e ∙ x t; tail = λ z. absurd (ne (sym e ∙ z)) }
 
--- what is settled: a reason; or none, with the place and the run. The contract that this serves is edition one's
+-- a write's: a reason of either kind, then 19
+module _ (E : Edition) (words : List ℕ) (s : Shared) (p : Point) (offset size : ℕ) where
+  pub begin-first : (r : ℕ) → r ≡ beginReadRefusal E words s (p .head) (p .table) offset size → (r ≡ 0 → ⊥)
+      → r ≡ beginRefusal E words s (p .head) (p .table) offset size
+  begin-first zero e ne = absurd (ne refl)
+  begin-first (suc k) e ne = sym (write-refused E words s p offset size k (sym e))
+
+  module _ (e : beginReadRefusal E words s (p .head) (p .table) offset size ≡ 0) where
+    pub begin-19 : search s (span E offset size) ≡ 0 → 19 ≡ beginRefusal E words s (p .head) (p .table) offset size
+    begin-19 x = sym (write-goes-on E words s p offset size e ∙ rw x)
+
+    pub begin-found-0 : (search s (span E offset size) ≡ 0 → ⊥) → 0 ≡ beginRefusal E words s (p .head) (p .table) offset size
+    begin-found-0 x = sym (write-goes-on E words s p offset size e ∙ rw (not-zero (search s (span E offset size)) x))
+
 module _ (words : List ℕ) (s : Shared) (h : Head) (table : List ℕ) (offset size : ℕ) where
   pub start-refused :
       (r k : ℕ) (place : Place) (run : ℕ) → r ≡ k → (k ≡ 0 → ⊥) → k ≡ beginRefusal one words s h table offset size
@@ -135,12 +151,13 @@ pub record Ready (E : Edition) (words : List ℕ) (s : Shared) (p : Point) (offs
 module _ (E : Edition) (words : List ℕ) (s : Shared) (p : Point) (offset : ℕ) (text : List ℕ) where
   pub ready : beginRefusal E words s (p .head) (p .table) offset (length text) ≡ 0 → Ready E words s p offset text
   ready e =
-      let f = shared-facts E words s (begin-shared E words s p offset text e) in
+      let i = begin-either E words s p offset (length text) e in
+      let f = shared-facts E words s (begin-shared E words s p offset (length text) i) in
       record {
         none = e;
-        sound = begin-sound E words s p offset text e;
+        sound = begin-sound E words s p offset (length text) i;
         few = f .few-blocks;
-        fits = text-facts E offset (length text) (begin-text E words s p offset text e) (begin-end E words s p offset text e);
+        fits = text-facts E offset (length text) (begin-text E words s p offset (length text) i) (begin-end E words s p offset (length text) i);
       }
 
   pub begin-done :
@@ -174,12 +191,84 @@ module _ (E : Edition) (words : List ℕ) (s : Shared) (p : Point) (offset : ℕ
                 };
           }
 
+-- ---- the answers of a read's beginning
+
+module _ (E : Edition) (words : List ℕ) (s : Shared) (p : Point) (offset size : ℕ) where
+  abbrev unread : ℕ
+  unread = beginReadRefusal E words s (p .head) (p .table) offset size
+
+  pub begin-read-refused : (r : ℕ) → r ≡ unread → (r ≡ 0 → ⊥) → record { reply = Refused r; shared = s; point = p } ≡ beginningRead E words s p offset size
+  unfolding beginningRead
+  begin-read-refused r e h = rw e (sym (refused-so unread _ (λ n. record { reply = Refused n; shared = s; point = p }) (λ z. h (e ∙ z))))
+
+  -- what a read's beginning that is not refused has passed
+  pub record ReadReady : Type 0 where
+    pub none : unread ≡ 0
+    pub sound : broken E (s .blocks) (ahead E (memory E words) (s .blocks) (p .head .place)) ≡ false
+    pub few : s .blocks ≤ 1024
+    pub fits : TextFits E offset size
+
+  pub read-ready : unread ≡ 0 → ReadReady
+  read-ready e =
+      record {
+        none = e;
+        sound = begin-sound E words s p offset size e;
+        few = shared-facts E words s (begin-shared E words s p offset size e) .few-blocks;
+        fits = text-facts E offset size (begin-text E words s p offset size e) (begin-end E words s p offset size e);
+      }
+
+  pub begin-read-done :
+      unread ≡ 0 → (place : Place) (length : ℕ) (table text : List ℕ) (head : Head)
+      → place ≡ placeAfter (p .head .place) (ahead E (memory E words) (s .blocks) (p .head .place))
+      → record { table = table; size = length } ≡ replayOn E (fileAt (p .head) (p .table)) (ahead E (memory E words) (s .blocks) (p .head .place) .entries)
+      → text ≡ noText → head ≡ record { number = p .head .number; length = length; place = place; write = newRead offset size }
+      → record { reply = Done; shared = s; point = record { head = head; table = table; text = text } } ≡ beginningRead E words s p offset size
+  unfolding beginningRead caughtUp
+  begin-read-done none place length table text head ep ef et eh = rw (eh, et, ep) (ap begun ef ∙ sym (chosen-zero unread _ _ none))
+    where
+      begun : Mapped → Begun
+      begun f =
+          record {
+            reply = Done;
+            shared = s;
+            point =
+                record {
+                  head =
+                      record {
+                        number = p .head .number;
+                        length = f .size;
+                        place = placeAfter (p .head .place) (ahead E (memory E words) (s .blocks) (p .head .place));
+                        write = newRead offset size;
+                      };
+                  table = f .table;
+                  text = noText;
+                };
+          }
+
+  -- it leaves the shared record alone
+  pub begin-read-shared : beginningRead E words s p offset size .shared ≡ s
+  unfolding beginningRead
+  begin-read-shared = go (ℕ-discrete unread 0)
+    where
+      kept : Begun → Type 0
+      kept b = b .shared ≡ s
+
+      go : Dec (unread ≡ 0) → kept (beginningRead E words s p offset size)
+      go (yes z) = subst kept (sym (chosen-zero unread _ _ z)) refl
+      go (no ne) = subst kept (begin-read-refused unread refl ne) refl
+
 -- a beginning on a whole shared record, by its numbers and its map
 pub whole-begin :
     (words : List ℕ) (s : Shared) (p : Point) (offset : ℕ) (text : List ℕ) (n : Numbers) (left : LentBegun) (taken table kept : List ℕ) (t : Shared)
     → n ≡ numbersOf s → t ≡ withTaken s taken → begunOf n left taken table kept ≡ beginning one words (sharedOf n (s .taken)) p offset text
     → record { reply = left .reply; shared = t; point = record { head = left .head; table = table; text = kept } } ≡ beginning one words s p offset text
 whole-begin words s p offset text n left taken table kept t en et e = rw et (rw en at e)
+
+pub whole-begin-read :
+    (words : List ℕ) (s : Shared) (p : Point) (offset size : ℕ) (n : Numbers) (left : LentBegun) (table kept : List ℕ)
+    → n ≡ numbersOf s → begunOf n left (s .taken) table kept ≡ beginningRead one words (sharedOf n (s .taken)) p offset size
+    → record { reply = left .reply; shared = s; point = record { head = left .head; table = table; text = kept } } ≡ beginningRead one words s p offset size
+whole-begin-read words s p offset size n left table kept en e = rw en at e
 
 -- a beginning changes the map alone of the shared record
 pub begin-map : (E : Edition) (words : List ℕ) (s : Shared) (p : Point) (offset : ℕ) (text : List ℕ)

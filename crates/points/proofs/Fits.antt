@@ -23,8 +23,8 @@ use Rattle.log.specs.declared.Shared.{Shared}
 use Rattle.points.specs.declared.Phase.the-variants.{Idle}
 use Rattle.points.specs.declared.Write.{Write}
 use Rattle.points.specs.declared.Head.{Head}
-use Rattle.points.specs.Record.{phaseOf, isIdle, isZeroing, span, badShared, badText, pastEnd}
-use Rattle.points.specs.Record.{inside, placeFits, zeroingFits, writeFits, headFits, tableFits}
+use Rattle.points.specs.Record.{phaseOf, isIdle, isZeroing, span, rangeWords, badShared, badText, pastEnd}
+use Rattle.points.specs.Record.{inside, placeFits, zeroingFits, writeFits, rangeFits, workFits, headFits, tableFits}
 
 -- ---- several tests, made from the first on
 
@@ -97,9 +97,15 @@ module _ (E : Edition) (blocks : ℕ) (p : Place) where
         (sym (choose-false (isZeroing (w .phase)) (zeroingFits E blocks p w) (leb (w .position) (span E (w .offset) (w .size) * E .blockWords)) e))
         ∙ write-tests
 
+-- what is under way: a read's range, or a write
+pub range-tests : (E : Edition) (w : Write)
+    → (not (badText (w .size)) && not (pastEnd E (w .offset) (w .size))) && leb (w .position) (rangeWords w) ≡ rangeFits E w
+unfolding rangeFits
+range-tests E w = ands-every (not (badText (w .size))) (not (pastEnd E (w .offset) (w .size)) ∷ leb (w .position) (rangeWords w) ∷ [])
+
 module _ (E : Edition) (blocks : ℕ) (h : Head) where
   abbrev writeTest : Bool
-  writeTest = elim (isIdle (h .write .phase)) [ true ↦ true | false ↦ writeFits E blocks (h .place) (h .write) ]
+  writeTest = elim (isIdle (h .write .phase)) [ true ↦ true | false ↦ workFits E blocks (h .place) (h .write) ]
 
   head-tests : (placeFits E blocks (h .place) && leb (h .length) (fileEnd E)) && writeTest ≡ headFits E blocks h
   unfolding headFits
@@ -109,27 +115,28 @@ module _ (E : Edition) (blocks : ℕ) (h : Head) where
   head-idle e =
       sym (and-true _)
       ∙ ap (λ (t : Bool). (placeFits E blocks (h .place) && leb (h .length) (fileEnd E)) && t)
-      (sym (choose-true (isIdle (h .write .phase)) true (writeFits E blocks (h .place) (h .write)) e))
+      (sym (choose-true (isIdle (h .write .phase)) true (workFits E blocks (h .place) (h .write)) e))
       ∙ head-tests
 
   pub head-busy :
       isIdle (h .write .phase) ≡ false
-      → (placeFits E blocks (h .place) && leb (h .length) (fileEnd E)) && writeFits E blocks (h .place) (h .write) ≡ headFits E blocks h
+      → (placeFits E blocks (h .place) && leb (h .length) (fileEnd E)) && workFits E blocks (h .place) (h .write) ≡ headFits E blocks h
   head-busy e =
       ap (λ (t : Bool). (placeFits E blocks (h .place) && leb (h .length) (fileEnd E)) && t)
-      (sym (choose-false (isIdle (h .write .phase)) true (writeFits E blocks (h .place) (h .write)) e))
+      (sym (choose-false (isIdle (h .write .phase)) true (workFits E blocks (h .place) (h .write)) e))
       ∙ head-tests
 
 -- ---- a number that is no phase's but Idle's
 
-pub phase-none : (n : ℕ) → n ≢ 1 → n ≢ 2 → n ≢ 3 → n ≢ 4 → n ≢ 5 → Idle ≡ phaseOf n
-phase-none zero a b c d e = refl
-phase-none (suc zero) a b c d e = absurd (a refl)
-phase-none (suc (suc zero)) a b c d e = absurd (b refl)
-phase-none (suc (suc (suc zero))) a b c d e = absurd (c refl)
-phase-none (suc (suc (suc (suc zero)))) a b c d e = absurd (d refl)
-phase-none (suc (suc (suc (suc (suc zero))))) a b c d e = absurd (e refl)
-phase-none (suc (suc (suc (suc (suc (suc n)))))) a b c d e = refl
+pub phase-none : (n : ℕ) → n ≢ 1 → n ≢ 2 → n ≢ 3 → n ≢ 4 → n ≢ 5 → n ≢ 6 → Idle ≡ phaseOf n
+phase-none zero a b c d e f = refl
+phase-none (suc zero) a b c d e f = absurd (a refl)
+phase-none (suc (suc zero)) a b c d e f = absurd (b refl)
+phase-none (suc (suc (suc zero))) a b c d e f = absurd (c refl)
+phase-none (suc (suc (suc (suc zero)))) a b c d e f = absurd (d refl)
+phase-none (suc (suc (suc (suc (suc zero))))) a b c d e f = absurd (e refl)
+phase-none (suc (suc (suc (suc (suc (suc zero)))))) a b c d e f = absurd (f refl)
+phase-none (suc (suc (suc (suc (suc (suc (suc n))))))) a b c d e f = refl
 
 -- ---- the table, from an index on
 

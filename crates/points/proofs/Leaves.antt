@@ -16,7 +16,7 @@ use Rattle.log.specs.declared.Shared.{Shared}
 use Rattle.log.specs.declared.Reply.the-variants.{Done, Refused}
 use Rattle.points.specs.declared.Write.{Write}
 use Rattle.points.specs.declared.Point.{Point}
-use Rattle.points.specs.Record.{isIdle, isZeroing, runBlocks, held, unfit}
+use Rattle.points.specs.Record.{isWriting, isZeroing, runBlocks, held, unfit}
 use Rattle.points.specs.Search.{withJoined, withTaken}
 use Rattle.points.specs.Calls.{withoutHeld, leaving}
 use Rattle.points.specs.Plan.{withoutRun}
@@ -26,20 +26,20 @@ use Rattle.points.proofs.RecordReasons.{refused-so}
 -- ---- what a point holds
 
 module _ (E : Edition) (map : List ℕ) (w : Write) where
-  pub held-idle : isIdle (w .phase) ≡ true → map ≡ withoutHeld E map w
+  pub held-none : isWriting (w .phase) ≡ false → map ≡ withoutHeld E map w
   unfolding withoutHeld setEach
-  held-idle e = sym (ap (setEach false map) (choose-true (isIdle (w .phase)) [] _ e))
+  held-none e = sym (ap (setEach false map) (choose-false (isWriting (w .phase)) _ [] e))
 
-  module _ (busy : isIdle (w .phase) ≡ false) (freed : List ℕ) (run : freed ≡ withoutRun E map w) where
+  module _ (busy : isWriting (w .phase) ≡ true) (freed : List ℕ) (run : freed ≡ withoutRun E map w) where
     pub held-run : isZeroing (w .phase) ≡ false → freed ≡ withoutHeld E map w
     unfolding withoutHeld withoutRun
     held-run e = run ∙ each-run false map (w .run) (runBlocks E w)
-        ∙ sym (ap (setEach false map) (choose-false (isIdle (w .phase)) [] _ busy ∙ rw e (append-nil (upFrom (w .run) (runBlocks E w)))))
+        ∙ sym (ap (setEach false map) (choose-true (isWriting (w .phase)) _ [] busy ∙ rw e (append-nil (upFrom (w .run) (runBlocks E w)))))
 
     pub held-both : (left : List ℕ) → isZeroing (w .phase) ≡ true → left ≡ setBlock false freed (w .zeroing) → left ≡ withoutHeld E map w
     unfolding withoutHeld withoutRun setEach
     held-both left e l =
-        let both : held E w ≡ upFrom (w .run) (runBlocks E w) ++ (w .zeroing ∷ []) = choose-false (isIdle (w .phase)) [] _ busy ∙ rw e in
+        let both : held E w ≡ upFrom (w .run) (runBlocks E w) ++ (w .zeroing ∷ []) = choose-true (isWriting (w .phase)) _ [] busy ∙ rw e in
         l ∙ ap (λ (m : List ℕ). setBlock false m (w .zeroing)) (run ∙ each-run false map (w .run) (runBlocks E w))
         ∙ sym (ap (setEach false map) both ∙ each-append false map (upFrom (w .run) (runBlocks E w)) (w .zeroing ∷ []))
 

@@ -19,7 +19,7 @@ use Rattle.points.specs.declared.Numbers.{Numbers}
 use Rattle.points.specs.declared.LentStepped.{LentStepped}
 use Rattle.points.specs.declared.Stepped.{Stepped}
 use Rattle.points.specs.declared.plan.Plan.{Plan}
-use Rattle.points.specs.Record.{isZeroing, runWords, fileAt, pointOf, standing}
+use Rattle.points.specs.Record.{isZeroing, isReading, runWords, fileAt, pointOf, standing}
 use Rattle.points.specs.Search.{sharedOf, numbersOf, withTaken}
 use Rattle.points.specs.Fill.{nextWord}
 use Rattle.points.specs.Plan.{readIn, textAfter, freed, wordFrom, answered, carriedOut}
@@ -93,13 +93,13 @@ module _ (E : Edition) (words : List ℕ) (s : Shared) (h : Head) (table : List 
     write-sound false true e g = subst Ok (sym (on-filling E m s p e ∙ fill-on E m s p g)) (record { reads = tt; frees = tt })
     write-sound false false e g = subst Ok (sym (on-filling E m s p e ∙ commit-on E m s p g)) (committing-sound (empty E m h) (ended E m h) refl refl)
 
-module _ (E : Edition) (words : List ℕ) (s : Shared) (p : Point) (joined : s .joined < 2 ^ 32) where
+module _ (E : Edition) (words : List ℕ) (s : Shared) (p : Point) (joined : s .joined < 2 ^ 32) (w : isReading (p .head .write .phase) ≡ false) where
   pub planned-sound : Sound E (memory E words) s (p .head) (planned E words s p)
   planned-sound = go (stepRefusal E words s (p .head) (p .table)) refl
     where
       go : (k : ℕ) → stepRefusal E words s (p .head) (p .table) ≡ k → Sound E (memory E words) s (p .head) (planned E words s p)
       go zero e = subst (Sound E (memory E words) s (p .head)) (sym (goes-on E words s p e))
-          (write-sound E words s (p .head) (p .table) (ready E words s (p .head) (p .table) e) joined (p .text) (isZeroing (p .head .write .phase))
+          (write-sound E words s (p .head) (p .table) (ready E words s (p .head) (p .table) (e, w)) joined (p .text) (isZeroing (p .head .write .phase))
           (ltb (nextWord E (p .head .write)) (runWords E (p .head .write))) refl refl)
       go (suc k) e = subst (Sound E (memory E words) s (p .head)) (sym (refused-on E words s p k e)) (record { reads = tt; frees = tt })
 
@@ -134,8 +134,8 @@ carried-out E m n taken plan p h released taken′ table text length word r k f 
 
 -- the same with a whole shared record
 pub whole-step :
-    (words : List ℕ) (s : Shared) (p : Point) (n : Numbers) (r : LentStepped) (taken table text image : List ℕ) (t : Shared) → n ≡ numbersOf s
-    → t ≡ withTaken s taken
-    → StepLeaves words (sharedOf n (s .taken)) p (steppedOf n r taken table text) image
-    → StepLeaves words s p (record { step = r .step; shared = t; point = pointOf (r .head) table text }) image
-whole-step words s p n r taken table text image t e f h = rw f (rw e at h)
+    (words : List ℕ) (s : Shared) (p : Point) (lent : List ℕ) (n : Numbers) (r : LentStepped) (taken table text image bytes : List ℕ) (t : Shared)
+    → n ≡ numbersOf s → t ≡ withTaken s taken
+    → StepLeaves words (sharedOf n (s .taken)) p lent (steppedOf n r taken table text) image bytes
+    → StepLeaves words s p lent (record { step = r .step; shared = t; point = pointOf (r .head) table text }) image bytes
+whole-step words s p lent n r taken table text image bytes t e f h = rw f (rw e at h)

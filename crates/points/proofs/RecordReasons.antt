@@ -3,14 +3,15 @@
 use Prim.Native.Nat.{ℕ, zero, suc}
 use native.Mathlib.Omega.{arith}
 use mathlib.Core.Path.{_≡_, refl, sym, _∙_}
-use mathlib.Core.Bool.{Bool, true, false}
+use mathlib.Core.Bool.{Bool, true, false, not}
 use mathlib.Core.List.{List, [], _∷_, _++_}
 use lib.ListN.{getD}
 use borrow.Author.Tests.{not-false}
 use Rattle.words.specs.Edition.{Edition}
-use Rattle.words.specs.Logic.{Reason, first, _when_}
+use Rattle.words.specs.Logic.{Reason, first, _when_, isZero, all-of}
 use Rattle.words.proofs.Choice.{choose-true, choose-false}
-use Rattle.words.proofs.Tests.{no-reason, passes}
+use Rattle.words.proofs.Tests.{no-reason, passes, no-true}
+use Rattle.words.proofs.Logic.{and-left, and-right}
 use Rattle.log.specs.declared.Shared.{Shared}
 use Rattle.points.specs.declared.Head.{Head}
 use Rattle.points.specs.Record.{badShared, fits, isJoined, recordReasons, unfit}
@@ -31,6 +32,18 @@ settled-before (r ∷ rs) more k e = go (r .holds) refl (λ h. settled-before rs
   where
     go : (b : Bool) → r .holds ≡ b → (first rs ≡ suc k → first (rs ++ more) ≡ suc k) → first (r ∷ (rs ++ more)) ≡ suc k
     go true x ih = first-settled (r .number) (r .holds) (rs ++ more) x ∙ sym (first-settled (r .number) (r .holds) rs x) ∙ e
+    go false x ih = first-goes-on (r .number) (r .holds) (rs ++ more) x ∙ ih (sym (first-goes-on (r .number) (r .holds) rs x) ∙ e)
+
+-- reasons of which none holds, and which have numbers, have no say in what comes after
+pub gone-past : (rs more : List Reason) → all-of (λ r. not (isZero (r .number))) rs ≡ true → first rs ≡ 0 → first (rs ++ more) ≡ first more
+gone-past [] more n e = refl
+gone-past (r ∷ rs) more n e = go (r .holds) refl (λ h. gone-past rs more (and-right (not (isZero (r .number))) _ n) h)
+  where
+    go : (b : Bool) → r .holds ≡ b → (first rs ≡ 0 → first (rs ++ more) ≡ first more) → first (r ∷ (rs ++ more)) ≡ first more
+    go true x ih =
+        let z : r .number ≡ 0 = sym (first-settled (r .number) (r .holds) rs x) ∙ e in
+        let f : not (isZero (r .number)) ≡ false = rw z in
+        absurd (no-true (and-left (not (isZero (r .number))) _ n) f)
     go false x ih = first-goes-on (r .number) (r .holds) (rs ++ more) x ∙ ih (sym (first-goes-on (r .number) (r .holds) rs x) ∙ e)
 
 -- a call that is refused answers so, whatever it would do otherwise

@@ -1,5 +1,6 @@
--- A call that goes by its refusal's number replies that number: joining, beginning and leaving. And what a step answers is its plan's. Assumes nothing.
-use mathlib.Core.Path.{_≡_, refl}
+-- A call that goes by its refusal's number replies that number: joining, beginning and leaving. And what a step of a write answers is its plan's. Assumes nothing.
+use mathlib.Core.Path.{_≡_, refl, ap}
+use mathlib.Core.Bool.{false}
 use mathlib.Core.List.{List}
 use Prim.Native.Nat.{ℕ}
 use lib.ListN.{length}
@@ -11,10 +12,11 @@ use Rattle.points.specs.declared.Point.{Point}
 use Rattle.points.specs.declared.Joined.{Joined}
 use Rattle.points.specs.declared.Begun.{Begun}
 use Rattle.points.specs.declared.Left.{Left}
-use Rattle.points.specs.Record.{unfit}
-use Rattle.points.specs.Calls.{joining, joinRefusal, beginning, beginRefusal, leaving}
-use Rattle.points.specs.Plan.{carriedOut}
+use Rattle.points.specs.Record.{isReading, unfit}
+use Rattle.points.specs.Calls.{joining, joinRefusal, beginning, beginRefusal, beginningRead, beginReadRefusal, leaving}
+use Rattle.points.specs.Plan.{Outcome, carriedOut}
 use Rattle.points.specs.Stepping.{planned, stepping}
+use Rattle.points.proofs.ReadCases.{write-kind}
 
 module _ (E : Edition) (I : List ℕ) (s : Shared) where
   pub join-replies : (n : ℕ) → joining E I s n .reply ≡ replyOf (joinRefusal E I s n)
@@ -30,6 +32,10 @@ module _ (E : Edition) (I : List ℕ) (s : Shared) where
     unfolding leaving
     leave-replies = replies (λ (l : Left). l .reply) (unfit E I s (p .head) (p .table)) _ _ refl (λ k. refl)
 
-    pub step-answers : stepping E I s p .step ≡ planned E I s p .step
-    unfolding stepping carriedOut
-    step-answers = refl
+    pub begin-read-replies : (o size : ℕ) → beginningRead E I s p o size .reply ≡ replyOf (beginReadRefusal E I s (p .head) (p .table) o size)
+    unfolding beginningRead
+    begin-read-replies o size = replies (λ (b : Begun). b .reply) (beginReadRefusal E I s (p .head) (p .table) o size) _ _ refl (λ k. refl)
+
+    pub step-answers : isReading (p .head .write .phase) ≡ false → stepping E I s p .step ≡ planned E I s p .step
+    unfolding carriedOut
+    step-answers e = ap (λ (o : Outcome). o .step) (write-kind E I s p e)

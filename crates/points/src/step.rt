@@ -82,6 +82,7 @@ fn settle<'a>(
     table: &'a [u16; 256],
     text: &'a [u8; 1024],
 ) -> Plan
+    requires { ⌜ isReading (head .write .phase) ≡ false ⌝ }
     ensures { λ r. ⌜ r
         ≡ planned one (now (image .entry)) (sharedOf numbers (now (taken .entry))) (pointOf head (now (table .entry)) (now (text .entry))) ⌝ }
 {

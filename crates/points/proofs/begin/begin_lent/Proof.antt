@@ -20,10 +20,10 @@ caught c = c .before .before .before
 abbrev not-refused : tie.After-catch-up → tie.Else1
 not-refused c = c .before .before
 
-abbrev settled : tie.Else1 → tie.After-settle
+abbrev settled : tie.Else1 → tie.After-settle-write
 settled c = c .before .before
 
-abbrev start : tie.After-settle → tie.Start
+abbrev start : tie.After-settle-write → tie.Start
 start c = c .before .before .before .before .before
 
 passed :
@@ -31,19 +31,19 @@ passed :
     Ready one (a .image .now) (sharedOf (a .numbers) (a .taken .now)) (pointOf (a .head) (a .table .now) (a .text .now)) (a .offset) (a .bytes .now)
 passed c =
     let a = start (settled c) .args in
-    let q = settled c .settle in
+    let q = settled c .settle-write in
     ready one (a .image .now) (sharedOf (a .numbers) (a .taken .now)) (pointOf (a .head) (a .table .now) (a .text .now)) (a .offset) (a .bytes .now)
     (sym (q .ensures .refusal) ∙ c .if1 .left)
 
-settle-requires : tie.Need-settle-requires
-settle-requires c κs = search needs
+settle-write-requires : tie.Need-settle-write-requires
+settle-write-requires c κs = search needs
 
 returns : tie.Need-returns
 returns c =
     let q = c .before .before in
     let a = start q .args in
     begin-refused one (a .image .now) (sharedOf (a .numbers) (a .taken .now)) (pointOf (a .head) (a .table .now) (a .text .now)) (a .offset) (a .bytes .now)
-    (q .settle .result .reason) (q .settle .ensures .refusal) (c .if1 .taken)
+    (q .settle-write .result .reason) (q .settle-write .ensures .refusal) (c .if1 .taken)
 
 catch-up-requires : tie.Need-catch-up-requires
 catch-up-requires c κs = search needs
@@ -80,7 +80,7 @@ returns-2 c =
     let taken = c .before .before in
     let s = spanned taken in
     let e = not-refused (caught s) in
-    let q = settled e .settle in
+    let q = settled e .settle-write in
     let z = e .if1 .left in
     let r = passed e in
     let a = start (settled e) .args in
@@ -93,7 +93,7 @@ pub begin-lent-spec : {M : Type 1} → statement M
 begin-lent-spec =
     tie.close
     (tie.spec
-    settle-requires
+    settle-write-requires
     returns
     catch-up-requires
     put-text-requires

@@ -2,6 +2,8 @@
 use native.Mathlib.Omega.{arith}
 use mathlib.Core.Path.{_≡_, sym, _∙_, ap}
 use mathlib.Core.Bool.{true, false}
+use mathlib.Core.List.{List}
+use Prim.Native.Nat.{ℕ}
 use borrow.Author.Needs.{needs}
 use borrow.Author.Tests.{not-true, not-false}
 use Rattle.words.specs.Edition.{one}
@@ -10,9 +12,8 @@ use Rattle.log.specs.declared.Lookahead.{Lookahead}
 use Rattle.log.specs.CatchUp.{ahead, broken}
 use Rattle.log.specs.Look.{lookaheadOf}
 use Rattle.points.specs.Record.{isIdle, badText, pastEnd, unfit}
-use Rattle.points.specs.Search.{sharedOf, search as found-by}
-use Rattle.points.proofs.RecordFacts.{TextFits, text-facts}
-use Rattle.points.proofs.Begins.{start-refused, begin-unfit, begin-15, begin-16, begin-17, begin-18, begin-19, begin-0}
+use Rattle.points.specs.Search.{sharedOf}
+use Rattle.points.proofs.Begins.{settled-refused, begin-unfit, begin-15, begin-16, begin-17, begin-18, begin-0}
 use Rattle.points.proofs.begin.settle.Statement.{statement}
 use Rattle.points.proofs.begin.settle.Tie as tie
 
@@ -32,8 +33,8 @@ sized c = c .before .before
 abbrev inside : tie.Else5 → tie.Else4
 inside c = c .before .before
 
-not-14 : (c : tie.Else1) → let a = start c .args in unfit one (a .image .now) (sharedOf (a .numbers) (a .taken .now)) (a .head) (a .table .now) ≡ 0
-not-14 c = sym (c .before .unfit-numbers .ensures (start c .args .taken .now)) ∙ c .if1 .left
+not-14 : (c : tie.Else1) → let a = start c .args in (taken : List ℕ) → unfit one (a .image .now) (sharedOf (a .numbers) taken) (a .head) (a .table .now) ≡ 0
+not-14 c taken = sym (c .before .unfit-numbers .ensures taken) ∙ c .if1 .left
 
 not-15 : (c : tie.Else2) → isIdle (start (fit c) .args .head .write .phase) ≡ true
 not-15 c = sym (c .before .is-idle .ensures) ∙ not-false _ (c .if2 .left)
@@ -50,13 +51,6 @@ not-18 :
 unfolding lookaheadOf
 not-18 c = ap (λ (k : Lookahead). k .broken) (sym (c .before .look .ensures)) ∙ c .if5 .left
 
-text-at :
-    (c : tie.Else5) → let a = start (fit (idle (sized (inside c)))) .args in
-    TextFits one (a .offset) (a .size)
-text-at c =
-    let a = start (fit (idle (sized (inside c)))) .args in
-    text-facts one (a .offset) (a .size) (not-16 (sized (inside c))) (not-17 (inside c))
-
 unfit-numbers-requires : tie.Need-unfit-numbers-requires
 unfit-numbers-requires c κs = search needs
 
@@ -66,10 +60,10 @@ refused-requires c κs = search needs
 returns : tie.Need-returns
 returns c =
     let a = c .before .before .before .before .args in
-    let s = sharedOf (a .numbers) (a .taken .now) in
     let u = c .before .before .unfit-numbers in
-    start-refused (a .image .now) s (a .head) (a .table .now) (a .offset) (a .size) _ (u .result) _ _ (c .refused .ensures) (c .before .if1 .taken)
-    (begin-unfit one (a .image .now) s (a .head) (a .table .now) (a .offset) (a .size) (u .result) (u .ensures (a .taken .now)) (c .before .if1 .taken))
+    settled-refused (a .image .now) (a .numbers) (a .head) (a .table .now) (a .offset) (a .size) _ (u .result) _ (c .refused .ensures) (c .before .if1 .taken)
+    (λ taken. begin-unfit one (a .image .now) (sharedOf (a .numbers) taken) (a .head) (a .table .now) (a .offset) (a .size)
+    (u .result) (u .ensures taken) (c .before .if1 .taken))
 
 is-idle-requires : tie.Need-is-idle-requires
 is-idle-requires c κs = search needs
@@ -81,9 +75,8 @@ returns-2 : tie.Need-returns-2
 returns-2 c =
     let e = c .before .before .before .before in
     let a = start e .args in
-    let s = sharedOf (a .numbers) (a .taken .now) in
-    start-refused (a .image .now) s (a .head) (a .table .now) (a .offset) (a .size) _ 15 _ _ (c .refused2 .ensures) (λ z. omega arith)
-    (begin-15 one (a .image .now) s (a .head) (a .table .now) (a .offset) (a .size) (not-14 e)
+    settled-refused (a .image .now) (a .numbers) (a .head) (a .table .now) (a .offset) (a .size) _ 15 _ (c .refused2 .ensures) (λ z. omega arith)
+    (λ taken. begin-15 one (a .image .now) (sharedOf (a .numbers) taken) (a .head) (a .table .now) (a .offset) (a .size) (not-14 e taken)
     (sym (c .before .before .is-idle .ensures) ∙ not-true _ (c .before .if2 .taken)))
 
 bad-text-requires : tie.Need-bad-text-requires
@@ -96,10 +89,9 @@ returns-3 : tie.Need-returns-3
 returns-3 c =
     let e = c .before .before .before in
     let a = start (fit e) .args in
-    let s = sharedOf (a .numbers) (a .taken .now) in
-    start-refused (a .image .now) s (a .head) (a .table .now) (a .offset) (a .size) _ 16 _ _ (c .refused3 .ensures) (λ z. omega arith)
-    (begin-16 one (a .image .now) s (a .head) (a .table .now) (a .offset) (a .size)
-    (not-14 (fit e)) (not-15 e)
+    settled-refused (a .image .now) (a .numbers) (a .head) (a .table .now) (a .offset) (a .size) _ 16 _ (c .refused3 .ensures) (λ z. omega arith)
+    (λ taken. begin-16 one (a .image .now) (sharedOf (a .numbers) taken) (a .head) (a .table .now) (a .offset) (a .size)
+    (not-14 (fit e) taken) (not-15 e)
     (sym (c .before .before .bad-text .ensures) ∙ c .before .if3 .taken))
 
 past-end-requires : tie.Need-past-end-requires
@@ -112,10 +104,9 @@ returns-4 : tie.Need-returns-4
 returns-4 c =
     let e = c .before .before .before in
     let a = start (fit (idle e)) .args in
-    let s = sharedOf (a .numbers) (a .taken .now) in
-    start-refused (a .image .now) s (a .head) (a .table .now) (a .offset) (a .size) _ 17 _ _ (c .refused4 .ensures) (λ z. omega arith)
-    (begin-17 one (a .image .now) s (a .head) (a .table .now) (a .offset) (a .size)
-    (not-14 (fit (idle e))) (not-15 (idle e)) (not-16 e)
+    settled-refused (a .image .now) (a .numbers) (a .head) (a .table .now) (a .offset) (a .size) _ 17 _ (c .refused4 .ensures) (λ z. omega arith)
+    (λ taken. begin-17 one (a .image .now) (sharedOf (a .numbers) taken) (a .head) (a .table .now) (a .offset) (a .size)
+    (not-14 (fit (idle e)) taken) (not-15 (idle e)) (not-16 e)
     (sym (c .before .before .past-end .ensures) ∙ c .before .if4 .taken))
 
 look-requires : tie.Need-look-requires
@@ -129,54 +120,22 @@ unfolding lookaheadOf
 returns-5 c =
     let e = c .before .before .before in
     let a = start (fit (idle (sized e))) .args in
-    let s = sharedOf (a .numbers) (a .taken .now) in
-    start-refused (a .image .now) s (a .head) (a .table .now) (a .offset) (a .size) _ 18 _ _ (c .refused5 .ensures) (λ z. omega arith)
-    (begin-18 one (a .image .now) s (a .head) (a .table .now) (a .offset) (a .size)
-    (not-14 (fit (idle (sized e)))) (not-15 (idle (sized e))) (not-16 (sized e)) (not-17 e)
+    settled-refused (a .image .now) (a .numbers) (a .head) (a .table .now) (a .offset) (a .size) _ 18 _ (c .refused5 .ensures) (λ z. omega arith)
+    (λ taken. begin-18 one (a .image .now) (sharedOf (a .numbers) taken) (a .head) (a .table .now) (a .offset) (a .size)
+    (not-14 (fit (idle (sized e))) taken) (not-15 (idle (sized e))) (not-16 (sized e)) (not-17 e)
     (ap (λ (k : Lookahead). k .broken) (sym (c .before .before .look .ensures)) ∙ c .before .if5 .taken))
 
-cast-span : tie.Need-cast-span
-cast-span c = let t = text-at c in record { fits = omega arith }
-
-cast-span-2 : tie.Need-cast-span-2
-cast-span-2 c = let t = text-at c in record { fits = omega arith }
-
-span-requires : tie.Need-span-requires
-span-requires c κs = search needs
-
-search-requires : tie.Need-search-requires
-search-requires c κs = search needs
-
-refused-requires-6 : tie.Need-refused-requires-6
-refused-requires-6 c κs = search needs
-
 returns-6 : tie.Need-returns-6
-returns-6 c =
-    let e = c .before .before .before .before .before in
-    let i = inside e in
-    let a = start (fit (idle (sized i))) .args in
-    let s = sharedOf (a .numbers) (a .taken .now) in
-    let run = c .before .before .search .ensures ∙ ap (found-by s) (c .before .before .before .before .span .ensures) in
-    start-refused (a .image .now) s (a .head) (a .table .now) (a .offset) (a .size) _ 19 _ _ (c .refused6 .ensures) (λ z. omega arith)
-    (begin-19 one (a .image .now) s (a .head) (a .table .now) (a .offset) (a .size)
-    (not-14 (fit (idle (sized i)))) (not-15 (idle (sized i))) (not-16 (sized i)) (not-17 i) (not-18 e)
-    (sym run ∙ c .before .if6 .taken))
-
-returns-7 : tie.Need-returns-7
 unfolding lookaheadOf
-returns-7 c =
-    let e = c .before .before .before .before .before in
-    let i = inside e in
-    let a = start (fit (idle (sized i))) .args in
-    let s = sharedOf (a .numbers) (a .taken .now) in
-    let run = c .before .before .search .ensures ∙ ap (found-by s) (c .before .before .before .before .span .ensures) in
+returns-6 c =
+    let last = c .before in
+    let e = inside last in
+    let a = start (fit (idle (sized e))) .args in
     record {
-      refusal =
-          begin-0 one (a .image .now) s (a .head) (a .table .now) (a .offset) (a .size)
-          (not-14 (fit (idle (sized i)))) (not-15 (idle (sized i))) (not-16 (sized i)) (not-17 i) (not-18 e)
-          (λ z. c .before .if6 .left (run ∙ z));
-      tail = λ z. ap (λ (k : Lookahead). k .place) (e .before .look .ensures);
-      found = λ z. run;
+      refusal = λ taken.
+          begin-0 one (a .image .now) (sharedOf (a .numbers) taken) (a .head) (a .table .now) (a .offset) (a .size)
+          (not-14 (fit (idle (sized e))) taken) (not-15 (idle (sized e))) (not-16 (sized e)) (not-17 e) (not-18 last);
+      tail = λ z. ap (λ (k : Lookahead). k .place) (last .before .look .ensures);
     }
 
 pub settle-spec : {M : Type 1} → statement M
@@ -198,10 +157,4 @@ settle-spec =
     look-requires
     refused-requires-5
     returns-5
-    cast-span
-    cast-span-2
-    span-requires
-    search-requires
-    refused-requires-6
-    returns-6
-    returns-7)
+    returns-6)

@@ -2,7 +2,7 @@
 use mathlib.Core.Path.{refl, sym, _∙_}
 use native.Mathlib.Omega.{arith}
 use Rattle.words.specs.Edition.{one}
-use Rattle.points.specs.declared.Phase.the-variants.{Idle, RefillFirst, RefillLast, RefillBoth, Zeroing}
+use Rattle.points.specs.declared.Phase.the-variants.{Idle, RefillFirst, RefillLast, RefillBoth, Zeroing, Reading}
 use Rattle.points.proofs.NextWord.{next-in, next-filling, next-none}
 use borrow.Author.Needs.{needs}
 use Rattle.points.proofs.fill.next_word.Statement.{statement}
@@ -34,6 +34,9 @@ next-in-both-requires c κs = search needs
 
 enum-told-6 : tie.Need-enum-told-6
 enum-told-6 c = search needs
+
+enum-told-7 : tie.Need-enum-told-7
+enum-told-7 c = search needs
 
 returns : tie.Need-returns
 returns c =
@@ -67,6 +70,12 @@ returns-6 c =
     let args = c .before .before .args in
     pre .4 ∙ sym (next-none one (args .write) Zeroing (c .enum-told6 .given .1) (λ k. refl) (omega arith))
 
+returns-7 : tie.Need-returns-7
+returns-7 c =
+    let pre = c .before .before .pre in
+    let args = c .before .before .args in
+    pre .4 ∙ sym (next-none one (args .write) Reading (c .enum-told7 .given .1) (λ k. refl) (omega arith))
+
 pub next-word-spec : {M : Type 1} → statement M
 next-word-spec =
     tie.close
@@ -80,9 +89,11 @@ next-word-spec =
     enum-told-5
     next-in-both-requires
     enum-told-6
+    enum-told-7
     returns
     returns-2
     returns-3
     returns-4
     returns-5
-    returns-6)
+    returns-6
+    returns-7)

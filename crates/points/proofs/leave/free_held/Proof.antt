@@ -1,10 +1,11 @@
 -- `points::leave::free_held` meets its contract: by the phase, it frees nothing, the run, or the run and the block being zeroed. Assumes nothing.
 use mathlib.Core.Path.{_≡_, sym, _∙_}
-use mathlib.Core.Bool.{false}
+use mathlib.Core.Bool.{true}
 use borrow.Author.Needs.{needs}
+use borrow.Author.Tests.{not-true, not-false}
 use Rattle.words.specs.Edition.{one}
-use Rattle.points.specs.Record.{isIdle}
-use Rattle.points.proofs.Leaves.{held-idle, held-run, held-both}
+use Rattle.points.specs.Record.{isWriting}
+use Rattle.points.proofs.Leaves.{held-none, held-run, held-both}
 use Rattle.points.proofs.leave.free_held.Statement.{statement}
 use Rattle.points.proofs.leave.free_held.Tie as tie
 
@@ -15,14 +16,14 @@ run-freed c = c .before .before .before
 abbrev start : tie.Else1 → tie.Start
 start c = c .before .before .before
 
-busy : (c : tie.Else1) → isIdle (start c .args .write .phase) ≡ false
-busy c = sym (c .before .is-idle .ensures) ∙ c .if1 .left
+busy : (c : tie.Else1) → isWriting (start c .args .write .phase) ≡ true
+busy c = sym (c .before .is-writing .ensures) ∙ not-false _ (c .if1 .left)
 
-is-idle-requires : tie.Need-is-idle-requires
-is-idle-requires c κs = search needs
+is-writing-requires : tie.Need-is-writing-requires
+is-writing-requires c κs = search needs
 
 returns : tie.Need-returns
-returns c = let a = c .before .before .before .args in held-idle one (a .map .now) (a .write) (sym (c .before .is-idle .ensures) ∙ c .if1 .taken)
+returns c = let a = c .before .before .before .args in held-none one (a .map .now) (a .write) (sym (c .before .is-writing .ensures) ∙ not-true _ (c .if1 .taken))
 
 free-run-requires : tie.Need-free-run-requires
 free-run-requires c κs = search needs
@@ -61,7 +62,7 @@ pub free-held-spec : {M : Type 1} → statement M
 free-held-spec =
     tie.close
     (tie.spec
-    is-idle-requires
+    is-writing-requires
     returns
     free-run-requires
     is-zeroing-requires

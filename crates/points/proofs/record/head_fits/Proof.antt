@@ -1,4 +1,4 @@
--- `points::record::head_fits` meets its contract: its tests are those of the list, the write's only where one is under way. Assumes nothing.
+-- `points::record::head_fits` meets its contract: its tests are those of the list, those of what is under way only where something is. Assumes nothing.
 use mathlib.Core.Path.{sym, _∙_}
 use borrow.Author.Needs.{needs}
 use Rattle.words.specs.Edition.{one}
@@ -16,8 +16,8 @@ returns : tie.Need-returns
 returns c =
     let a = c .before .before .before .before .before .args in cc (head-idle one (a .blocks) (a .head) (sym (c .before .is-idle .ensures) ∙ c .if1 .taken))
 
-write-fits-requires : tie.Need-write-fits-requires
-write-fits-requires c κs = search needs
+work-fits-requires : tie.Need-work-fits-requires
+work-fits-requires c κs = search needs
 
 returns-2 : tie.Need-returns-2
 returns-2 c =
@@ -26,4 +26,4 @@ returns-2 c =
 
 pub head-fits-spec : {M : Type 1} → statement M
 head-fits-spec =
-    tie.close (tie.spec place-fits-requires is-idle-requires returns write-fits-requires returns-2)
+    tie.close (tie.spec place-fits-requires is-idle-requires returns work-fits-requires returns-2)

@@ -1,4 +1,4 @@
--- `points::record::phase_of`: number by number; the rest is none of 1 to 5. Assumes nothing.
+-- `points::record::phase_of`: number by number; the rest is none of 1 to 6. Assumes nothing.
 use Rattle.points.proofs.Fits.{phase-none}
 use borrow.Author.Needs.{needs}
 use Rattle.points.proofs.record.phase_of.Statement.{statement}
@@ -20,7 +20,11 @@ returns-5 : tie.Need-returns-5
 returns-5 c = search needs
 
 returns-6 : tie.Need-returns-6
-returns-6 c = let r = c .match .rest in phase-none (c .before .args .number) (r .0 .0 .0 .0 .1) (r .0 .0 .0 .1) (r .0 .0 .1) (r .0 .1) (r .1)
+returns-6 c = search needs
+
+returns-7 : tie.Need-returns-7
+returns-7 c =
+    let r = c .match .rest in phase-none (c .before .args .number) (r .0 .0 .0 .0 .0 .1) (r .0 .0 .0 .0 .1) (r .0 .0 .0 .1) (r .0 .0 .1) (r .0 .1) (r .1)
 
 pub phase-of-spec : {M : Type 1} → statement M
-phase-of-spec = tie.close (tie.spec returns returns-2 returns-3 returns-4 returns-5 returns-6)
+phase-of-spec = tie.close (tie.spec returns returns-2 returns-3 returns-4 returns-5 returns-6 returns-7)

@@ -49,9 +49,11 @@ write-on-requires : tie.Need-write-on-requires
 write-on-requires c κs =
     let e = fit (c .before) in
     let unfit = e .before .unfit-numbers in
-    let a = start e .args in
-    under-way one (a .image .now) (sharedOf (a .numbers) (a .taken .now)) (pointOf (a .head) (a .table .now) (a .text .now))
-    (sym (unfit .ensures (a .taken .now)) ∙ e .if1 .left) (sym (c .before .is-idle .ensures) ∙ c .if2 .left)
+    let a = start e .args in (
+      under-way one (a .image .now) (sharedOf (a .numbers) (a .taken .now)) (pointOf (a .head) (a .table .now) (a .text .now))
+          (sym (unfit .ensures (a .taken .now)) ∙ e .if1 .left) (sym (c .before .is-idle .ensures) ∙ c .if2 .left),
+      start e .pre,
+    )
 
 returns-3 : tie.Need-returns-3
 returns-3 c =

@@ -1,4 +1,4 @@
--- `points::step::step_lent`: what the plan asks for, the plan of a step has; map, table, text and image are left as the plan says.
+-- `points::step::write_lent`: what the plan asks for, the plan of a write's step has; map, table, text and image are left as the plan says.
 use mathlib.Core.Path.{sym, ap, subst, _∙_}
 use Prim.Native.Nat.{_<_, _^_}
 use native.Mathlib.Omega.{arith}
@@ -7,12 +7,12 @@ use Rattle.words.specs.Memory.{memory, after}
 use Rattle.points.specs.declared.plan.Plan.{Plan}
 use Rattle.points.specs.Record.{pointOf}
 use Rattle.points.specs.Search.{sharedOf}
-use Rattle.points.specs.Plan.{answered, storedAt, carriedOut}
-use Rattle.points.specs.Stepping.{stepping}
+use Rattle.points.specs.Plan.{Outcome, answered, storedAt, carriedOut}
 use Rattle.points.proofs.Planned.{Sound, planned-sound, carried-out}
+use Rattle.points.proofs.ReadCases.{write-kind}
 use borrow.Author.Needs.{needs}
-use Rattle.points.proofs.step.step_lent.Statement.{statement}
-use Rattle.points.proofs.step.step_lent.Tie as tie
+use Rattle.points.proofs.step.write_lent.Statement.{statement}
+use Rattle.points.proofs.step.write_lent.Tie as tie
 
 -- the way back, call by call
 abbrev stored : tie.After-head-of → tie.After-store
@@ -45,10 +45,10 @@ sound : (c : tie.After-settle)
 sound c =
     let a = start c .args in
     subst (Sound one (memory one (a .image .now)) (sharedOf (a .numbers) (a .taken .now)) (a .head)) (sym (c .settle .ensures))
-    (planned-sound one (a .image .now) (sharedOf (a .numbers) (a .taken .now)) (pointOf (a .head) (a .table .now) (a .text .now)) (few-joined (start c)))
+    (planned-sound one (a .image .now) (sharedOf (a .numbers) (a .taken .now)) (pointOf (a .head) (a .table .now) (a .text .now)) (few-joined (start c)) (start c .pre))
 
 settle-requires : tie.Need-settle-requires
-settle-requires c κs = search needs
+settle-requires c κs = c .before .before .before .before .before .pre
 
 release-requires : tie.Need-release-requires
 release-requires c κs = sound (c .before .before) .frees
@@ -72,7 +72,7 @@ same-length : tie.Need-same-length
 same-length c = search needs
 
 returns : tie.Need-returns
-unfolding stepping carriedOut
+unfolding carriedOut
 returns c =
     let text = kept (stored c) in
     let table = read text in
@@ -85,20 +85,21 @@ returns c =
     let m = memory one (a .image .now) in
     let e = plan .settle .ensures in
     let put = stored c .store in
+    let kind = write-kind one (a .image .now) s p (start plan .pre) in
     record {
-      leaves =
-          record {
-            answers = carried-out one m (a .numbers) (a .taken .now) (plan .settle .result) p (c .head-of .result) (map .release .last .0)
-                (block .take-one .last .0) (table .read-in .last .1 .1 .1 .0) (text .keep-text .last .0)
-                (table .read-in .result) (put .result) (map .release .ensures) (block .take-one .ensures) (table .read-in .ensures)
-                (text .keep-text .ensures) (c .head-of .ensures)
-                ∙ ap (λ (x : Plan). answered (carriedOut one m s p x)) e;
-            stored = put .ensures .stored ∙ ap (λ (x : Plan). after one (a .image .now) (carriedOut one m s p x .store)) e;
-          };
-      place = put .ensures .place ∙ ap (λ (x : Plan). storedAt one (carriedOut one m s p x .store)) e;
+      answers = carried-out one m (a .numbers) (a .taken .now) (plan .settle .result) p (c .head-of .result) (map .release .last .0)
+          (block .take-one .last .0) (table .read-in .last .1 .1 .1 .0) (text .keep-text .last .0)
+          (table .read-in .result) (put .result) (map .release .ensures) (block .take-one .ensures) (table .read-in .ensures)
+          (text .keep-text .ensures) (c .head-of .ensures)
+          ∙ ap (λ (x : Plan). answered (carriedOut one m s p x)) e ∙ sym (ap answered kind);
+      stored = put .ensures .stored ∙ ap (λ (x : Plan). after one (a .image .now) (carriedOut one m s p x .store)) e
+          ∙ sym (ap (λ (o : Outcome). after one (a .image .now) (o .store)) kind);
+      silent = ap (λ (o : Outcome). o .bytes) kind;
+      place = put .ensures .place ∙ ap (λ (x : Plan). storedAt one (carriedOut one m s p x .store)) e
+          ∙ sym (ap (λ (o : Outcome). storedAt one (o .store)) kind);
     }
 
-pub step-lent-spec : {M : Type 1} → statement M
-step-lent-spec =
+pub write-lent-spec : {M : Type 1} → statement M
+write-lent-spec =
     tie.close
     (tie.spec settle-requires release-requires take-one-requires read-in-requires keep-text-requires store-requires head-of-requires same-length returns)
