@@ -8,7 +8,7 @@ use Prim.Native.Nat.{ℕ}
 use lib.ListN.{take}
 use Rattle.words.specs.Edition.{Edition}
 use Rattle.log.specs.Opening.{openedFile}
-use Rattle.points.specs.Record.{isJoined, isIdle}
+use Rattle.points.specs.Record.{isJoined, isIdle, isWriting}
 use Rattle.recovery.specs.World as W
 use Rattle.recovery.specs.Book.{Book, firstBook, book}
 use Rattle.recovery.specs.History.{History, callsBefore, eventsBefore, atCut}
@@ -18,7 +18,7 @@ use Rattle.recovery.proofs.Claim.{opens-enough, same-start, bytesBefore
 use Rattle.recovery.proofs.Demand3.{after-tied}
 
 module _ {E : Edition} {L : List ℕ} (w : W.World) (bk : Book) (h : Tied E L w bk) (p : ℕ) where
-  under-way : isJoined (w .shared) p ≡ true → isIdle (w .newest p .head .write .phase) ≡ false
+  under-way : isJoined (w .shared) p ≡ true → isWriting (w .newest p .head .write .phase) ≡ true
       → bk .note p ≡ some (record { offset = w .newest p .head .write .offset; text = take (w .newest p .head .write .size) (w .newest p .text) })
   under-way j b =
       let x = w .newest p .head .write in
@@ -32,7 +32,7 @@ module _ {E : Edition} (h : History E) (p : ℕ) where
   abbrev bookAtCut : Book
   bookAtCut = book (firstBook (openedFile E (h .words))) (eventsBefore h)
 
-  pub write-noted : isJoined (atCut h .shared) p ≡ true → isIdle (atCut h .newest p .head .write .phase) ≡ false
+  pub write-noted : isJoined (atCut h .shared) p ≡ true → isWriting (atCut h .newest p .head .write .phase) ≡ true
       → bookAtCut .note p
       ≡ some (record { offset = atCut h .newest p .head .write .offset; text = take (atCut h .newest p .head .write .size) (atCut h .newest p .text) })
   write-noted = let t = after-tied E (h .words) (opens-enough h) (callsBefore h) (bytesBefore h) in rw (same-start h) (under-way _ _ t p)

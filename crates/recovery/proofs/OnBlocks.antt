@@ -19,18 +19,23 @@ use Rattle.log.specs.declared.Shared.{Shared}
 use Rattle.points.specs.declared.Write.{Write}
 use Rattle.points.specs.declared.Head.{Head}
 use Rattle.points.specs.declared.Point.{Point}
+use Rattle.points.specs.declared.StepAnswer.the-variants.{Refused}
 use Rattle.points.specs.declared.plan.Plan.{Plan}
-use Rattle.points.specs.Record.{badShared, headFits, tableFits, fits, isJoined, isIdle, isZeroing, runWords}
+use Rattle.points.specs.Record.{badShared, headFits, tableFits, fits, isJoined, isIdle, isZeroing, isReading, runWords}
 use Rattle.points.specs.Fill.{nextWord}
 use Rattle.points.specs.Plan.{Outcome, carriedOut}
-use Rattle.points.specs.Stepping.{refused, writeOn, stepRefusal, planned, stepping}
-use Rattle.recovery.specs.World.{World, Call, join, begin, step, leave, Event, stepped, numbered, handed, withNewest, Served, serve, world, events}
+use Rattle.points.specs.ReadSteps.{untouched, readOn}
+use Rattle.points.specs.Stepping.{refused, writeOn, stepRefusal, planned, readStep, stepping}
+use Rattle.recovery.specs.World.{World, Call, join, begin, beginRead, step, leave, Event, stepped}
+use Rattle.recovery.specs.World.{numbered, handed, withNewest, Served, serve, world, events}
 use Rattle.recovery.specs.Sessions.{Case, Agree, afterCalls}
 use Rattle.words.proofs.Logic.{and-left, and-right}
 use Rattle.words.proofs.Memory.{memory-put, length-memory}
 use Rattle.points.proofs.StepCases.{on-zeroing, on-filling, zero-on, fill-on}
 use Rattle.points.proofs.CarriedOut.{afterRefusal, afterFill, afterZero, refusal-leaves, fill-leaves, zero-leaves}
+use Rattle.points.proofs.ReadCases.{write-kind}
 use Rattle.points.proofs.StepFacts.{goes-on, refused-on}
+use Rattle.words.proofs.Tests.{no-true}
 use Rattle.recovery.proofs.Calls.Mapping.{withNewest-same, handed-newest}
 use Rattle.recovery.proofs.Computed.{test, agree}
 
@@ -89,11 +94,15 @@ refusalIn E n fit s h =
     ∷ [])
 
 unfoldable pub stepIn : Edition → Memory → ℕ → Bool → Shared → Point → Outcome
-stepIn E m n fit s p = carriedOut E m s p (elim (refusalIn E n fit s (p .head)) [ zero ↦ writeOn E m s p | suc k ↦ refused E (p .head) (suc k) ])
+stepIn E m n fit s p =
+    elim (isReading (p .head .write .phase)) [
+      | true ↦ elim (refusalIn E n fit s (p .head)) [ zero ↦ readOn E m s p | suc k ↦ untouched s p (Refused (suc k)) ]
+      | false ↦ carriedOut E m s p (elim (refusalIn E n fit s (p .head)) [ zero ↦ writeOn E m s p | suc k ↦ refused E (p .head) (suc k) ])
+    ]
 
 step-in : (E : Edition) (words : List ℕ) (s : Shared) (p : Point)
     → stepIn E (memory E words) (length words) (tableFits (s .blocks) (p .table)) s p ≡ stepping E words s p
-unfolding stepIn refusalIn badSharedIn stepping planned stepRefusal badShared fits
+unfolding stepIn refusalIn badSharedIn stepping planned readStep stepRefusal badShared fits
 step-in E words s p = refl
 
 step-is : (E : Edition) (words : List ℕ) (fit : Bool) (s : Shared) (p : Point) → Whole E words → fit ≡ tableFits (s .blocks) (p .table)
@@ -127,11 +136,11 @@ cutWithNewest v n p k = elim (eqb k n) [ true ↦ p | false ↦ v .newest k ]
 abbrev pub cutStep : Edition → CutWorld → ℕ → Head → Outcome → CutServed
 cutStep E v n h o =
     record {
-      event = stepped n h (o .step);
+      event = stepped n h (o .step) (o .bytes);
       state = record { image = afterIn E (v .image) (o .store); shared = o .shared; newest = cutWithNewest v n (o .point) };
     }
 
--- joining, beginning and leaving store nothing
+-- joining, beginning of either kind and leaving store nothing
 abbrev pub kept : CutWorld → Served → CutServed
 kept v t = record { event = t .event; state = record { image = v .image; shared = t .world .shared; newest = t .world .newest } }
 
@@ -149,6 +158,7 @@ fitIn v known n p = fitFor (v .shared .blocks) (handedIn v n p .table) (eqb know
 unfoldable pub cutServe : Edition → CutWorld → ℕ → Call → CutServed
 cutServe E v known (join n) = kept v (serve E (uncut v) (join n))
 cutServe E v known (begin n p offset text) = kept v (serve E (uncut v) (begin n p offset text))
+cutServe E v known (beginRead n p offset size) = kept v (serve E (uncut v) (beginRead n p offset size))
 cutServe E v known (step n p) =
     let q = handedIn v n p in
     cutStep E v n (q .head) (stepIn E (v .image) (length (v .image) * E .blockWords) (fitIn v known n p) (v .shared) q)
@@ -159,8 +169,9 @@ abbrev pub storesBy : Bool → Edition → Write → Bool
 storesBy true E w = ltb (w .position) (E .blockWords)
 storesBy false E w = ltb (nextWord E w) (runWords E w)
 
+-- a read's does not
 abbrev pub stores : Edition → Write → Bool
-stores E w = storesBy (isZeroing (w .phase)) E w
+stores E w = elim (isReading (w .phase)) [ true ↦ false | false ↦ storesBy (isZeroing (w .phase)) E w ]
 
 abbrev pub knownIf : ℕ → Bool → ℕ
 knownIf n true = suc n
@@ -169,6 +180,7 @@ knownIf n false = 0
 unfoldable pub knownAfter : Edition → CutWorld → ℕ → Call → ℕ
 knownAfter E v known (join n) = 0
 knownAfter E v known (begin n p offset text) = 0
+knownAfter E v known (beginRead n p offset size) = 0
 knownAfter E v known (step n p) = knownIf n (isJoined (v .shared) n && (stores E (handedIn v n p .head .write) && fitIn v known n p))
 knownAfter E v known (leave n p) = 0
 
@@ -192,7 +204,7 @@ fit-is E w known n p k = go (eqb known (suc n)) refl
 abbrev pub Leaves : Shared → Point → Outcome → Type 0
 Leaves s p o = (o .shared ≡ s) × (o .point .table ≡ p .table)
 
-store-keeps : (E : Edition) (m : Memory) (s : Shared) (p : Point) → stores E (p .head .write) ≡ true → Leaves s p (carriedOut E m s p (writeOn E m s p))
+store-keeps : (E : Edition) (m : Memory) (s : Shared) (p : Point) → storesBy (isZeroing (p .head .write .phase)) E (p .head .write) ≡ true → Leaves s p (carriedOut E m s p (writeOn E m s p))
 unfolding afterFill afterZero
 store-keeps E m s p c = go (isZeroing (p .head .write .phase)) refl c
   where
@@ -205,15 +217,20 @@ store-keeps E m s p c = go (isZeroing (p .head .write .phase)) refl c
         (nextWord E (p .head .write)))) (refl, refl)
 
 step-keeps : (E : Edition) (words : List ℕ) (s : Shared) (p : Point) → stores E (p .head .write) ≡ true → Leaves s p (stepping E words s p)
-unfolding stepping afterRefusal
-step-keeps E words s p c = go (stepRefusal E words s (p .head) (p .table)) refl
+unfolding afterRefusal
+step-keeps E words s p c = kind (isReading (p .head .write .phase)) refl
   where
-    go : (n : ℕ) → stepRefusal E words s (p .head) (p .table) ≡ n → Leaves s p (stepping E words s p)
-    go zero e = subst (λ (plan : Plan). Leaves s p (carriedOut E (memory E words) s p plan)) (sym (goes-on E words s p e))
+    go : storesBy (isZeroing (p .head .write .phase)) E (p .head .write) ≡ true → (n : ℕ) → stepRefusal E words s (p .head) (p .table) ≡ n
+        → Leaves s p (carriedOut E (memory E words) s p (planned E words s p))
+    go c zero e = subst (λ (plan : Plan). Leaves s p (carriedOut E (memory E words) s p plan)) (sym (goes-on E words s p e))
         (store-keeps E (memory E words) s p c)
-    go (suc k) e =
+    go c (suc k) e =
         subst (Leaves s p) (sym (ap (carriedOut E (memory E words) s p) (refused-on E words s p k e) ∙ refusal-leaves E (memory E words) s p (suc k)))
         (refl, refl)
+
+    kind : (b : Bool) → isReading (p .head .write .phase) ≡ b → Leaves s p (stepping E words s p)
+    kind true e = let f : stores E (p .head .write) ≡ false = rw e in absurd (no-true c f)
+    kind false e = subst (Leaves s p) (sym (write-kind E words s p e)) (go (rw e at c) (stepRefusal E words s (p .head) (p .table)) refl)
 
 known-step : (E : Edition) (w : World) (n : ℕ) (p : Point) → isJoined (w .shared) n ≡ true → stores E (handed w n p .head .write) ≡ true
     → tableFits (w .shared .blocks) (handed w n p .table) ≡ true → Known (serve E w (step n p) .world) (suc n)
@@ -237,6 +254,7 @@ known-after : (E : Edition) (w : World) (known : ℕ) (c : Call) → Known w kno
 unfolding knownAfter handed
 known-after E w known (join n) k = nothing-known _
 known-after E w known (begin n p offset text) k = nothing-known _
+known-after E w known (beginRead n p offset size) k = nothing-known _
 known-after E w known (leave n p) k = nothing-known _
 known-after E w known (step n p) k = split (joined && (still && fit)) refl
   where
@@ -263,12 +281,13 @@ cut-serve-is : (E : Edition) (w : World) (known : ℕ) (c : Call) → Whole E (w
 unfolding cutServe serve handed
 cut-serve-is E w known (join n) e k = rw (flat-memory E (w .words) e)
 cut-serve-is E w known (begin n p offset text) e k = rw (flat-memory E (w .words) e)
+cut-serve-is E w known (beginRead n p offset size) e k = rw (flat-memory E (w .words) e)
 cut-serve-is E w known (step n p) e k =
     let q = handed w n p in
     let o = stepping E (w .words) (w .shared) q in
     ap (cutStep E (cutWorld E w) n (q .head)) (step-is E (w .words) (fitIn (cutWorld E w) known n p) (w .shared) q e (fit-is E w known n p k))
     ∙ ap (λ (m : Memory). record {
-      event = stepped n (q .head) (o .step);
+      event = stepped n (q .head) (o .step) (o .bytes);
       state = record { image = m; shared = o .shared; newest = cutWithNewest (cutWorld E w) n (o .point) };
     }) (after-is E (w .words) (o .store) e)
 cut-serve-is E w known (leave n p) e k = rw (flat-memory E (w .words) e)
@@ -295,6 +314,7 @@ serve-length : (E : Edition) (w : World) (c : Call) → length (serve E w c .wor
 unfolding serve
 serve-length E w (join n) = refl
 serve-length E w (begin n p offset text) = refl
+serve-length E w (beginRead n p offset size) = refl
 serve-length E w (step n p) = after-length E (w .words) (stepping E (w .words) (w .shared) (handed w n p) .store)
 serve-length E w (leave n p) = refl
 

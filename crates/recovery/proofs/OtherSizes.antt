@@ -10,10 +10,10 @@ use lib.Dec.{ltb}
 use borrow.Author.Tests.{ltb-true}
 use Rattle.words.specs.Edition.{Edition, one, two}
 use Rattle.words.specs.Logic.{all-of, some-of}
-use Rattle.points.specs.declared.StepAnswer.the-variants.{Stored, Moved, Extending, Committed, Refused}
+use Rattle.points.specs.declared.StepAnswer.the-variants.{Stored, Moved, Extending, Committed, Refused, Copied, Bytes}
 use Rattle.points.specs.Record.{noPoint}
 use Rattle.recovery.specs.Computing.{computing}
-use Rattle.recovery.specs.World.{World, Call, step, Event, joined, begun, stepped, left, serve, world, events}
+use Rattle.recovery.specs.World.{World, Call, step, Event, joined, begun, begunRead, stepped, left, serve, world, events}
 use Rattle.recovery.specs.History.{alone, finishes}
 use Rattle.recovery.specs.Claim.{loneSteps}
 use Rattle.recovery.specs.Sessions.{_is_, code}
@@ -49,12 +49,15 @@ bounds = refl
 unfinished : (e : Event) → code e < 400000 → finishes e ≡ false
 unfinished (joined n r) h = refl
 unfinished (begun n offset text r) h = refl
+unfinished (begunRead n offset size r) h = refl
 unfinished (left n r) h = refl
-unfinished (stepped n d Stored) h = refl
-unfinished (stepped n d Moved) h = refl
-unfinished (stepped n d Extending) h = refl
-unfinished (stepped n d (Committed k)) h = absurd (omega arith)
-unfinished (stepped n d (Refused k)) h = absurd (omega arith)
+unfinished (stepped n d Stored b) h = refl
+unfinished (stepped n d Moved b) h = refl
+unfinished (stepped n d Extending b) h = refl
+unfinished (stepped n d (Committed k) b) h = absurd (omega arith)
+unfinished (stepped n d (Refused k) b) h = absurd (omega arith)
+unfinished (stepped n d Copied b) h = refl
+unfinished (stepped n d (Bytes k) b) h = refl
 
 abbrev low : List ℕ → Bool
 low = all-of (λ x. ltb x 400000)

@@ -1,7 +1,8 @@
-// The four calls of `points`, each with what it leaves in a list of calls as its contract: the calls of the claims are the code's. And opening, which makes
+// The five calls of `points` that lists are made of, each with what it leaves in a list of calls as its contract: the calls of the claims are the code's. And opening, which makes
 // the world that a list begins with; reading and locating, with what they show of the book.
 ghost use Rattle.words.specs.Edition.{one};
-ghost use Rattle.recovery.specs.Served.{OpenServed, JoinServed, BeginServed, StepServed, LeaveServed, ReadServed, LocateServed};
+ghost use Rattle.recovery.specs.Served.{OpenServed, JoinServed, BeginServed, BeginReadServed, StepServed, LeaveServed, ReadServed};
+ghost use Rattle.recovery.specs.Served.{LocateServed};
 use log::Opened;
 use log::Shared;
 use points::Begun;
@@ -29,10 +30,16 @@ pub fn begin(image: &[u64], shared: Shared, point: Point, offset: usize, text: &
     points::begin::begin(image, shared, point, offset, text)
 }
 
-pub fn step(image: &mut [u64], shared: Shared, point: Point) -> Stepped
-    ensures { λ r. ⌜ StepServed one (now (image .entry)) shared point r (now (image .exit)) ⌝ }
+pub fn begin_read(image: &[u64], shared: Shared, point: Point, offset: usize, size: usize) -> Begun
+    ensures { λ r. ⌜ BeginReadServed one (now (image .entry)) shared point offset size r ⌝ }
 {
-    points::step::step(image, shared, point)
+    points::begin::begin_read(image, shared, point, offset, size)
+}
+
+pub fn step(image: &mut [u64], shared: Shared, point: Point, bytes: &mut [u8; 1024]) -> Stepped
+    ensures { λ r. ⌜ StepServed one (now (image .entry)) shared point (now (bytes .entry)) r (now (image .exit)) (now (bytes .exit)) ⌝ }
+{
+    points::step::step(image, shared, point, bytes)
 }
 
 pub fn leave(image: &[u64], shared: Shared, point: Point) -> Left
