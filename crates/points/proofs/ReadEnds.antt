@@ -6,8 +6,9 @@ use mathlib.Core.Bool.{Bool, true, false, _||_}
 use mathlib.Core.List.{List, [], _∷_, _++_}
 use mathlib.Core.Option.{none}
 use lib.ListN.{length, take, drop, length-take}
-use Rattle.words.specs.Edition.{Edition}
-use Rattle.words.specs.Logic.{some-of, upFrom}
+use borrow.Author.Tests.{lt-ltb, le-ltb}
+use Rattle.words.specs.Edition.{Edition, one}
+use Rattle.words.specs.Logic.{Reason, _when_, some-of, upFrom}
 use Rattle.words.specs.Memory.{Memory, memory}
 use Rattle.log.specs.declared.Shared.{Shared}
 use Rattle.log.specs.declared.Place.{Place}
@@ -24,15 +25,18 @@ use Rattle.points.specs.declared.LentStepped.{LentStepped}
 use Rattle.points.specs.declared.StepAnswer.{StepAnswer}
 use Rattle.points.specs.declared.StepAnswer.the-variants.{Moved, Refused, Copied, Bytes}
 use Rattle.points.specs.declared.read_step.Ahead.{Ahead}
-use Rattle.points.specs.Record.{noWrite, noText, headOf, runFirst, runBlocks, fileAt, pointOf, caughtUp}
+use Rattle.points.specs.Record.{noWrite, noText, headOf, isIdle, isReading, runFirst, runBlocks, rangeWords, fileAt, pointOf, unfit, caughtUp}
 use Rattle.points.specs.Search.{sharedOf}
 use Rattle.points.specs.Plan.{Outcome, answered}
 use Rattle.points.specs.Calls.{newRead}
-use Rattle.points.specs.ReadSteps.{untouched, covered, lengthened, beginAgain, answerBytes, finish}
-use Rattle.points.specs.Stepping.{bytesAfter}
-use Rattle.points.specs.Lent.{steppedOf, ReadTells, aheadOf}
+use Rattle.points.specs.ReadSteps.{copiedOn, withWord, untouched, covered, lengthened, copyWord, beginAgain, answerBytes, finish, readOn}
+use Rattle.points.specs.Stepping.{stepRefusal, stepping, bytesAfter}
+use Rattle.points.specs.Lent.{steppedOf, ReadTells, aheadOf, TextFits}
 use Rattle.points.proofs.Spans.{lies}
-use Rattle.points.proofs.ReadCases.{walked, caught, disturbed, stop-on, again-on, bytes-on}
+use Rattle.points.proofs.Phases.{reading-busy}
+use Rattle.points.proofs.RecordFacts.{shared-facts, fits-range}
+use Rattle.points.proofs.RecordReasons.{unfit-before, fit-shared, fit-record, fit-goes-on}
+use Rattle.points.proofs.ReadCases.{caught, disturbed, read-refused, read-goes, copy-on, finish-on, stop-on, again-on, bytes-on}
 
 -- ---- what is seen ahead
 
@@ -156,3 +160,64 @@ module _ (E : Edition) (m : Memory) (n : Numbers) (head : Head) (table text lent
         let l : length (take (head .write .size) text) ≡ head .write .size = simp length-take (omega arith) in
         told-by {out = λ s. answerBytes E m s p (caught E m s p)} (λ taken. bytes-on E m (sharedOf n taken) p (seen-sound sound) (sym (is-disturbed taken) ∙ d))
         (record { answers = λ taken. rw (is-caught, isLeft, isCleared); unstored = λ taken. refl; handed = λ taken. rw l isBytes; place = refl })
+
+-- ---- a step
+
+-- what a read that is not refused knows of its record
+pub record ReadFits (n : Numbers) (w : Write) : Type 0 where
+  pub text : TextFits w
+  pub blocks : n .blocks ≤ 1024
+
+module _ (words : List ℕ) (n : Numbers) (head : Head) (table : List ℕ) (reading : isReading (head .write .phase) ≡ true) (reason : ℕ)
+    (isReason : (taken : List ℕ) → reason ≡ unfit one words (sharedOf n taken) head table) where
+  abbrev more : List Reason
+  more = 15 when isIdle (head .write .phase) ∷ []
+
+  pub step-refused : (text lent : List ℕ) → (reason ≡ 0 → ⊥)
+      → ReadTells (λ s. stepping one words s (pointOf head table text)) n lent (leaving (Refused reason) head) table text lent
+  unfolding stepRefusal
+  step-refused text lent h = told-by (λ taken. down reason (isReason taken) h) (untouched-tells n head table text lent (Refused reason))
+    where
+      down : {s : Shared} (k : ℕ) → k ≡ unfit one words s head table → (k ≡ 0 → ⊥)
+          → stepping one words s (pointOf head table text) ≡ untouched s (pointOf head table text) (Refused k)
+      down zero e h = absurd (h refl)
+      down {s} (suc k) e h = read-refused one words s (pointOf head table text) reading k (unfit-before one words s head table more k (sym e))
+
+  module _ (fit : reason ≡ 0) where
+    none-holds : (taken : List ℕ) → unfit one words (sharedOf n taken) head table ≡ 0
+    none-holds taken = sym (isReason taken) ∙ fit
+
+    goes : (text taken : List ℕ) → let s = sharedOf n taken in let p = pointOf head table text in
+        stepping one words s p ≡ readOn one (memory one words) s p
+    unfolding stepRefusal
+    goes text taken =
+        read-goes one words (sharedOf n taken) (pointOf head table text) reading
+        (fit-goes-on one words (sharedOf n taken) head table (none-holds taken) more ∙ rw (reading-busy (head .write .phase) reading))
+
+    pub read-fits : ReadFits n (head .write)
+    read-fits =
+        let e = none-holds [] in
+        let t = fits-range one (n .blocks) head table (fit-record one words (sharedOf n []) head table e) reading .text in
+        let f = shared-facts one words (sharedOf n []) (fit-shared one words (sharedOf n []) head table e) in
+        record { text = (t .some-text, t .few-text, t .ends-inside); blocks = f .few-blocks }
+
+    pub step-copies :
+        (text lent copied : List ℕ) (left : Head) → head .write .position < rangeWords (head .write)
+        → left ≡ headOf (head .number) (head .length) (head .place) (copiedOn (head .write))
+        → copied ≡ withWord one (memory one words) (fileAt head table) (head .write) text
+        → ReadTells (λ s. stepping one words s (pointOf head table text)) n lent (leaving Copied left) table copied lent
+    unfolding copyWord
+    step-copies text lent copied left h isLeft isCopied =
+        let m = memory one words in
+        let p = pointOf head table text in
+        told-by {out = λ s. copyWord one m s p} (λ taken. goes text taken ∙ copy-on one m (sharedOf n taken) p (lt-ltb _ _ h))
+        (record { answers = λ taken. rw (isLeft, isCopied); unstored = λ taken. refl; handed = λ taken. refl; place = refl })
+
+    pub step-finishes :
+        {left : LentStepped} {later kept bytes : List ℕ} (text lent : List ℕ) → rangeWords (head .write) ≤ head .write .position
+        → ReadTells (λ s. finish one (memory one words) s (pointOf head table text)) n lent left later kept bytes
+        → ReadTells (λ s. stepping one words s (pointOf head table text)) n lent left later kept bytes
+    step-finishes text lent h r =
+        let m = memory one words in
+        let p = pointOf head table text in
+        told-by (λ taken. goes text taken ∙ finish-on one m (sharedOf n taken) p (le-ltb _ _ h)) r

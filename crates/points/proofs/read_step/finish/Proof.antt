@@ -17,7 +17,10 @@ use Rattle.points.proofs.read_step.lengthened.Reads as lengthened-reads
 use Rattle.points.proofs.read_step.look.Reads as look-reads
 use Rattle.points.proofs.record.no_text.Reads as no-text-reads
 
--- the way back: what is caught up, what is seen ahead, and the start
+-- the way back: where the bytes are answered, what is caught up, what is seen ahead, and the start
+abbrev undisturbed : tie.After-hand-over → tie.Else2
+undisturbed c = c .before .before .before .before .before
+
 abbrev caught : tie.After-struct-known → tie.After-catch-up
 caught c = c .before .before .before
 
@@ -100,7 +103,7 @@ returns-3 : tie.Need-returns-3
 returns-3 c =
     let cleared = c .before .before in
     let handed = cleared .before in
-    let e = handed .before .before .before .before in
+    let e = undisturbed handed in
     let k = e .before in
     let up = caught k in
     let seen = looked up in
@@ -111,7 +114,8 @@ returns-3 c =
     (seen .look .ensures) sound in
     finish-bytes one (memory one (a .image .now)) (a .numbers) (a .head) (a .table .now) (a .text .now) (a .bytes .now) (seen .look .result)
     (seen .look .ensures) _ _ _ sound (up .catch-up .ensures (s .pre .1) known) (k .before .lengthened .ensures) (e .if2 .left) _ _ _
-    (rw (c .before .no-write .ensures) at (c .head-of2 .ensures)) (cleared .no-text2 .ensures) ? (handed .hand-over .ensures)
+    (rw (c .before .no-write .ensures) at (c .head-of2 .ensures)) (cleared .no-text2 .ensures)
+    (hand-over-requires (handed .before) (handed .hand-over .lifetimes) .0) (handed .hand-over .ensures)
 
 pub finish-spec : {M : Type 1} → statement M
 finish-spec =
