@@ -1,17 +1,15 @@
 -- A read's step as the code answers it: what the last step sees ahead, and a law for each exit. Assumes nothing.
 use Prim.Native.Nat.{ℕ, zero, suc, _+_, _-_, _/_, _≤_, _<_}
 use native.Mathlib.Omega.{arith}
-use mathlib.Core.Path.{_≡_, refl, sym, _∙_, ap, ap₂, subst}
+use mathlib.Core.Path.{_≡_, refl, sym, _∙_, ap}
 use mathlib.Core.Bool.{Bool, true, false, _||_}
 use mathlib.Core.List.{List, [], _∷_, _++_}
-use mathlib.Core.Option.{none}
 use lib.ListN.{length, take, drop, length-take}
 use borrow.Author.Tests.{lt-ltb, le-ltb}
 use Rattle.words.specs.Edition.{Edition, one}
 use Rattle.words.specs.Logic.{Reason, _when_, some-of, upFrom}
 use Rattle.words.specs.Memory.{Memory, memory}
 use Rattle.log.specs.declared.Shared.{Shared}
-use Rattle.log.specs.declared.Place.{Place}
 use Rattle.log.specs.declared.Lookahead.{Lookahead}
 use Rattle.log.specs.Entry.{covers}
 use Rattle.log.specs.Look.{lookaheadOf}
@@ -31,7 +29,7 @@ use Rattle.points.specs.Plan.{Outcome, answered}
 use Rattle.points.specs.Calls.{newRead}
 use Rattle.points.specs.ReadSteps.{copiedOn, withWord, untouched, covered, lengthened, copyWord, beginAgain, answerBytes, finish, readOn}
 use Rattle.points.specs.Stepping.{stepRefusal, stepping, bytesAfter}
-use Rattle.points.specs.Lent.{steppedOf, ReadTells, aheadOf, TextFits}
+use Rattle.points.specs.Lent.{ReadTells, aheadOf, TextFits}
 use Rattle.points.proofs.Spans.{lies}
 use Rattle.points.proofs.Phases.{reading-busy}
 use Rattle.points.proofs.RecordFacts.{shared-facts, fits-range}
@@ -124,19 +122,23 @@ module _ (E : Edition) (m : Memory) (n : Numbers) (head : Head) (table text lent
   is-broken : seen .broken ≡ broken E (n .blocks) walk
   is-broken = ap (λ (a : Ahead). a .broken) isSeen
 
-  pub seen-sound : seen .broken ≡ false → broken E (n .blocks) walk ≡ false
+  seen-sound : seen .broken ≡ false → broken E (n .blocks) walk ≡ false
   seen-sound e = sym is-broken ∙ e
 
   pub finish-stops : seen .broken ≡ true → ReadTells (λ s. finish E m s p) n lent (leaving (Refused 18) head) table text lent
   finish-stops e =
       told-by (λ taken. stop-on E m (sharedOf n taken) p (sym is-broken ∙ e)) (untouched-tells n head table text lent (Refused 18))
 
-  module _ (later : List ℕ) (size : ℕ) (longer : Bool) (sound : seen .broken ≡ false)
-      (isLater : record { table = later; size = size } ≡ replayOn E (fileAt head table) (walk .entries))
+  module _ (later : List ℕ) (size : ℕ) (longer : Bool) (few : n .blocks ≤ 1024) (sound : seen .broken ≡ false)
+      (isLater : n .blocks ≤ 1024 → broken E (n .blocks) walk ≡ false
+      → record { table = later; size = size } ≡ replayOn E (fileAt head table) (walk .entries))
       (isLonger : longer ≡ lengthened (head .write) (head .length) size) where
     is-caught : caughtUp E walk p ≡ pointOf (headOf (head .number) size (seen .place) (head .write)) later text
     unfolding caughtUp
-    is-caught = rw isSeen (sym (ap (λ (f : Mapped). pointOf (headOf (head .number) (f .size) (placeAfter (head .place) walk) (head .write)) (f .table) text) isLater))
+    is-caught = rw isSeen (sym (ap at-tail (isLater few (seen-sound sound))))
+      where
+        at-tail : Mapped → Point
+        at-tail f = pointOf (headOf (head .number) (f .size) (placeAfter (head .place) walk) (head .write)) (f .table) text
 
     is-disturbed : (taken : List ℕ) → (seen .covered || longer) ≡ disturbed E m (sharedOf n taken) p
     is-disturbed taken = rw (isLonger, is-caught) (ap (λ (a : Ahead). a .covered || lengthened (head .write) (head .length) size) isSeen)
@@ -147,7 +149,8 @@ module _ (E : Edition) (m : Memory) (n : Numbers) (head : Head) (table text lent
         → ReadTells (λ s. finish E m s p) n lent (leaving Moved left) later cleared lent
     unfolding beginAgain
     finish-again d left cleared isLeft isCleared =
-        told-by {out = λ s. beginAgain E m s p (caught E m s p)} (λ taken. again-on E m (sharedOf n taken) p (seen-sound sound) (sym (is-disturbed taken) ∙ d))
+        told-by {out = λ s. beginAgain E m s p (caught E m s p)}
+        (λ taken. again-on E m (sharedOf n taken) p (seen-sound sound) (sym (is-disturbed taken) ∙ d))
         (record { answers = λ taken. rw (is-caught, isLeft, isCleared); unstored = λ taken. refl; handed = λ taken. refl; place = refl })
 
     pub finish-bytes :
@@ -158,7 +161,8 @@ module _ (E : Edition) (m : Memory) (n : Numbers) (head : Head) (table text lent
     unfolding answerBytes
     finish-bytes d left cleared bytes isLeft isCleared h isBytes =
         let l : length (take (head .write .size) text) ≡ head .write .size = simp length-take (omega arith) in
-        told-by {out = λ s. answerBytes E m s p (caught E m s p)} (λ taken. bytes-on E m (sharedOf n taken) p (seen-sound sound) (sym (is-disturbed taken) ∙ d))
+        told-by {out = λ s. answerBytes E m s p (caught E m s p)}
+        (λ taken. bytes-on E m (sharedOf n taken) p (seen-sound sound) (sym (is-disturbed taken) ∙ d))
         (record { answers = λ taken. rw (is-caught, isLeft, isCleared); unstored = λ taken. refl; handed = λ taken. rw l isBytes; place = refl })
 
 -- ---- a step

@@ -1,12 +1,12 @@
 -- A read's word: where it lies, the bytes that its step copies, and those that its last step hands over. Over plain lists and numbers. Assumes nothing.
-use Prim.Native.Nat.{ℕ, zero, suc, _+_, _*_, _-_, _/_, _%_, _≤_, _<_, max, min}
+use Prim.Native.Nat.{ℕ, suc, _+_, _*_, _-_, _/_, _%_, _≤_, _<_, max, min}
 use native.Mathlib.Omega.{arith}
 use native.Mathlib.Numerals.{add-one}
 use native.Mathlib.Nat.{zero-add}
-use mathlib.Core.Path.{_≡_, refl, sym, _∙_, ap, subst}
-use mathlib.Core.List.{List, [], _∷_, _++_}
+use mathlib.Core.Path.{_≡_, refl, sym, _∙_, ap}
+use mathlib.Core.List.{List, _++_}
 use lib.ListN.{length, take, drop, set, getD}
-use lib.Seq.{paste, paste-suc, sets}
+use lib.Seq.{paste-suc, sets}
 use borrow.Author.Tests.{lt-ltb, le-ltb}
 use Rattle.words.specs.Edition.{Edition, blockBytes}
 use Rattle.words.specs.Logic.{listFrom}

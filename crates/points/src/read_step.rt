@@ -44,7 +44,14 @@ fn copy_word(image: &[u64], head: Head, table: &[u16; 256], text: &mut [u8; 1024
     let to = lesser(start + write.size as usize, at + 8);
     let end = greater(from, lesser(to, head.length as usize));
     let b = crate::current::mapped(table, words::offset::block(at));
-    crate::read::copy_block(image, b, words::offset::in_block(from), text, from - start, end - from);
+    crate::read::copy_block(
+        image,
+        b,
+        words::offset::in_block(from),
+        text,
+        from - start,
+        end - from,
+    );
     crate::read::clear(text, end - start, to - end);
 }
 

@@ -3,7 +3,6 @@
 use native.Mathlib.Omega.{arith}
 use mathlib.Core.Path.{_≡_}
 use Prim.Native.Nat.{_/_}
-use lib.ListN.{length}
 use Rattle.words.specs.Edition.{one, blockBytes}
 use Rattle.words.specs.Memory.{memory}
 use Rattle.points.specs.Record.{fileAt}
@@ -12,16 +11,6 @@ use Rattle.points.proofs.ReadWords.{Word, word-lies, word-piece, word-f
 use borrow.Author.Needs.{needs}
 use Rattle.points.proofs.read_step.copy_word.Statement.{statement}
 use Rattle.points.proofs.read_step.copy_word.Tie as tie
-use Rattle.points.proofs.read_step.copy_word.Reads as reads
-use Rattle.points.proofs.read_step.copy_word.Lts as lts
-use Rattle.points.proofs.current.mapped.Reads as mapped-reads
-use Rattle.points.proofs.read.clear.Reads as clear-reads
-use Rattle.points.proofs.read.copy_block.Reads as copy-block-reads
-use Rattle.points.proofs.read_step.greater.Reads as greater-reads
-use Rattle.points.proofs.read_step.lesser.Reads as lesser-reads
-use Rattle.words.proofs.offset.block.Reads as block-reads
-use Rattle.words.proofs.offset.in_block.Reads as in-block-reads
-use Rattle.words.proofs.offset.whole_words.Reads as whole-words-reads
 
 -- the way back: what is measured, and the start
 abbrev measured : tie.After-block → tie.After-lesser
@@ -57,101 +46,78 @@ lain c =
     word-lies one (a .head .write) (a .head .length) _ _ _ _ _ (s .pre .0 .0) (s .pre .1) (is-from from) (is-to to)
     (c .before .before .before .lesser2 .ensures) (c .before .before .greater2 .ensures) (is-block c)
 
--- src/read_step.rt:41:17
 cast-start : tie.Need-cast-start
 cast-start c = search needs
 
--- src/read_step.rt:42:19
 whole-words-requires : tie.Need-whole-words-requires
 whole-words-requires c κs = search needs
 
--- src/read_step.rt:42:55
 cast-at : tie.Need-cast-at
 cast-at c = search needs
 
--- src/read_step.rt:42:19
 add-at : tie.Need-add-at
 add-at c = search needs
 
--- src/read_step.rt:42:14
 mul-at : tie.Need-mul-at
 mul-at c = search needs
 
--- src/read_step.rt:43:9
 greater-requires : tie.Need-greater-requires
 greater-requires c κs = search needs
 
--- src/read_step.rt:44:29
 cast-lesser : tie.Need-cast-lesser
 cast-lesser c = search needs
 
--- src/read_step.rt:44:21
 add-lesser : tie.Need-add-lesser
 add-lesser c = search needs
 
--- src/read_step.rt:44:50
 add-lesser-2 : tie.Need-add-lesser-2
 add-lesser-2 c = search needs
 
--- src/read_step.rt:44:9
 lesser-requires : tie.Need-lesser-requires
 lesser-requires c κs = search needs
 
--- src/read_step.rt:45:40
 cast-lesser-2 : tie.Need-cast-lesser-2
 cast-lesser-2 c = search needs
 
--- src/read_step.rt:45:29
 lesser-requires-2 : tie.Need-lesser-requires-2
 lesser-requires-2 c κs = search needs
 
--- src/read_step.rt:45:9
 greater-requires-2 : tie.Need-greater-requires-2
 greater-requires-2 c κs = search needs
 
--- src/read_step.rt:46:43
 block-requires : tie.Need-block-requires
 block-requires c κs = search needs
 
--- src/read_step.rt:46:9
 mapped-requires : tie.Need-mapped-requires
 mapped-requires c κs = search needs
 
--- src/read_step.rt:47:39
 in-block-requires : tie.Need-in-block-requires
 in-block-requires c κs = search needs
 
--- src/read_step.rt:47:76
 sub-copy-block : tie.Need-sub-copy-block
 sub-copy-block c = search needs
 
--- src/read_step.rt:47:90
 sub-copy-block-2 : tie.Need-sub-copy-block-2
 sub-copy-block-2 c = search needs
 
--- src/read_step.rt:47:5
 copy-block-requires : tie.Need-copy-block-requires
 copy-block-requires c κs =
     let k = lain (c .before .before .before) in
     let few = start (began (measured (c .before .before .before))) .pre .0 .1 in
     (word-piece k _ (c .before .in-block .ensures), word-front k _ (omega arith))
 
--- src/read_step.rt:48:30
 sub-clear : tie.Need-sub-clear
 sub-clear c = search needs
 
--- src/read_step.rt:48:43
 sub-clear-2 : tie.Need-sub-clear-2
 sub-clear-2 c = lain (c .before .before .before .before .before) .high
 
--- src/read_step.rt:48:5
 clear-requires : tie.Need-clear-requires
 clear-requires c κs =
     let k = lain (c .before .before .before .before .before) in
     let few = start (began (measured (c .before .before .before .before .before))) .pre .0 .1 in
     word-back k _ (omega arith)
 
--- src/read_step.rt:35:1
 returns : tie.Need-returns
 returns c =
     let copied = c .before .before in

@@ -1,21 +1,10 @@
 -- `points::read_step::finish` meets its contract: a law for each exit. Assumes nothing.
-use native.Mathlib.Omega.{arith}
 use Rattle.words.specs.Edition.{one}
 use Rattle.words.specs.Memory.{memory}
-use Rattle.points.proofs.ReadEnds.{seen-sound, finish-stops, finish-again, finish-bytes}
+use Rattle.points.proofs.ReadEnds.{finish-stops, finish-again, finish-bytes}
 use borrow.Author.Needs.{needs}
 use Rattle.points.proofs.read_step.finish.Statement.{statement}
 use Rattle.points.proofs.read_step.finish.Tie as tie
-use Rattle.points.proofs.read_step.finish.Reads as reads
-use Rattle.points.proofs.read_step.finish.Lts as lts
-use Rattle.log.proofs.ahead.catch_up.Reads as catch-up-reads
-use Rattle.points.proofs.begin.new_read.Reads as new-read-reads
-use Rattle.points.proofs.plan.head_of.Reads as head-of-reads
-use Rattle.points.proofs.plan.no_write.Reads as no-write-reads
-use Rattle.points.proofs.read_step.hand_over.Reads as hand-over-reads
-use Rattle.points.proofs.read_step.lengthened.Reads as lengthened-reads
-use Rattle.points.proofs.read_step.look.Reads as look-reads
-use Rattle.points.proofs.record.no_text.Reads as no-text-reads
 
 -- the way back: where the bytes are answered, what is caught up, what is seen ahead, and the start
 abbrev undisturbed : tie.After-hand-over → tie.Else2
@@ -30,11 +19,9 @@ looked c = c .before .before .before .before
 abbrev start : tie.After-look → tie.Start
 start c = c .before .before
 
--- src/read_step.rt:121:9
 look-requires : tie.Need-look-requires
 look-requires c κs = search needs
 
--- src/read_step.rt:123:9
 returns : tie.Need-returns
 returns c =
     let seen = c .before in
@@ -42,27 +29,21 @@ returns c =
     finish-stops one (memory one (a .image .now)) (a .numbers) (a .head) (a .table .now) (a .text .now) (a .bytes .now) (seen .look .result)
     (seen .look .ensures) (c .if1 .taken)
 
--- src/read_step.rt:130:9
 catch-up-requires : tie.Need-catch-up-requires
 catch-up-requires c κs = search needs
 
--- src/read_step.rt:132:23
 lengthened-requires : tie.Need-lengthened-requires
 lengthened-requires c κs = search needs
 
--- src/read_step.rt:133:17
 no-text-requires : tie.Need-no-text-requires
 no-text-requires c κs = search needs
 
--- src/read_step.rt:134:13
 new-read-requires : tie.Need-new-read-requires
 new-read-requires c κs = search needs
 
--- src/read_step.rt:137:19
 head-of-requires : tie.Need-head-of-requires
 head-of-requires c κs = search needs
 
--- src/read_step.rt:135:9
 returns-2 : tie.Need-returns-2
 returns-2 c =
     let cleared = c .before .before in
@@ -72,33 +53,25 @@ returns-2 c =
     let s = start seen in
     let a = s .args in
     let sound = up .before .before .before .if1 .left in
-    let known = seen-sound one (memory one (a .image .now)) (a .numbers) (a .head) (a .table .now) (a .text .now) (a .bytes .now) (seen .look .result)
-    (seen .look .ensures) sound in
     finish-again one (memory one (a .image .now)) (a .numbers) (a .head) (a .table .now) (a .text .now) (a .bytes .now) (seen .look .result)
-    (seen .look .ensures) _ _ _ sound (up .catch-up .ensures (s .pre .1) known) (k .before .lengthened .ensures) (cleared .before .if2 .taken) _ _
+    (seen .look .ensures) _ _ _ (s .pre .1) sound (up .catch-up .ensures) (k .before .lengthened .ensures) (cleared .before .if2 .taken) _ _
     (rw (c .before .new-read .ensures) at (c .head-of .ensures)) (cleared .no-text .ensures)
 
--- src/read_step.rt:141:28
 cast-hand-over : tie.Need-cast-hand-over
 cast-hand-over c = search needs
 
--- src/read_step.rt:141:5
 hand-over-requires : tie.Need-hand-over-requires
 hand-over-requires c κs = search needs
 
--- src/read_step.rt:142:13
 no-text-requires-2 : tie.Need-no-text-requires-2
 no-text-requires-2 c κs = search needs
 
--- src/read_step.rt:143:9
 no-write-requires : tie.Need-no-write-requires
 no-write-requires c κs = search needs
 
--- src/read_step.rt:146:15
 head-of-requires-2 : tie.Need-head-of-requires-2
 head-of-requires-2 c κs = search needs
 
--- src/read_step.rt:108:1
 returns-3 : tie.Need-returns-3
 returns-3 c =
     let cleared = c .before .before in
@@ -110,10 +83,8 @@ returns-3 c =
     let s = start seen in
     let a = s .args in
     let sound = up .before .before .before .if1 .left in
-    let known = seen-sound one (memory one (a .image .now)) (a .numbers) (a .head) (a .table .now) (a .text .now) (a .bytes .now) (seen .look .result)
-    (seen .look .ensures) sound in
     finish-bytes one (memory one (a .image .now)) (a .numbers) (a .head) (a .table .now) (a .text .now) (a .bytes .now) (seen .look .result)
-    (seen .look .ensures) _ _ _ sound (up .catch-up .ensures (s .pre .1) known) (k .before .lengthened .ensures) (e .if2 .left) _ _ _
+    (seen .look .ensures) _ _ _ (s .pre .1) sound (up .catch-up .ensures) (k .before .lengthened .ensures) (e .if2 .left) _ _ _
     (rw (c .before .no-write .ensures) at (c .head-of2 .ensures)) (cleared .no-text2 .ensures)
     (hand-over-requires (handed .before) (handed .hand-over .lifetimes) .0) (handed .hand-over .ensures)
 

@@ -33,8 +33,7 @@ loop-less c = search needs
 loop-again : tie.Need-loop-again Inv-loop μ-loop
 loop-again c =
     let l = c .before .before .loop in
-    let a = c .before .before .before .args in
-    (
+    let a = c .before .before .before .args in (
       omega arith,
       simp length-set (l .inv .1),
       handed-next (a .text .now) (a .bytes .now) (l .bytes) (l .i) (omega arith) (omega arith) (l .inv .2),

@@ -6,41 +6,28 @@ use Rattle.points.proofs.ReadEnds.{both-looks}
 use borrow.Author.Needs.{needs}
 use Rattle.points.proofs.read_step.look.Statement.{statement}
 use Rattle.points.proofs.read_step.look.Tie as tie
-use Rattle.points.proofs.read_step.look.Reads as reads
-use Rattle.points.proofs.read_step.look.Lts as lts
-use Rattle.log.proofs.ahead.look.Reads as look-reads
-use Rattle.points.proofs.record.run_first.Reads as run-first-reads
-use Rattle.points.proofs.record.span.Reads as span-reads
 
--- src/read_step.rt:78:9
 run-first-requires : tie.Need-run-first-requires
 run-first-requires c κs = search needs
 
--- src/read_step.rt:79:9
 span-requires : tie.Need-span-requires
 span-requires c κs = search needs
 
--- src/read_step.rt:80:64
 add-look : tie.Need-add-look
 add-look c = search needs
 
--- src/read_step.rt:80:64
 sub-look : tie.Need-sub-look
 sub-look c = search needs
 
--- src/read_step.rt:80:9
 look-requires : tie.Need-look-requires
 look-requires c κs = search needs
 
--- src/read_step.rt:81:62
 add-look-2 : tie.Need-add-look-2
 add-look-2 c = search needs
 
--- src/read_step.rt:81:9
 look-requires-2 : tie.Need-look-requires-2
 look-requires-2 c κs = search needs
 
--- src/read_step.rt:73:1
 returns : tie.Need-returns
 returns c =
     let second = c .before .before .before in
