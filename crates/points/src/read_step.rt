@@ -3,7 +3,7 @@ ghost use mathlib.Core.Path.{_≡_};
 ghost use mathlib.Core.Bool.{true};
 ghost use mathlib.Core.List.{_++_};
 ghost use Prim.Native.Nat.{_≤_, _<_, min, max};
-ghost use lib.ListN.{take, drop};
+ghost use lib.ListN.{length, take, drop};
 ghost use Rattle.words.specs.Edition.{one};
 ghost use Rattle.words.specs.Memory.{memory};
 ghost use Rattle.log.specs.CatchUp.{ahead};
@@ -44,7 +44,14 @@ fn copy_word(image: &[u64], head: Head, table: &[u16; 256], text: &mut [u8; 1024
     let to = lesser(start + write.size as usize, at + 8);
     let end = greater(from, lesser(to, head.length as usize));
     let b = crate::current::mapped(table, words::offset::block(at));
-    crate::read::copy_block(image, b, words::offset::in_block(from), text, from - start, end - from);
+    crate::read::copy_block(
+        image,
+        b,
+        words::offset::in_block(from),
+        text,
+        from - start,
+        end - from,
+    );
     crate::read::clear(text, end - start, to - end);
 }
 
@@ -95,8 +102,8 @@ fn lengthened(write: Write, before: u32, now: u32) -> bool
 }
 
 // The first n bytes of the text go to the front of the lent bytes.
-fn hand_over(text: &[u8; 1024], bytes: &mut [u8; 1024], n: usize)
-    requires { ⌜ n ≤ 1024 ⌝ }
+fn hand_over(text: &[u8], bytes: &mut [u8], n: usize)
+    requires { ⌜ (n ≤ length (now text)) × (n ≤ length (now bytes)) ⌝ }
     ensures { λ _. ⌜ now (bytes .exit) ≡ take n (now (text .entry)) ++ drop n (now (bytes .entry)) ⌝ }
 {
     for i in 0..n {
