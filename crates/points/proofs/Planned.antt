@@ -4,9 +4,9 @@ use mathlib.Core.Path.{_≡_, refl, sym, ap, subst, _∙_}
 use mathlib.Core.Bool.{Bool, true, false}
 use mathlib.Core.List.{List, [], _∷_}
 use lib.Dec.{ltb}
-use Rattle.words.specs.Edition.{Edition}
+use Rattle.words.specs.Edition.{Edition, one}
 use Rattle.words.specs.Logic.{isZero, first}
-use Rattle.words.specs.Memory.{Memory, memory, put}
+use Rattle.words.specs.Memory.{Memory, memory, put, after}
 use Rattle.words.specs.BlockMap.{setAll}
 use Rattle.words.proofs.Sizes.{from-block}
 use Rattle.log.specs.declared.Shared.{Shared}
@@ -22,10 +22,10 @@ use Rattle.points.specs.declared.plan.Plan.{Plan}
 use Rattle.points.specs.Record.{isZeroing, isReading, runWords, fileAt, pointOf, standing}
 use Rattle.points.specs.Search.{sharedOf, numbersOf, withTaken}
 use Rattle.points.specs.Fill.{nextWord}
-use Rattle.points.specs.Plan.{readIn, textAfter, freed, wordFrom, answered, carriedOut}
+use Rattle.points.specs.Plan.{readIn, textAfter, freed, wordFrom, storedAt, answered, carriedOut}
 use Rattle.points.specs.Stepping.{commit, giveUp, extend, zeroOut, link, giveBack, moveOn, atEnd, committing, extending}
-use Rattle.points.specs.Stepping.{fill, writeOn, stepRefusal, planned, StepLeaves}
-use Rattle.points.specs.Lent.{steppedOf, Readable, InTable}
+use Rattle.points.specs.Stepping.{fill, writeOn, stepRefusal, planned, stepping, StepLeaves}
+use Rattle.points.specs.Lent.{steppedOf, Readable, InTable, WriteTells, ReadTells, StepTells}
 use Rattle.points.proofs.Spans.{lies}
 use Rattle.points.proofs.Commits.{entry-for-legal}
 use Rattle.points.proofs.Leaves.{joined-small}
@@ -131,6 +131,25 @@ carried-out E m n taken plan p h released taken′ table text length word r k f 
           shared = sharedOf n (setAll true (freed (plan .frees) E taken (p .head .write) (p .table)) (plan .takes ∷ []));
           point = pointOf (standing (p .head) (g .size) (plan .place) (plan .write)) (g .table) (textAfter (plan .clears) (p .text));
         }
+
+-- ---- of either kind: a write's step hands nothing out, a read's stores nothing
+
+pub write-leaves :
+    (words : List ℕ) (s : Shared) (p : Point) (lent : List ℕ) (answer : Stepped) (image : List ℕ) (word : ℕ)
+    → WriteTells words s p answer image word → StepTells words s p lent answer image lent word
+write-leaves words s p lent answer image word t =
+    record { leaves = record { answers = t .answers; stored = t .stored; handed = rw (t .silent) }; place = t .place }
+
+pub read-leaves :
+    (words : List ℕ) (n : Numbers) (taken : List ℕ) (p : Point) (lent : List ℕ) (left : LentStepped) (table text bytes : List ℕ)
+    → ReadTells (λ s. stepping one words s p) n lent left table text bytes
+    → StepTells words (sharedOf n taken) p lent (steppedOf n left taken table text) words bytes (left .word)
+unfolding after storedAt
+read-leaves words n taken p lent left table text bytes t =
+    record {
+      leaves = record { answers = t .answers taken; stored = rw (t .unstored taken); handed = t .handed taken };
+      place = t .place ∙ rw (t .unstored taken);
+    }
 
 -- the same with a whole shared record
 pub whole-step :

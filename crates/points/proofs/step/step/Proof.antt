@@ -9,7 +9,7 @@ abbrev stepped : tie.After-with-taken → tie.After-step-lent
 stepped c = c .before .before .before .before
 
 abbrev lent : tie.After-step-lent → tie.After-text
-lent c = c .before .before .before .before .before
+lent c = c .before .before .before .before .before .before
 
 abbrev numbered : tie.After-text → tie.After-numbers
 numbered c = c .before .before .before .before
@@ -31,7 +31,7 @@ returns c =
     let s = stepped c in
     let n = numbered (lent s) in
     let a = n .before .before .args in
-    whole-step (a .image .now) (a .shared) (a .point) (n .numbers .result) (s .step-lent .result) _ _ _ _ (c .with-taken .result)
+    whole-step (a .image .now) (a .shared) (a .point) (a .bytes .now) (n .numbers .result) (s .step-lent .result) _ _ _ _ _ (c .with-taken .result)
     (n .numbers .ensures) (c .with-taken .ensures) (s .step-lent .ensures .leaves)
 
 pub step-spec : {M : Type 1} → statement M
