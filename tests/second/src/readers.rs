@@ -69,7 +69,7 @@ fn a_rival(random: &mut Random, reader: &Record) -> (usize, usize) {
     let last = first + span - 1;
     let behind = (last + 1).max(length.div_ceil(BLOCK_BYTES));
     let below = random.below((length / BLOCK_BYTES).max(1));
-    let v = match random.below(10) {
+    let v = match random.below(12) {
         0 => first,
         1 | 2 => first + span / 2,
         3 => last,
@@ -78,6 +78,9 @@ fn a_rival(random: &mut Random, reader: &Record) -> (usize, usize) {
         6 => below,
         7 => return (length, random.between(1, 600)),
         8 => return (an_offset(random) % 100_000, random.between(1, 1_024)),
+        // From the block before the range into its first, from its last into the next.
+        9 => return ((BLOCK_BYTES * first).saturating_sub(1), 2),
+        10 => return (BLOCK_BYTES * (last + 1) - 1, 2),
         _ => behind,
     };
     let start = random.below(BLOCK_BYTES);
@@ -139,8 +142,9 @@ pub fn watch(maker: &mut Maker) {
     for _ in 0..*maker.random.pick(&[0, 1, 1, 1, 2, 2, 3]) {
         let rival = a_rival(&mut maker.random, &begun);
         commit_of(maker, q, rival);
-        if maker.random.once_in(4) {
+        if maker.random.once_in(3) {
             some_steps(maker, p);
+            maker.say(&format!("record {p}"));
         }
     }
     if maker.random.once_in(3) {
@@ -231,6 +235,20 @@ pub fn leave_reading(maker: &mut Maker) {
     maker.say(&format!("join {p}"));
 }
 
+/// An alteration of what the point has seen of the log, mostly one that fits.
+fn view_line(maker: &mut Maker, p: usize, length: usize) -> String {
+    let blocks = maker.blocks();
+    let random = &mut maker.random;
+    let near = random.between(length.saturating_sub(600), length + 600);
+    match random.below(6) {
+        0 => format!("alter {p} slot {}", random.between(2, 64)),
+        1 => format!("alter {p} block {}", random.between(1, blocks)),
+        2 => format!("alter {p} passed {}", random.between(1, 64)),
+        3 => format!("table {p} {} {}", random.below(4), random.below(blocks + 1)),
+        _ => format!("alter {p} length {near}"),
+    }
+}
+
 /// Makes the record one with a read of some size, most of it copied.
 pub fn read_scene(maker: &mut Maker, p: usize) -> String {
     let length = known_length(maker);
@@ -243,6 +261,10 @@ pub fn read_scene(maker: &mut Maker, p: usize) -> String {
             let value = a_border(maker) % 65_536;
             maker.say(&format!("alter {p} {field} {value}"));
         }
+    }
+    if maker.random.once_in(3) {
+        let line = view_line(maker, p, length);
+        maker.say(&line);
     }
     if maker.random.once_in(3) {
         let (i, byte) = (maker.random.below(count.clamp(1, 1_024)), maker.random.below(256));

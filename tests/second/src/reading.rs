@@ -63,7 +63,7 @@ pub fn word_places(write: &Write) -> std::ops::Range<usize> {
 
 /// The file's byte by the record's own length and table: "0 in a hole or past
 /// the end".
-fn known_byte(image: &[u64], view: &View, place: usize) -> u8 {
+pub fn known_byte(image: &[u64], view: &View, place: usize) -> u8 {
     if place < view.length {
         view.byte(image, place)
     } else {

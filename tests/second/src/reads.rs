@@ -2,7 +2,7 @@
 
 use crate::image::{Entry, BLOCK_BYTES};
 use crate::log::{catch_up, Caught};
-use crate::reading::word_places;
+use crate::reading::{known_byte, word_places};
 use crate::record::*;
 use crate::tally::happened;
 
@@ -19,10 +19,16 @@ pub fn copied_events(image: &[u64], record: &Record, blocks: usize) -> Vec<&'sta
     let is_past = |place: usize| place >= view.length;
     let is_hole = |place: usize| !is_past(place) && view.table[place / BLOCK_BYTES] == 0;
     let is_dirty = |place: usize| is_past(place) && view.byte(image, place) != 0;
+    let now = catch_up(image, view).map_or(view.clone(), |caught| caught.view);
+    let is_other =
+        |place: usize| known_byte(image, view, place) != known_byte(image, &now, place);
+    let any = |is_so: &dyn Fn(usize) -> bool| places.iter().any(|&place| is_so(place));
     happened(&[
-        (places.iter().any(|&place| is_hole(place)), "copied in a hole"),
-        (places.iter().any(|&place| is_past(place)), "copied past the end"),
-        (places.iter().any(|&place| is_dirty(place)), "copied past the end, not 0 there"),
+        (any(&is_hole), "copied in a hole"),
+        (any(&is_past), "copied past the end"),
+        (any(&is_dirty), "copied past the end, not 0 there"),
+        (any(&|place| !is_past(place) && is_other(place)), "copied, other bytes there by now"),
+        (any(&|place| is_past(place) && is_other(place)), "copied past the end, longer by now"),
         (places.len() < 8, "copied a part of a word"),
         (has_more(write), "copied, run, zeroing or retries not 0"),
         (write.run >= blocks, "copied, run outside the image"),
@@ -69,14 +75,23 @@ impl Final<'_> {
         self.view.block != self.record.view.block
     }
 
-    /// How far the range's end lies past the length before.
+    /// Whether an entry covers a block of the range, and each that does is so.
+    fn only_by(&self, is_so: impl Fn(&Entry) -> bool) -> bool {
+        let is_covering = |entry: &&Entry| self.covers(Some(*entry));
+        !self.covered.is_empty() && self.entries.iter().filter(is_covering).all(is_so)
+    }
+
+    /// Whether the range's end lies that far past the length before.
     fn passes_by(&self, bytes: usize) -> bool {
         self.record.write.end() == self.record.view.length + bytes
     }
 
     /// With Moved for its answer.
     fn moved(&self) -> Vec<&'static str> {
+        let first_block = self.record.write.first_block();
         let last = self.record.write.span() - 1;
+        let from_before = self.only_by(|entry| entry.v < first_block);
+        let to_behind = self.only_by(|entry| entry.v + entry.n > first_block + last + 1);
         let only = |i: usize| self.covered == [i] && !self.is_longer;
         let newest = self.covers(self.entries.last());
         let oldest = self.covers(self.entries.first());
@@ -89,8 +104,13 @@ impl Final<'_> {
             (only(last) && last > 0, "read moved, only its last block covered"),
             (is_covered && !newest && !self.is_longer, "read moved, not by the newest entry"),
             (is_covered && !oldest && !self.is_longer, "read moved, not by the oldest entry"),
+            (from_before && !self.is_longer, "read moved, by an entry from before its first block"),
+            (to_behind && !self.is_longer, "read moved, by an entry that goes past its last block"),
             (only_longer, "read moved, only lengthened"),
-            (only_longer && self.passes_by(1), "read moved, only lengthened, its last byte past the end"),
+            (
+                only_longer && self.passes_by(1),
+                "read moved, only lengthened, its last byte past the end",
+            ),
             (is_covered && self.is_longer && self.has_passed, "read moved, covered and lengthened"),
             (self.enters_a_block(), "read moved into a next log block"),
             (has_more(&self.record.write), "read moved, run, zeroing or retries not 0"),

@@ -28,7 +28,7 @@ pub const TABLE: [(&str, &[&str], &[u64]); 11] = [
 ];
 
 /// What happens inside the calls and is to be met too.
-pub const EVENTS: [&str; 81] = [
+pub const EVENTS: [&str; 85] = [
     "linked",
     "moved by a lost link",
     "moved, refills nothing",
@@ -68,6 +68,8 @@ pub const EVENTS: [&str; 81] = [
     "copied in a hole",
     "copied past the end",
     "copied past the end, not 0 there",
+    "copied, other bytes there by now",
+    "copied past the end, longer by now",
     "copied a part of a word",
     "copied, run, zeroing or retries not 0",
     "copied, run outside the image",
@@ -77,6 +79,8 @@ pub const EVENTS: [&str; 81] = [
     "read moved, only its last block covered",
     "read moved, not by the newest entry",
     "read moved, not by the oldest entry",
+    "read moved, by an entry from before its first block",
+    "read moved, by an entry that goes past its last block",
     "read moved, only lengthened",
     "read moved, only lengthened, its last byte past the end",
     "read moved, covered and lengthened",

@@ -219,6 +219,7 @@ impl World {
             Answer::Moved if before.write.phase == Phase::Reading => {
                 self.tally.count("step", "moved");
                 self.tally.events(&read_moved_events(&self.image, before));
+                self.check_moved(before, after)?;
             }
             Answer::Moved => {
                 self.tally.count("step", "moved");
@@ -241,6 +242,14 @@ impl World {
         }
         let count = self.moved[p].min(65_535);
         must(after.is_idle() || u64::from(after.write.retries) == count, "the retry count")
+    }
+
+    /// "the copy begins again": after Moved a read is what a beginning leaves.
+    fn check_moved(&self, before: &Record, after: &Record) -> Result<(), String> {
+        let Write { offset, text_length, .. } = before.write;
+        let idle = Record { write: Write::idle(), ..before.clone() };
+        let again = begin_read(&self.image, &self.shared, &idle, offset, text_length);
+        must(again.as_ref() == Ok(after), "a moved read is one that begins")
     }
 
     /// "they are the file's as of that step, 0 past its end"
