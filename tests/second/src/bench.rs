@@ -366,7 +366,7 @@ impl Bench {
             Refusal::LogBroken => {
                 self.broken_event(before);
                 if before.write.phase == Phase::Reading {
-                    self.tally.event("18 in a read's final step");
+                    self.tally.events(&broken_read_events(&self.image, before));
                 }
             }
             _ => self.refusal_events(why, before, false),

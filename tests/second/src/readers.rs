@@ -53,9 +53,16 @@ pub fn begin_read_any(maker: &mut Maker) {
     maker.say(&line);
 }
 
-/// A joined point with a read just begun, and another joined idle point.
+/// A joined point with a read just begun, now and then over write fields that
+/// are not 0, and another joined idle point.
 fn a_reader(maker: &mut Maker) -> Option<(usize, usize)> {
     let (p, q) = a_pair(maker)?;
+    if maker.random.once_in(8) {
+        let field = *maker.random.pick(&["run", "zeroing", "retries", "position"]);
+        let value = maker.random.between(1, 200);
+        maker.say(&format!("alter {p} {field} {value}"));
+        maker.say(&format!("text {p} 1023 {value}"));
+    }
     let line = begin_read_line(maker, p);
     maker.say(&line);
     (maker.phase(p) == Phase::Reading).then_some((p, q))
@@ -166,20 +173,13 @@ fn go_on(maker: &mut Maker, p: usize) {
     }
 }
 
-/// The log breaks under a reader at its final step, or under a point that
+/// The log breaks under a reader at its final step, and under a point that
 /// begins a read, and is mended.
 pub fn break_under(maker: &mut Maker) {
     let Some((p, q)) = a_reader(maker) else { return };
     let near = maker.steps_to_commit(p);
     maker.say(&format!("step {p} {near}"));
-    let blocks = maker.blocks();
-    let (block, slot) = (maker.bench.records[p].view.block, maker.bench.records[p].view.slot);
-    let (place, bad) = if slot < END_SLOT {
-        let bad = broken_entry(&mut maker.random, 0x0000_0201_0001_0000, blocks);
-        (place_of(block, slot), bad)
-    } else {
-        (place_of(block, 0), (blocks + maker.random.below(2)) as u64)
-    };
+    let (place, bad) = a_break(maker, p);
     let old = maker.bench.image[place];
     maker.say(&format!("set {place} {bad}"));
     maker.say(&format!("step {p} 2"));
@@ -187,7 +187,41 @@ pub fn break_under(maker: &mut Maker) {
     let line = begin_read_line(maker, q);
     maker.say(&line);
     maker.say(&format!("set {place} {old}"));
-    go_on(maker, p);
+    if maker.phase(p) == Phase::Reading {
+        go_on(maker, p);
+    }
+}
+
+/// A word that the reader's final step meets first, and what it shall be: an
+/// entry that breaks the rules or covers many blocks, a next index that is too
+/// large, or a 65th log block.
+fn a_break(maker: &mut Maker, p: usize) -> (usize, u64) {
+    let blocks = maker.blocks();
+    let kind = maker.random.below(4);
+    if kind >= 2 {
+        maker.say(&format!("alter {p} slot 64"));
+    }
+    if kind == 3 {
+        maker.say(&format!("alter {p} passed 64"));
+    }
+    let Record { view, write, .. } = maker.bench.records[p].clone();
+    let random = &mut maker.random;
+    let bad = match kind {
+        0 => broken_entry(random, 0x0000_0201_0001_0000, blocks),
+        1 => long_entry(random, write.first_block(), blocks),
+        2 => (blocks + random.below(2)) as u64,
+        _ => random.between(1, blocks - 1) as u64,
+    };
+    let word = if view.slot < END_SLOT { view.slot } else { 0 };
+    (place_of(view.block, word), bad)
+}
+
+/// A lawful entry of many blocks about a virtual block.
+fn long_entry(random: &mut Random, v: usize, blocks: usize) -> u64 {
+    let n = random.between(4, 64).min(blocks - 1);
+    let v = v.saturating_sub(random.below(n + 2)).min(FILE_BLOCKS - n);
+    let b = random.between(1, blocks - n);
+    Entry { v, b, n, u: random.between(1, BLOCK_BYTES), point: 5, rest: 0 }.pack()
 }
 
 /// Bytes past the file's end that are not 0, or a record that takes the file

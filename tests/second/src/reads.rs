@@ -1,14 +1,17 @@
 //! What a read taken in steps meets: the situations in which wrong reads differ.
 
-use crate::image::{Entry, BLOCK_BYTES};
-use crate::log::{catch_up, Caught};
+use crate::image::{Entry, BLOCK_BYTES, FILE_BYTES};
+use crate::log::{catch_up, Broken, Caught};
 use crate::reading::{known_byte, word_places};
 use crate::record::*;
 use crate::tally::happened;
 
 /// The events of a beginning that is not refused.
 pub fn begun_events(before: &Record, after: &Record) -> Vec<&'static str> {
-    happened(&[(before.view != after.view, "read begun after catching up")])
+    happened(&[
+        (before.view != after.view, "read begun after catching up"),
+        (before.write != Write::idle(), "read begun, write fields not 0"),
+    ])
 }
 
 /// The events of a step that copies a word.
@@ -106,6 +109,7 @@ impl Final<'_> {
             (is_covered && !oldest && !self.is_longer, "read moved, not by the oldest entry"),
             (from_before && !self.is_longer, "read moved, by an entry from before its first block"),
             (to_behind && !self.is_longer, "read moved, by an entry that goes past its last block"),
+            (self.only_by(|entry| entry.n > 3), "read moved, by an entry of more than three blocks"),
             (only_longer, "read moved, only lengthened"),
             (
                 only_longer && self.passes_by(1),
@@ -129,6 +133,7 @@ impl Final<'_> {
             (write.span() == 1, "read over one block"),
             (write.span() == 2, "read over two blocks"),
             (write.span() == 3, "read over three blocks"),
+            (write.end() == FILE_BYTES, "read up to byte 131,072"),
             (write.offset >= self.view.length, "read wholly past the end"),
             (inside, "read ended, lengthened but its range inside"),
             (inside && self.passes_by(0), "read ended, lengthened from its end on"),
@@ -152,6 +157,16 @@ pub fn read_moved_events(image: &[u64], record: &Record) -> Vec<&'static str> {
 /// The events of a final step that answers these bytes.
 pub fn ended_events(image: &[u64], record: &Record, bytes: &[u8]) -> Vec<&'static str> {
     Final::new(image, record).map_or(Vec::new(), |step| step.ended(image, bytes))
+}
+
+/// The event of a final step that is refused by 18.
+pub fn broken_read_events(image: &[u64], record: &Record) -> Vec<&'static str> {
+    let Err(why) = catch_up(image, &record.view) else { return Vec::new() };
+    vec![match why {
+        Broken::Entry => "18 in a read's final step, by an entry",
+        Broken::Next => "18 in a read's final step, by a next index",
+        Broken::TooLong => "18 in a read's final step, by a 65th log block",
+    }]
 }
 
 /// The events of a record with a read under way that does not fit.

@@ -28,7 +28,7 @@ pub const TABLE: [(&str, &[&str], &[u64]); 11] = [
 ];
 
 /// What happens inside the calls and is to be met too.
-pub const EVENTS: [&str; 85] = [
+pub const EVENTS: [&str; 90] = [
     "linked",
     "moved by a lost link",
     "moved, refills nothing",
@@ -65,6 +65,7 @@ pub const EVENTS: [&str; 85] = [
     "left while zeroing",
     "left while filling",
     "read begun after catching up",
+    "read begun, write fields not 0",
     "copied in a hole",
     "copied past the end",
     "copied past the end, not 0 there",
@@ -81,6 +82,7 @@ pub const EVENTS: [&str; 85] = [
     "read moved, not by the oldest entry",
     "read moved, by an entry from before its first block",
     "read moved, by an entry that goes past its last block",
+    "read moved, by an entry of more than three blocks",
     "read moved, only lengthened",
     "read moved, only lengthened, its last byte past the end",
     "read moved, covered and lengthened",
@@ -91,6 +93,7 @@ pub const EVENTS: [&str; 85] = [
     "read over one block",
     "read over two blocks",
     "read over three blocks",
+    "read up to byte 131,072",
     "read wholly past the end",
     "read ended, lengthened but its range inside",
     "read ended, lengthened from its end on",
@@ -109,7 +112,9 @@ pub const EVENTS: [&str; 85] = [
     "left while reading",
     "left while reading, a taken block for its run",
     "left while reading, a taken block for its zeroing",
-    "18 in a read's final step",
+    "18 in a read's final step, by an entry",
+    "18 in a read's final step, by a next index",
+    "18 in a read's final step, by a 65th log block",
     "read at once while reading",
     "shown while reading",
     "located while reading",
