@@ -190,6 +190,14 @@ pub fn break_under(maker: &mut Maker) {
     if maker.phase(p) == Phase::Reading {
         go_on(maker, p);
     }
+    renew(maker, p);
+}
+
+/// The point leaves and joins: its record is altered no more.
+fn renew(maker: &mut Maker, p: usize) {
+    maker.say(&format!("leave {p}"));
+    maker.say("shared");
+    maker.say(&format!("join {p}"));
 }
 
 /// A word that the reader's final step meets first, and what it shall be: an
@@ -251,6 +259,7 @@ pub fn dirty(maker: &mut Maker) {
     if maker.phase(p) == Phase::Reading {
         go_on(maker, p);
     }
+    renew(maker, p);
 }
 
 /// A reader leaves, now and then with a block in a field that no read uses.
@@ -264,9 +273,7 @@ pub fn leave_reading(maker: &mut Maker) {
             maker.say(&format!("alter {p} {field} {block}"));
         }
     }
-    maker.say(&format!("leave {p}"));
-    maker.say("shared");
-    maker.say(&format!("join {p}"));
+    renew(maker, p);
 }
 
 /// An alteration of what the point has seen of the log, mostly one that fits.
@@ -292,7 +299,7 @@ pub fn read_scene(maker: &mut Maker, p: usize) -> String {
     maker.say(&format!("alter {p} textlength {count}"));
     for field in ["run", "zeroing", "retries"] {
         if maker.random.once_in(3) {
-            let value = a_border(maker) % 65_536;
+            let value = a_border(maker);
             maker.say(&format!("alter {p} {field} {value}"));
         }
     }
@@ -323,7 +330,5 @@ pub fn altered_read(maker: &mut Maker) {
     let k = *maker.random.pick(&[1, 1, 2, 3, 130, 300]);
     maker.say(&format!("step {p} {k}"));
     maker.say(&format!("record {p}"));
-    maker.say(&format!("leave {p}"));
-    maker.say(&format!("join {p}"));
-    maker.say("shared");
+    renew(maker, p);
 }
