@@ -233,9 +233,10 @@ fn long_entry(random: &mut Random, v: usize, blocks: usize) -> u64 {
 }
 
 /// Bytes past the file's end that are not 0, or a record that takes the file
-/// for shorter than it is; or a word of the range changes after its copy.
+/// for shorter than it is; or a word of the range changes after its copy. Bytes
+/// of the text before their copy, and another's commit, now and then.
 pub fn dirty(maker: &mut Maker) {
-    let Some((p, _)) = a_reader(maker) else { return };
+    let Some((p, q)) = a_reader(maker) else { return };
     let record = maker.bench.records[p].clone();
     let at = |place: usize| match usize::from(record.view.table[place / BLOCK_BYTES]) {
         0 => None,
@@ -246,6 +247,16 @@ pub fn dirty(maker: &mut Maker) {
     if maker.random.once_in(2) {
         let length = maker.random.between(offset.saturating_sub(9), end);
         maker.say(&format!("alter {p} length {length}"));
+    }
+    if maker.random.once_in(3) {
+        let byte = maker.random.between(1, 255);
+        maker.say(&format!("text {p} {} {byte}", place - offset));
+    }
+    if maker.random.once_in(3) {
+        let rival = a_rival(&mut maker.random, &record);
+        commit_of(maker, q, rival);
+        some_steps(maker, p);
+        maker.say(&format!("record {p}"));
     }
     let near = maker.random.below(maker.steps_to_commit(p) + 1);
     maker.say(&format!("step {p} {}", near.max(1)));

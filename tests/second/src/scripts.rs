@@ -386,10 +386,10 @@ fn reads(maker: &mut Maker, lines: usize) {
         match maker.random.below(16) {
             0 => works(maker, 4),
             1 => break_under(maker),
-            2 => dirty(maker),
-            3 => leave_reading(maker),
-            4 | 5 => altered_read(maker),
-            6 => conflict(maker),
+            2 | 3 => dirty(maker),
+            4 => leave_reading(maker),
+            5 | 6 => altered_read(maker),
+            7 => conflict(maker),
             _ => watch(maker),
         }
         if a_pair(maker).is_none() || is_stuck(maker) {
