@@ -35,7 +35,7 @@ use Rattle.points.specs.declared.Begun.{Begun}
 use Rattle.points.specs.Record.{noText, noWrite, textMax, isJoined, isIdle, isReading, span, rangeWords, runFirst, runBlocks, fileAt, writing, caughtUp}
 use Rattle.points.specs.Calls.{beginningRead, beginReadRefusal, newRead}
 use Rattle.points.specs.Plan.{Outcome}
-use Rattle.points.specs.ReadSteps.{shownByte, withWord, covered, lengthened, copyWord, beginAgain, answerBytes, readOn}
+use Rattle.points.specs.ReadSteps.{copyFrom, copyTo, shownByte, withWord, covered, lengthened, copyWord, beginAgain, answerBytes, readOn}
 use Rattle.points.proofs.NotRefused.{begin-joined, begin-idle, begin-text, begin-end}
 use Rattle.points.proofs.RecordFacts.{text-facts}
 use Rattle.points.proofs.Phases.{idle-apart, reading-busy, reading-apart}
@@ -170,7 +170,7 @@ module _ {E : Edition} {L : List ℕ} (w : W.World) (bk : Book) (h : Tied E L w 
 
     text-kept : length text ≡ length (p .text)
     unfolding withWord
-    text-kept = length-sets (p .text) _ _
+    text-kept = length-sets (p .text) (copyFrom x - x .offset) (listFrom (copyFrom x) (copyTo x - copyFrom x) (shownByte E m f))
 
     -- a word is copied
     copy-tied : ltb (x .position) (rangeWords x) ≡ true → Ok (copyWord E m (w .shared) p)
@@ -208,12 +208,13 @@ module _ {E : Edition} {L : List ℕ} (w : W.World) (bk : Book) (h : Tied E L w 
     -- ---- what is answered
 
     -- the length when caught up is the file's
-    caught-size : caught E m (w .shared) p .head .length ≡ h .inv .cur .size
+    pub caught-size : caught E m (w .shared) p .head .length ≡ h .inv .cur .size
     caught-size = ap (λ (y : PointState). y .view .size) (caught-up w bk h n j noWrite noText) ∙ ap (λ (y : View). y .size) (pi .place .catches)
 
     module _ (e : ltb (x .position) (rangeWords x) ≡ false) (still : disturbed E m (w .shared) p ≡ false) where
       not-covered : covered E x (pi .ahead) ≡ false
-      not-covered = ap (λ (y : K.Walk). covered E x (y .entries)) (sym (ahead-is w bk h n j)) ∙ or-left _ _ still
+      not-covered = ap (λ (y : K.Walk). covered E x (y .entries)) (sym (ahead-is w bk h n j)) 
+          ∙ or-left (covered E x (walk .entries)) (lengthened x (p .head .length) (caught E m (w .shared) p .head .length)) still
 
       -- a block of the range
       clear-at : (v : ℕ) → runFirst E x ≤ v → v < runFirst E x + runBlocks E x → Clear (pi .ahead) v
@@ -224,7 +225,8 @@ module _ {E : Edition} {L : List ℕ} (w : W.World) (bk : Book) (h : Tied E L w 
       not-longer = go (decLt (p .head .length) (h .inv .cur .size)) (decLt (p .head .length) (x .offset + x .size))
         where
           l : lengthened x (p .head .length) (h .inv .cur .size) ≡ false
-          l = ap (lengthened x (p .head .length)) (sym caught-size) ∙ or-right _ _ still
+          l = ap (lengthened x (p .head .length)) (sym caught-size)
+              ∙ or-right (covered E x (walk .entries)) (lengthened x (p .head .length) (caught E m (w .shared) p .head .length)) still
 
           go : Dec (p .head .length < h .inv .cur .size) → Dec (p .head .length < x .offset + x .size)
               → (h .inv .cur .size ≤ p .head .length) ⊎ (x .offset + x .size ≤ p .head .length)
