@@ -43,17 +43,18 @@ fn put_word(w: u64, buffer: &mut [u8], at: usize)
     buffer[at + 7] = byte(w, 7);
 }
 
-// The bytes of n words of a part go to the buffer from a place on.
-fn copy_words(part: &[u64], from: usize, buffer: &mut [u8], at: usize, n: usize)
-    requires { ⌜ (from + n ≤ length (now part)) × (at + 8 * n ≤ length (now buffer)) ⌝ }
-    ensures { λ _. ⌜ now (buffer .exit) ≡ sets (now (buffer .entry)) at (listFrom (8 * from) (8 * n) (byteIn (now (part .entry)))) ⌝ }
+// The bytes of a part's words go to the buffer's front. (One index for both, so that the loop becomes vectors.)
+fn copy_words(part: &[u64], buffer: &mut [u8])
+    requires { ⌜ 8 * length (now part) ≤ length (now buffer) ⌝ }
+    ensures { λ _. ⌜ now (buffer .exit)
+        ≡ sets (now (buffer .entry)) 0 (listFrom 0 (8 * length (now (part .entry))) (byteIn (now (part .entry)))) ⌝ }
 {
-    for k in 0..n {
-        put_word(part[from + k], buffer, at + 8 * k);
+    for k in 0..part.len() {
+        put_word(part[k], buffer, 8 * k);
     }
 }
 
-// The same for n bytes of a part, one by one.
+// n bytes of a part go to the buffer from a place on, one by one.
 fn copy_bytes(part: &[u64], from: usize, buffer: &mut [u8], at: usize, n: usize)
     requires { ⌜ (from + n ≤ 8 * length (now part)) × (at + n ≤ length (now buffer)) ⌝ }
     ensures { λ _. ⌜ now (buffer .exit) ≡ sets (now (buffer .entry)) at (listFrom from n (byteIn (now (part .entry)))) ⌝ }
@@ -85,19 +86,16 @@ fn copy(part: &[u64], from: usize, buffer: &mut [u8], at: usize, n: usize)
     let head = least(words::offset::byte(8 - words::offset::byte(from)), n);
     let whole = words::offset::whole_words(n - head);
     let middle = 8 * whole;
+    let first = words::offset::whole_words(from + head);
+    let last = first + whole;
+    let start = at + head;
     copy_bytes(part, from, buffer, at, head);
-    copy_words(
-        part,
-        words::offset::whole_words(from + head),
-        buffer,
-        at + head,
-        whole,
-    );
+    copy_words(&part[first..last], &mut buffer[start..]);
     copy_bytes(
         part,
         from + head + middle,
         buffer,
-        at + head + middle,
+        start + middle,
         n - head - middle,
     );
 }
