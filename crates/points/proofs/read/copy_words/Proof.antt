@@ -46,10 +46,12 @@ loop-again c =
     let a = called turn .args in
     let l = turn .loop in
     let e : 8 * (l .k + 1) ≡ 8 * l .k + 8 = omega arith in
-    let z : 0 + 8 * l .k ≡ 8 * l .k = omega arith in
-    (l .inv .0, rw e
-    (copied-more (byteIn (a .part .now)) (a .buffer .now) 0 0 (8 * length (a .part .now)) (l .buffer) (8 * l .k) (l .inv .1) _ 8 (omega arith)
-    (rw z (c .before .before .put-word .ensures ∙ ap (sets (l .buffer) (8 * l .k)) (word-bytes (a .part .now) (l .k))))))
+    let z : 0 + 8 * l .k ≡ 8 * l .k = omega arith in (
+      l .inv .0,
+      rw e
+          (copied-more (byteIn (a .part .now)) (a .buffer .now) 0 0 (8 * length (a .part .now)) (l .buffer) (8 * l .k) (l .inv .1) _ 8 (omega arith)
+          (rw z (c .before .before .put-word .ensures ∙ ap (sets (l .buffer) (8 * l .k)) (word-bytes (a .part .now) (l .k))))),
+    )
 
 same-length : tie.Need-same-length Inv-loop μ-loop
 same-length c = c .before .loop .inv .1 .same
