@@ -48,8 +48,9 @@ pub fn locate_lent(
     if current.tail {
         return find(table, v);
     }
+    let place = head.place;
     let mut own = *table;
-    let size = log::ahead::catch_up(image, numbers.blocks, head.place, &mut own, head.length);
+    let size = log::ahead::catch_up(image, numbers.blocks, place, &mut own, head.length);
     find(&own, v)
 }
 

@@ -178,8 +178,9 @@ pub fn read_lent(
     if current.tail {
         return fill_from(image, table, head.length, offset, buffer);
     }
+    let place = head.place;
     let mut own = *table;
-    let size = log::ahead::catch_up(image, numbers.blocks, head.place, &mut own, head.length);
+    let size = log::ahead::catch_up(image, numbers.blocks, place, &mut own, head.length);
     fill_from(image, &own, size, offset, buffer)
 }
 

@@ -16,7 +16,7 @@ abbrev caught : tie.After-own3 → tie.After-catch-up
 caught c = c .before
 
 abbrev not-refused : tie.After-catch-up → tie.Else1
-not-refused c = c .before .before .before .before
+not-refused c = c .before .before .before .before .before
 
 abbrev settled : tie.Else1 → tie.After-settle
 settled c = c .before .before

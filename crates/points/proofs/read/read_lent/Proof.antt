@@ -34,7 +34,7 @@ abbrev caught : tie.After-fill-from2 → tie.After-catch-up
 caught c = c .before .before .before
 
 abbrev not-refused : tie.After-catch-up → tie.Else1
-not-refused c = c .before .before .before .before
+not-refused c = c .before .before .before .before .before
 
 abbrev settled : tie.Else1 → tie.After-settle
 settled c = c .before .before
