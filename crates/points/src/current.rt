@@ -20,6 +20,7 @@ pub(crate) struct Current {
     pub tail: bool,
 }
 
+// A reason, 0 for none, where the word at the log place is not known to be empty.
 fn settled(reason: u32) -> Current
     ensures { λ r. ⌜ (r .reason ≡ reason) × (r .tail ≡ false) ⌝ }
 {

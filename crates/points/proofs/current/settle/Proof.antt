@@ -32,7 +32,8 @@ returns c =
     let a = c .before .before .before .before .args in
     λ taken.
     refused-as _ _ _ (c .settled .ensures)
-    (catch-up-unfit one (a .image .now) (sharedOf (a .numbers) taken) (a .head) (a .table .now) (a .past) (u .result) (u .ensures taken) (c .before .if1 .taken))
+    (catch-up-unfit one (a .image .now) (sharedOf (a .numbers) taken) (a .head) (a .table .now) (a .past) (u .result) (u .ensures taken)
+    (c .before .if1 .taken))
 
 settled-requires-2 : tie.Need-settled-requires-2
 settled-requires-2 c κs = search needs
