@@ -175,7 +175,7 @@ pub fn read(
     }
     numbers::of_count(points::read::read_lent(
         image,
-        numbers::shared(shared, taken),
+        numbers::lead(shared),
         numbers::head(head),
         table,
         offset,
@@ -198,7 +198,7 @@ pub fn locate(
     }
     numbers::of_count(points::locate::locate_lent(
         image,
-        numbers::shared(shared, taken),
+        numbers::lead(shared),
         numbers::head(head),
         table,
         block,
