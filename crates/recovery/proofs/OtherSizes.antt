@@ -22,6 +22,7 @@ use Rattle.recovery.specs.OtherSizes.{nearlyFull, loneStart, loneCalls, 
 use Rattle.words.proofs.Logic.{and-left, and-right}
 use Rattle.recovery.proofs.Computed.{test, agree}
 use Rattle.recovery.proofs.OnBlocks.{testOn, by-blocks, onBlocks}
+use Rattle.recovery.proofs.NoSooner.{low, no-sooner}
 
 -- ---- the sessions
 
@@ -59,30 +60,8 @@ unfinished (stepped n d (Refused k) b) h = absurd (omega arith)
 unfinished (stepped n d Copied b) h = refl
 unfinished (stepped n d (Bytes k) b) h = refl
 
-abbrev low : List ℕ → Bool
-low = all-of (λ x. ltb x 400000)
-
--- n steps finish no write, if n + 1 steps give n such numbers first
-module _ (E : Edition) (p : ℕ) where
-  not-yet : (n : ℕ) (w : World) → low (take n (map code (events E w (alone p (suc n))))) ≡ true → some-of finishes (events E w (alone p n)) ≡ false
-  unfolding events
-  not-yet zero w h = refl
-  not-yet (suc n) w h =
-      let t = serve E w (step p noPoint) in
-      let rest = take n (map code (events E (t .world) (alone p (suc n)))) in
-      let l : ltb (code (t .event)) 400000 ≡ true = and-left (ltb (code (t .event)) 400000) (low rest) h in
-      let a : finishes (t .event) ≡ false = unfinished (t .event) (ltb-true (code (t .event)) 400000 l) in
-      let b : some-of finishes (events E (t .world) (alone p n)) ≡ false = not-yet n (t .world) (and-right (ltb (code (t .event)) 400000) (low rest) h) in
-      ap₂ _||_ a b
-
-  no-sooner : (cs : List Call) (n : ℕ) (w : World) → low (take n (drop (length cs) (map code (events E w (cs ++ alone p (suc n)))))) ≡ true
-      → some-of finishes (events E (world E w cs) (alone p n)) ≡ false
-  unfolding events world
-  no-sooner [] n w h = not-yet n w h
-  no-sooner (c ∷ cs) n w h = no-sooner cs n (serve E w c .world) h
-
 -- the answers that the bound says finish the write at their end, and not before
-module _ (E : Edition) (n : ℕ) (e : loneSteps E ≡ suc n) (l : low (take n (drop (length (loneStart E)) (loneSaid E))) ≡ true)
+module _ (E : Edition) (n : ℕ) (e : loneSteps E ≡ suc n) (l : low 400000 (take n (drop (length (loneStart E)) (loneSaid E))) ≡ true)
     (t : testOn E (nearlyFull E) (loneCalls E) (loneCases E) ≡ true) where
   tight : Tight E
   tight =
@@ -92,7 +71,7 @@ module _ (E : Edition) (n : ℕ) (e : loneSteps E ≡ suc n) (l : low (take n (d
       let m : n ≡ loneSteps E - 1 = omega (arith, e) in (
         q,
         subst (λ (k : ℕ). some-of finishes (events E (world E (nearlyFull E) (loneStart E)) (alone 1 k)) ≡ false) m
-            (no-sooner E 1 (loneStart E) n (nearlyFull E) (subst (λ (xs : List ℕ). low (take n (drop (length (loneStart E)) xs)) ≡ true) (sym r) l)),
+            (no-sooner finishes 400000 unfinished E 1 (loneStart E) n (nearlyFull E) (subst (λ (xs : List ℕ). low 400000 (take n (drop (length (loneStart E)) xs)) ≡ true) (sym r) l)),
       )
 
 lone-one : testOn one (nearlyFull one) (loneCalls one) (loneCases one) ≡ true
