@@ -21,8 +21,7 @@ use Rattle.points.specs.declared.plan.Plan.{Plan}
 use Rattle.points.specs.Record.{noWrite, noText, isReading, fileAt, pointOf, standing, writing, withHead, caughtUp}
 use Rattle.points.specs.Search.{withTaken}
 use Rattle.points.specs.Fill.{newWord}
-use Rattle.points.specs.Plan.{Outcome, carriedOut, readIn, freed, withoutRun, replaced, wordFrom}
-use Rattle.points.specs.ReadSteps.{untouched}
+use Rattle.points.specs.Plan.{Outcome, untouched, carriedOut, readIn, freed, withoutRun, replaced, wordFrom}
 use Rattle.points.specs.Stepping.{turned, toCommit, retried, filled, refillAfter, nextSlot, entering, entryFor}
 use Rattle.points.specs.Stepping.{refused, commit, giveUp, extend, zeroOut, link, giveBack, moveOn, fill, stepping}
 use Rattle.points.proofs.StepCases.{go-on}

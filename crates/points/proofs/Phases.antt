@@ -1,9 +1,9 @@
 -- Of the phases: what is under way is a write or a read, never both. Assumes nothing.
 use mathlib.Core.Path.{_≡_, refl}
-use mathlib.Core.Bool.{Bool, true, false}
+use mathlib.Core.Bool.{true, false}
 use Rattle.points.specs.declared.Phase.{Phase}
 use Rattle.points.specs.declared.Phase.the-variants.{Idle, Filling, RefillFirst, RefillLast, RefillBoth, Zeroing, Reading}
-use Rattle.points.specs.Record.{isIdle, isZeroing, isReading, isWriting}
+use Rattle.points.specs.Record.{isIdle, isReading, isWriting}
 use Rattle.words.proofs.Tests.{no-true}
 
 -- a write's phase is neither idle nor a read's

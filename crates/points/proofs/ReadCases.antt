@@ -1,7 +1,7 @@
 -- Which way a step goes by its kind, and which way a read's goes, one law for each test of its definition. recovery goes by the same cases.
 -- `each-read` takes what holds of each thing that a read's step may do to the step. Assumes nothing.
 use mathlib.Core.Path.{_≡_, refl, sym, _∙_, subst}
-use mathlib.Core.List.{List, []}
+use mathlib.Core.List.{List}
 use mathlib.Core.Bool.{Bool, true, false, _||_}
 use mathlib.Core.Option.{none}
 use Prim.Native.Nat.{ℕ, zero, suc}
@@ -11,14 +11,12 @@ use Rattle.words.specs.Memory.{Memory, memory}
 use Rattle.words.proofs.Choice.{choose-true, choose-false, chosen-zero, chosen-suc}
 use Rattle.log.specs.declared.Shared.{Shared}
 use Rattle.log.specs.CatchUp.{Walk, ahead, broken}
-use Rattle.points.specs.declared.Head.{Head}
 use Rattle.points.specs.declared.Write.{Write}
 use Rattle.points.specs.declared.Point.{Point}
 use Rattle.points.specs.declared.StepAnswer.the-variants.{Refused}
 use Rattle.points.specs.Record.{isReading, rangeWords, caughtUp}
-use Rattle.points.specs.Search.{withTaken}
-use Rattle.points.specs.Plan.{Outcome, carriedOut}
-use Rattle.points.specs.ReadSteps.{untouched, covered, lengthened, copyWord, beginAgain, answerBytes, finish, readOn}
+use Rattle.points.specs.Plan.{Outcome, untouched, carriedOut}
+use Rattle.points.specs.ReadSteps.{covered, lengthened, copyWord, beginAgain, answerBytes, finish, readOn}
 use Rattle.points.specs.Stepping.{stepRefusal, planned, readStep, stepping}
 
 -- ---- a write's step, or a read's
@@ -71,23 +69,23 @@ module _ (E : Edition) (m : Memory) (s : Shared) (p : Point) where
   unfolding finish
   stop-on e = choose-true (broken E (s .blocks) walked) (untouched s p (Refused 18)) _ e
 
-  pub again-on : broken E (s .blocks) walked ≡ false → disturbed ≡ true → finish E m s p ≡ beginAgain E m s p caught
+  pub again-on : broken E (s .blocks) walked ≡ false → disturbed ≡ true → finish E m s p ≡ beginAgain s p caught
   unfolding finish
   again-on e f = choose-false (broken E (s .blocks) walked) (untouched s p (Refused 18)) _ e
-      ∙ choose-true disturbed (beginAgain E m s p caught) (answerBytes E m s p caught) f
+      ∙ choose-true disturbed (beginAgain s p caught) (answerBytes s p caught) f
 
-  pub bytes-on : broken E (s .blocks) walked ≡ false → disturbed ≡ false → finish E m s p ≡ answerBytes E m s p caught
+  pub bytes-on : broken E (s .blocks) walked ≡ false → disturbed ≡ false → finish E m s p ≡ answerBytes s p caught
   unfolding finish
   bytes-on e f = choose-false (broken E (s .blocks) walked) (untouched s p (Refused 18)) _ e
-      ∙ choose-false disturbed (beginAgain E m s p caught) (answerBytes E m s p caught) f
+      ∙ choose-false disturbed (beginAgain s p caught) (answerBytes s p caught) f
 
   -- ---- whatever it does
 
   pub record EachRead (P : Outcome → Type 0) : Type 0 where
     pub copies : ltb (w .position) (rangeWords w) ≡ true → P (copyWord E m s p)
     pub stops : broken E (s .blocks) walked ≡ true → P (untouched s p (Refused 18))
-    pub begins-again : ltb (w .position) (rangeWords w) ≡ false → disturbed ≡ true → P (beginAgain E m s p caught)
-    pub answers : ltb (w .position) (rangeWords w) ≡ false → disturbed ≡ false → P (answerBytes E m s p caught)
+    pub begins-again : ltb (w .position) (rangeWords w) ≡ false → disturbed ≡ true → P (beginAgain s p caught)
+    pub answers : ltb (w .position) (rangeWords w) ≡ false → disturbed ≡ false → P (answerBytes s p caught)
 
   pub each-read : (P : Outcome → Type 0) → EachRead P → P (readOn E m s p)
   each-read P each = go (ltb (w .position) (rangeWords w)) (broken E (s .blocks) walked) disturbed refl refl refl

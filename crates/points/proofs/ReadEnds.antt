@@ -25,9 +25,9 @@ use Rattle.points.specs.declared.StepAnswer.the-variants.{Moved, Refused
 use Rattle.points.specs.declared.read_step.Ahead.{Ahead}
 use Rattle.points.specs.Record.{noWrite, noText, headOf, isIdle, isReading, runFirst, runBlocks, rangeWords, fileAt, pointOf, unfit, caughtUp}
 use Rattle.points.specs.Search.{sharedOf}
-use Rattle.points.specs.Plan.{Outcome, answered}
+use Rattle.points.specs.Plan.{Outcome, answered, untouched}
 use Rattle.points.specs.Calls.{newRead}
-use Rattle.points.specs.ReadSteps.{copiedOn, withWord, untouched, covered, lengthened, copyWord, beginAgain, answerBytes, finish, readOn}
+use Rattle.points.specs.ReadSteps.{copiedOn, withWord, covered, lengthened, copyWord, beginAgain, answerBytes, finish, readOn}
 use Rattle.points.specs.Stepping.{stepRefusal, stepping, bytesAfter}
 use Rattle.points.specs.Lent.{ReadTells, aheadOf, TextFits}
 use Rattle.points.proofs.Spans.{lies}
@@ -149,7 +149,7 @@ module _ (E : Edition) (m : Memory) (n : Numbers) (head : Head) (table text lent
         → ReadTells (λ s. finish E m s p) n lent (leaving Moved left) later cleared lent
     unfolding beginAgain
     finish-again d left cleared isLeft isCleared =
-        told-by {out = λ s. beginAgain E m s p (caught E m s p)}
+        told-by {out = λ s. beginAgain s p (caught E m s p)}
         (λ taken. again-on E m (sharedOf n taken) p (seen-sound sound) (sym (is-disturbed taken) ∙ d))
         (record { answers = λ taken. rw (is-caught, isLeft, isCleared); unstored = λ taken. refl; handed = λ taken. refl; place = refl })
 
@@ -161,7 +161,7 @@ module _ (E : Edition) (m : Memory) (n : Numbers) (head : Head) (table text lent
     unfolding answerBytes
     finish-bytes d left cleared bytes isLeft isCleared h isBytes =
         let l : length (take (head .write .size) text) ≡ head .write .size = simp length-take (omega arith) in
-        told-by {out = λ s. answerBytes E m s p (caught E m s p)}
+        told-by {out = λ s. answerBytes s p (caught E m s p)}
         (λ taken. bytes-on E m (sharedOf n taken) p (seen-sound sound) (sym (is-disturbed taken) ∙ d))
         (record { answers = λ taken. rw (is-caught, isLeft, isCleared); unstored = λ taken. refl; handed = λ taken. rw l isBytes; place = refl })
 

@@ -138,7 +138,7 @@ abbrev pub partOf : Memory → ℕ → List ℕ
 partOf m zero = []
 partOf m (suc b) = blockAt m (suc b)
 
--- ---- what is asked of a write
+-- ---- what is asked of a write, and of a read's range
 
 -- 16 and 17
 abbrev pub TextFits : Write → Type 0

@@ -120,6 +120,10 @@ pub record Outcome : Type 0 where
   pub store : Option Store
   pub bytes : List ℕ
 
+-- an answer that leaves everything as it was
+abbrev pub untouched : Shared → Point → StepAnswer → Outcome
+untouched s p step = record { step = step; shared = s; point = p; store = none; bytes = [] }
+
 -- what the call answers of an outcome; its store is made in the image
 abbrev pub answered : Outcome → Stepped
 answered o = record { step = o .step; shared = o .shared; point = o .point }

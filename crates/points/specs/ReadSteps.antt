@@ -12,16 +12,14 @@ use Rattle.words.specs.Memory.{Memory}
 use Rattle.log.specs.declared.Shared.{Shared}
 use Rattle.log.specs.Entry.{covers}
 use Rattle.log.specs.Replay.{Mapped, fileByte}
-use Rattle.log.specs.CatchUp.{Walk, ahead, broken}
+use Rattle.log.specs.CatchUp.{ahead, broken}
 use Rattle.points.specs.declared.Phase.the-variants.{Reading}
 use Rattle.points.specs.declared.Write.{Write}
-use Rattle.points.specs.declared.Head.{Head}
 use Rattle.points.specs.declared.Point.{Point}
-use Rattle.points.specs.declared.StepAnswer.{StepAnswer}
 use Rattle.points.specs.declared.StepAnswer.the-variants.{Moved, Refused, Copied, Bytes}
 use Rattle.points.specs.Record.{noWrite, noText, runFirst, runBlocks, rangeWords, fileAt, pointOf, writing, caughtUp}
-use Rattle.points.specs.Plan.{Outcome}
-use Rattle.points.specs.Calls.{newRead}
+use Rattle.points.specs.Plan.{Outcome, untouched}
+use Rattle.points.specs.Calls.{readFrom}
 
 -- ---- copying a word
 
@@ -58,11 +56,22 @@ covered E w entries = some-of (λ v. some-of (covers v) entries) (upFrom (runFir
 abbrev pub lengthened : Write → ℕ → ℕ → Bool
 lengthened w before now = ltb before now && ltb before (w .offset + w .size)
 
--- ---- the step
+-- "it answers Moved and the copy begins again": what a beginning at that moment would leave
+unfoldable pub beginAgain : Shared → Point → Point → Outcome
+beginAgain s p c = record { step = Moved; shared = s; point = readFrom c (p .head .write .offset) (p .head .write .size); store = none; bytes = [] }
 
--- an answer that leaves everything as it was
-abbrev pub untouched : Shared → Point → StepAnswer → Outcome
-untouched s p step = record { step = step; shared = s; point = p; store = none; bytes = [] }
+-- "Otherwise it answers the bytes and the point is idle"
+unfoldable pub answerBytes : Shared → Point → Point → Outcome
+answerBytes s p c =
+    record {
+      step = Bytes (p .head .write .size);
+      shared = s;
+      point = pointOf (writing (c .head) noWrite) (c .table) noText;
+      store = none;
+      bytes = take (p .head .write .size) (p .text);
+    }
+
+-- ---- the step
 
 module _ (E : Edition) (m : Memory) (s : Shared) (p : Point) where
   -- "copies the next 8-byte word .. into the record's text and answers Copied"
@@ -77,24 +86,6 @@ module _ (E : Edition) (m : Memory) (s : Shared) (p : Point) where
         bytes = [];
       }
 
-  -- "it answers Moved and the copy begins again": what a beginning at that moment would leave
-  unfoldable pub beginAgain : Point → Outcome
-  beginAgain c =
-      let w = p .head .write in
-      record { step = Moved; shared = s; point = pointOf (writing (c .head) (newRead (w .offset) (w .size))) (c .table) noText; store = none; bytes = [] }
-
-  -- "Otherwise it answers the bytes and the point is idle"
-  unfoldable pub answerBytes : Point → Outcome
-  answerBytes c =
-      let w = p .head .write in
-      record {
-        step = Bytes (w .size);
-        shared = s;
-        point = pointOf (writing (c .head) noWrite) (c .table) noText;
-        store = none;
-        bytes = take (w .size) (p .text);
-      }
-
   -- "Its beginning and a final step catch up"
   unfoldable pub finish : Outcome
   finish =
@@ -105,8 +96,8 @@ module _ (E : Edition) (m : Memory) (s : Shared) (p : Point) where
         | true ↦ untouched s p (Refused 18)
         | false ↦
             elim (covered E (h .write) (walk .entries) || lengthened (h .write) (h .length) (c .head .length)) [
-              | true ↦ beginAgain c
-              | false ↦ answerBytes c
+              | true ↦ beginAgain s p c
+              | false ↦ answerBytes s p c
             ]
       ]
 

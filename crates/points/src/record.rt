@@ -204,14 +204,14 @@ fn zeroing_fits(blocks: u32, place: Place, write: Write) -> bool
         & (place.passed < 64)
 }
 
-// 16. The text has 0 or more than 1,024 bytes.
+// 16. The text, or the range to be read, has 0 or more than 1,024 bytes.
 pub fn bad_text(size: usize) -> bool
     ensures { λ r. ⌜ r ≡ badText size ⌝ }
 {
     !((1 <= size) & (size <= 1024))
 }
 
-// 17. The write ends past byte 131,072.
+// 17. The write, or the range to be read, ends past byte 131,072.
 pub fn past_end(offset: usize, size: usize) -> bool
     ensures { λ r. ⌜ r ≡ pastEnd one offset size ⌝ }
 {

@@ -134,7 +134,7 @@ module _ {E : Edition} {L : List ℕ} (w : W.World) (bk : Book) (h : Tied E L w 
       (subst (λ (l : LogPlace). Numbered (h .inv .tail .links) 0 l) (sym e) (numbered-tail (h .inv .tail))) (c .log .few))
 
   again-good : ltb (x .position) (rangeWords x) ≡ false → disturbed E (memory E (w .words)) (w .shared) p ≡ true
-      → Goes (beginAgain E (memory E (w .words)) (w .shared) p there)
+      → Goes (beginAgain (w .shared) p there)
   unfolding beginAgain rank
   again-good e d = lower refl refl (rw (unstored E (w .words), blocks-are, there-none, walk-is) (go found refl))
     where

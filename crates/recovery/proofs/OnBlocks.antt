@@ -23,8 +23,8 @@ use Rattle.points.specs.declared.StepAnswer.the-variants.{Refused}
 use Rattle.points.specs.declared.plan.Plan.{Plan}
 use Rattle.points.specs.Record.{badShared, headFits, tableFits, fits, isJoined, isIdle, isZeroing, isReading, runWords}
 use Rattle.points.specs.Fill.{nextWord}
-use Rattle.points.specs.Plan.{Outcome, carriedOut}
-use Rattle.points.specs.ReadSteps.{untouched, readOn}
+use Rattle.points.specs.Plan.{Outcome, untouched, carriedOut}
+use Rattle.points.specs.ReadSteps.{readOn}
 use Rattle.points.specs.Stepping.{refused, writeOn, stepRefusal, planned, readStep, stepping}
 use Rattle.recovery.specs.World.{World, Call, join, begin, beginRead, step, leave, Event, stepped}
 use Rattle.recovery.specs.World.{numbered, handed, withNewest, Served, serve, world, events}

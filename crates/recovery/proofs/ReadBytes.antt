@@ -34,7 +34,7 @@ use Rattle.recovery.specs.Book.{Book, firstBook, book}
 use Rattle.recovery.specs.History.{Range, askedBy, asks, lastAsked, noRange, enough, openWorld, callsBefore}
 use Rattle.recovery.specs.Claim.{BytesOf, EventBytes, ReadBytes}
 use Rattle.words.proofs.Tests.{no-true}
-use Rattle.words.proofs.Choice.{upd, upd-same, upd-other, choose-true, choose-false, chosen-zero, chosen-suc}
+use Rattle.words.proofs.Choice.{upd, upd-same, choose-true, choose-false, chosen-zero, chosen-suc}
 use Rattle.words.proofs.WithBit.{bit-view, withBit-other}
 use Rattle.points.proofs.Begins.{begin-map, begin-read-shared}
 use Rattle.points.proofs.CarriedOut.{step-map}
@@ -50,38 +50,30 @@ use Rattle.recovery.proofs.Demand3.{after-tied}
 -- ---- the range of a record
 
 -- a record that reads has this range
-abbrev Reads : Range → Point → Type 0
-Reads a y = isReading (y .head .write .phase) ≡ true → (y .head .write .offset ≡ a .offset) × (y .head .write .size ≡ a .size)
+abbrev HasRange : Range → Point → Type 0
+HasRange a y = isReading (y .head .write .phase) ≡ true → (y .head .write .offset ≡ a .offset) × (y .head .write .size ≡ a .size)
 
 -- one that does not read has any
-idle-reads : (a : Range) (y : Point) → isReading (y .head .write .phase) ≡ false → Reads a y
-idle-reads a y e r = absurd (no-true r e)
+no-read : (a : Range) (y : Point) → isReading (y .head .write .phase) ≡ false → HasRange a y
+no-read a y e r = absurd (no-true r e)
 
 module _ (E : Edition) (I : List ℕ) (s : Shared) (y : Point) (a : Range) where
-  join-range : (n : ℕ) → Reads a (joining E I s n .point)
-  unfolding joining
-  join-range n = go (joinRefusal E I s n) refl
-    where
-      go : (k : ℕ) → joinRefusal E I s n ≡ k → Reads a (joining E I s n .point)
-      go zero e = subst (λ (r : Joined). Reads a (r .point)) (sym (chosen-zero (joinRefusal E I s n) _ _ e)) (λ r. absurd (no-true r refl))
-      go (suc k) e = subst (λ (r : Joined). Reads a (r .point)) (sym (chosen-suc (joinRefusal E I s n) k _ _ e)) (λ r. absurd (no-true r refl))
-
-  module _ (has : Reads a y) where
-    begin-range : (o : ℕ) (text : List ℕ) → Reads a (beginning E I s y o text .point)
+  module _ (has : HasRange a y) where
+    begin-range : (o : ℕ) (text : List ℕ) → HasRange a (beginning E I s y o text .point)
     unfolding beginning
     begin-range o text = go (beginRefusal E I s (y .head) (y .table) o (length text)) refl
       where
-        go : (k : ℕ) → beginRefusal E I s (y .head) (y .table) o (length text) ≡ k → Reads a (beginning E I s y o text .point)
-        go zero e = subst (λ (r : Begun). Reads a (r .point)) (sym (chosen-zero _ _ _ e)) (λ r. absurd (no-true r refl))
-        go (suc k) e = subst (λ (r : Begun). Reads a (r .point)) (sym (chosen-suc _ k _ _ e)) has
+        go : (k : ℕ) → beginRefusal E I s (y .head) (y .table) o (length text) ≡ k → HasRange a (beginning E I s y o text .point)
+        go zero e = subst (λ (r : Begun). HasRange a (r .point)) (sym (chosen-zero _ _ _ e)) (λ r. absurd (no-true r refl))
+        go (suc k) e = subst (λ (r : Begun). HasRange a (r .point)) (sym (chosen-suc _ k _ _ e)) has
 
-    begin-read-range : (o size : ℕ) → Reads (askedBy (beginningRead E I s y o size .reply) (record { offset = o; size = size }) a)
+    begin-read-range : (o size : ℕ) → HasRange (askedBy (beginningRead E I s y o size .reply) (record { offset = o; size = size }) a)
         (beginningRead E I s y o size .point)
     unfolding beginningRead
     begin-read-range o size = go (beginReadRefusal E I s (y .head) (y .table) o size) refl
       where
         Fits : Begun → Type 0
-        Fits r = Reads (askedBy (r .reply) (record { offset = o; size = size }) a) (r .point)
+        Fits r = HasRange (askedBy (r .reply) (record { offset = o; size = size }) a) (r .point)
 
         go : (k : ℕ) → beginReadRefusal E I s (y .head) (y .table) o size ≡ k → Fits (beginningRead E I s y o size)
         go zero e = subst Fits (sym (chosen-zero _ _ _ e)) (λ r. (refl, refl))
@@ -121,12 +113,12 @@ module _ (E : Edition) (I : List ℕ) (s : Shared) (y : Point) (a : Range) where
         }))
         go (suc k) e = subst Writes (sym (refused-on E I s y k e)) n
 
-    step-range : Reads a (stepping E I s y .point)
+    step-range : HasRange a (stepping E I s y .point)
     unfolding carriedOut copyWord beginAgain answerBytes
     step-range = go (isReading (y .head .write .phase)) refl (stepRefusal E I s (y .head) (y .table)) refl
       where
         Leaves : Outcome → Type 0
-        Leaves o = Reads a (o .point)
+        Leaves o = HasRange a (o .point)
 
         go : (b : Bool) → isReading (y .head .write .phase) ≡ b → (k : ℕ) → stepRefusal E I s (y .head) (y .table) ≡ k → Leaves (stepping E I s y)
         go false n k e = subst Leaves (sym (write-kind E I s y n)) (λ r. absurd (no-true r (plan-range n)))
@@ -142,24 +134,24 @@ module _ (E : Edition) (I : List ℕ) (s : Shared) (y : Point) (a : Range) where
 
 -- point p, if it is joined and reads, has this range
 abbrev Asked : W.World → ℕ → Range → Type 0
-Asked w p a = isJoined (w .shared) p ≡ true → Reads a (w .newest p)
+Asked w p a = isJoined (w .shared) p ≡ true → HasRange a (w .newest p)
 
 module _ (E : Edition) (w : W.World) (p : ℕ) (a : Range) (had : Asked w p a) where
   -- another record for point n, who stays joined or apart
   put-asked : (n : ℕ) (words : List ℕ) (s : Shared) (y : Point) (b : Range) → s .joined ≡ w .shared .joined → (p ≢ n → b ≡ a)
-      → (isJoined (w .shared) n ≡ true → p ≡ n → Reads b y) → Asked (record { words = words; shared = s; newest = withNewest w n y }) p b
+      → (isJoined (w .shared) n ≡ true → p ≡ n → HasRange b y) → Asked (record { words = words; shared = s; newest = withNewest w n y }) p b
   put-asked n words s y b same other mine = go (ℕ-discrete p n)
     where
       before : isJoined s p ≡ true → isJoined (w .shared) p ≡ true
       before j = ap (λ (x : ℕ). bit x p) (sym same) ∙ j
 
-      go : Dec (p ≡ n) → isJoined s p ≡ true → Reads b (withNewest w n y p)
-      go (yes e) j = subst (λ (r : Point). Reads b r) (sym (ap (withNewest w n y) e ∙ withNewest-same w n y)) (mine (rw e at (before j)) e)
-      go (no e) j = rw (other e) (subst (λ (r : Point). Reads a r) (sym (withNewest-other w n y p e)) (had (before j)))
+      go : Dec (p ≡ n) → isJoined s p ≡ true → HasRange b (withNewest w n y p)
+      go (yes e) j = subst (λ (r : Point). HasRange b r) (sym (ap (withNewest w n y) e ∙ withNewest-same w n y)) (mine (rw e at (before j)) e)
+      go (no e) j = rw (other e) (subst (λ (r : Point). HasRange a r) (sym (withNewest-other w n y p e)) (had (before j)))
 
   -- the record handed in has it
-  handed-has : (n : ℕ) (q : Point) → isJoined (w .shared) n ≡ true → p ≡ n → Reads a (handed w n q)
-  handed-has n q j e = subst (Reads a) (sym (handed-newest w n q j)) (subst (λ (k : ℕ). Reads a (w .newest k)) e (had (rw (← e) at j)))
+  handed-has : (n : ℕ) (q : Point) → isJoined (w .shared) n ≡ true → p ≡ n → HasRange a (handed w n q)
+  handed-has n q j e = subst (HasRange a) (sym (handed-newest w n q j)) (subst (λ (k : ℕ). HasRange a (w .newest k)) e (had (rw (← e) at j)))
 
   join-asked : (n : ℕ) → let r = joining E (w .words) (w .shared) n in
       Asked (record { words = w .words; shared = r .shared; newest = joinedAs (r .reply) w n (r .point) }) p a
@@ -170,9 +162,9 @@ module _ (E : Edition) (w : W.World) (p : ℕ) (a : Range) (had : Asked w p a) w
       After r = Asked (record { words = w .words; shared = r .shared; newest = joinedAs (r .reply) w n (r .point) }) p a
 
       new : (y : Point) → isReading (y .head .write .phase) ≡ false → Dec (p ≡ n) → bit (withBit true (w .shared .joined) n) p ≡ true
-          → Reads a (withNewest w n y p)
-      new y i (yes e) j = subst (Reads a) (sym (ap (withNewest w n y) e ∙ withNewest-same w n y)) (idle-reads a y i)
-      new y i (no e) j = subst (Reads a) (sym (withNewest-other w n y p e)) (had (sym (withBit-other true (w .shared .joined) n p e) ∙ j))
+          → HasRange a (withNewest w n y p)
+      new y i (yes e) j = subst (HasRange a) (sym (ap (withNewest w n y) e ∙ withNewest-same w n y)) (no-read a y i)
+      new y i (no e) j = subst (HasRange a) (sym (withNewest-other w n y p e)) (had (sym (withBit-other true (w .shared .joined) n p e) ∙ j))
 
       go : (k : ℕ) → joinRefusal E (w .words) (w .shared) n ≡ k → After (joining E (w .words) (w .shared) n)
       go zero e = subst After (sym (chosen-zero (joinRefusal E (w .words) (w .shared) n) _ _ e)) (new _ refl (ℕ-discrete p n))
@@ -209,7 +201,7 @@ module _ (E : Edition) (w : W.World) (p : ℕ) (a : Range) (had : Asked w p a) w
       let asked = askedBy (r .reply) (record { offset = o; size = size }) a in
       put-asked n (w .words) (r .shared) (r .point) (asks p a (begunRead n o size (r .reply))) (ap (λ (s : Shared). s .joined) (begin-read-shared E (w .words) (w .shared) y o size))
       (λ e. choose-false (eqb n p) asked a (ne-eqb n p (λ f. e (sym f))))
-      (λ j e. subst (λ (b : Range). Reads b (r .point)) (sym (choose-true (eqb n p) asked a (eq-eqb n p (sym e))))
+      (λ j e. subst (λ (b : Range). HasRange b (r .point)) (sym (choose-true (eqb n p) asked a (eq-eqb n p (sym e))))
       (begin-read-range E (w .words) (w .shared) y a (handed-has n q j e) o size))
   serve-asked (step n q) =
       let y = handed w n q in

@@ -1,6 +1,6 @@
 -- The calls of the code are the calls of the list: what a call leaves is what `serve` says of it, in every world that has the image and the
 -- shared record that it was lent and in which the point hands in the record that it was given. So the claims hold of the code. Opening makes the world
--- that a list begins with; reading and locating, which are no calls of the list, show the book's file.
+-- that a list begins with; reading at once and locating, which are no calls of the list, show the book's file.
 use Prim.Native.Nat.{ℕ, _+_, _*_, _<_}
 use mathlib.Core.Path.{_≡_}
 use mathlib.Core.Bool.{true, false}

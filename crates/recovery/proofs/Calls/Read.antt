@@ -185,11 +185,11 @@ module _ {E : Edition} {L : List ℕ} (w : W.World) (bk : Book) (h : Tied E L w 
         refl refl (λ b. refl) (h .sixteen) refl (h .numbers n j) (λ y. omega (arith, sized, text-kept)) refl (λ q. refl)
 
     -- the last step begins again
-    again-tied : Ok (beginAgain E m (w .shared) p (caught E m (w .shared) p))
+    again-tied : Ok (beginAgain (w .shared) p (caught E m (w .shared) p))
     unfolding beginAgain
     again-tied =
         let i = read-inv in
-        step-tie w bk h n j (beginAgain E m (w .shared) p (caught E m (w .shared) p)) L refl (w .words) (taken (w .shared .taken)) _ bk (unstored E (w .words))
+        step-tie w bk h n j (beginAgain (w .shared) p (caught E m (w .shared) p)) L refl (w .words) (taken (w .shared .taken)) _ bk (unstored E (w .words))
         (caught-inv (worldOf w) bk (h .inv) n j holds-none (reads (readOf (newRead (x .offset) (x .size)) noText)) tt (
           (rw work-is at (pi .work)) .0,
           fresh-read E (w .words) (h .inv .cur) [] (h .inv .cur .size) (x .offset) (x .size) noText (i .some) (i .few) (i .ends),
@@ -198,10 +198,10 @@ module _ {E : Edition} {L : List ℕ} (w : W.World) (bk : Book) (h : Tied E L w 
         (λ y. omega (arith, i .few, text-long)) refl (λ q. refl)
 
     -- or answers the bytes
-    bytes-tied : Ok (answerBytes E m (w .shared) p (caught E m (w .shared) p))
+    bytes-tied : Ok (answerBytes (w .shared) p (caught E m (w .shared) p))
     unfolding answerBytes
     bytes-tied =
-        step-tie w bk h n j (answerBytes E m (w .shared) p (caught E m (w .shared) p)) L refl (w .words) (taken (w .shared .taken)) _ bk (unstored E (w .words))
+        step-tie w bk h n j (answerBytes (w .shared) p (caught E m (w .shared) p)) L refl (w .words) (taken (w .shared .taken)) _ bk (unstored E (w .words))
         (caught-inv (worldOf w) bk (h .inv) n j holds-none idle tt ((rw work-is at (pi .work)) .0))
         refl refl (λ b. refl) (h .sixteen) (caught-up w bk h n j noWrite noText) (number-kept noWrite noText) (λ y. absurd (no-true refl y)) refl (λ q. refl)
 
