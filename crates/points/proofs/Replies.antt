@@ -1,4 +1,5 @@
--- A call that goes by its refusal's number replies that number: joining, beginning and leaving. And what a step of a write answers is its plan's. Assumes nothing.
+-- A call that goes by its refusal's number replies that number: joining, beginning and leaving. And what a step of a write answers is its plan's. Assumes
+-- nothing.
 use mathlib.Core.Path.{_≡_, refl, ap}
 use mathlib.Core.Bool.{false}
 use mathlib.Core.List.{List}

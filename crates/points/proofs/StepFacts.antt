@@ -21,7 +21,8 @@ use Rattle.points.specs.declared.Point.{Point}
 use Rattle.points.specs.declared.StepAnswer.the-variants.{Moved}
 use Rattle.points.specs.declared.plan.Reads.the-variants.{AllAhead}
 use Rattle.points.specs.declared.plan.Frees.the-variants.{NoBlock}
-use Rattle.points.specs.Record.{runFirst, runBlocks, firstEdge, lastEdge, runWords, isIdle, isZeroing, isReading, isWriting, isJoined, fits, unfit, pointOf}
+use Rattle.points.specs.Record.{runFirst, runBlocks, firstEdge, lastEdge, runWords, isIdle}
+use Rattle.points.specs.Record.{isZeroing, isReading, isWriting, isJoined, fits, unfit, pointOf}
 use Rattle.points.specs.Fill.{nextWord}
 use Rattle.points.specs.Search.{search}
 use Rattle.points.specs.Plan.{resting}
@@ -42,7 +43,8 @@ pub record Ready (E : Edition) (words : List ℕ) (s : Shared) (h : Head) (table
   pub run : RunFits E (s .blocks) (h .write)
   pub joined : isJoined s (h .number) ≡ true
 
-module _ (E : Edition) (words : List ℕ) (s : Shared) (h : Head) (table : List ℕ) (on : (stepRefusal E words s h table ≡ 0) × (isReading (h .write .phase) ≡ false)) where
+module _ (E : Edition) (words : List ℕ) (s : Shared) (h : Head) (table : List ℕ) (on : (stepRefusal E words s h table ≡ 0) × (isReading
+    (h .write .phase) ≡ false)) where
   abbrev e : stepRefusal E words s h table ≡ 0
   e = on .0
 

@@ -261,15 +261,7 @@ pub fn begin_read(image: &[u64], shared: Shared, point: Point, offset: usize, si
     let head = point.head;
     let mut table = point.table;
     let mut kept = point.text;
-    let left = begin_read_lent(
-        image,
-        numbers,
-        head,
-        &mut table,
-        &mut kept,
-        offset,
-        size,
-    );
+    let left = begin_read_lent(image, numbers, head, &mut table, &mut kept, offset, size);
     let reply = left.reply;
     let head = left.head;
     Begun {

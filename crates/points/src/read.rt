@@ -104,7 +104,14 @@ fn copy(part: &[u64], from: usize, buffer: &mut [u8], at: usize, n: usize)
 }
 
 // n bytes of a logical block go to the buffer from a place on; zeros where the index is 0 or names no block.
-pub(crate) fn copy_block(image: &[u64], b: usize, from: usize, buffer: &mut [u8], at: usize, n: usize)
+pub(crate) fn copy_block(
+    image: &[u64],
+    b: usize,
+    from: usize,
+    buffer: &mut [u8],
+    at: usize,
+    n: usize,
+)
     requires { ⌜ (from + n ≤ 512) × (at + n ≤ length (now buffer)) ⌝ }
     ensures { λ _. ⌜ now (buffer .exit) ≡ sets (now (buffer .entry)) at (listFrom from n (mappedByte (memory one (now (image .entry))) b)) ⌝ }
 {

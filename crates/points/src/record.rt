@@ -8,7 +8,8 @@ ghost use Rattle.words.specs.Edition.{one, blockBytes};
 ghost use Rattle.words.specs.Logic.{between};
 ghost use Rattle.words.specs.Word.{bit};
 ghost use Rattle.points.specs.Record.{noText, phaseNumber, phaseOf, isIdle, isZeroing, isReading, isWriting, badShared, badText, pastEnd, inside};
-ghost use Rattle.points.specs.Record.{span, runFirst, rangeWords, placeFits, zeroingFits, writeFits, rangeFits, workFits, headFits, tableFits, fits, unfit};
+ghost use Rattle.points.specs.Record.{span, runFirst, rangeWords, placeFits, zeroingFits, writeFits};
+ghost use Rattle.points.specs.Record.{rangeFits, workFits, headFits, tableFits, fits, unfit};
 ghost use Rattle.points.specs.Search.{sharedOf};
 use crate::Head;
 use crate::Numbers;
@@ -169,7 +170,8 @@ pub(crate) fn range_words(write: Write) -> u32
         return 1;
     }
     let last = write.offset as usize + write.size as usize - 1;
-    let words = words::offset::whole_words(last) - words::offset::whole_words(write.offset as usize);
+    let words = words::offset::whole_words(last)
+        - words::offset::whole_words(write.offset as usize);
     words as u32 + 1
 }
 
@@ -242,7 +244,9 @@ fn range_fits(write: Write) -> bool
     ensures { λ r. ⌜ r ≡ rangeFits one write ⌝ }
 {
     let size = write.size as usize;
-    !bad_text(size) & !past_end(write.offset as usize, size) & (write.position <= range_words(write))
+    !bad_text(size)
+        & !past_end(write.offset as usize, size)
+        & (write.position <= range_words(write))
 }
 
 // Whether what is under way fits, a write or a read.

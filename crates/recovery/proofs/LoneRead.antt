@@ -112,7 +112,8 @@ module _ {E : Edition} {L : List ℕ} (w : W.World) (bk : Book) (h : Tied E L w 
       uncovered = unfold covered in (rw (walk-is, e) (some-none (upFrom (runFirst E x) (runBlocks E x))))
 
       same : caught E (memory E (w .words)) (w .shared) p .head .length ≡ p .head .length
-      same = caught-size w bk h n j r ∙ ap (λ (y : View). y .size) (sym (h .inv .points n j .place .catches) ∙ ap (λ (es : List ℕ). applyAll E es (fileAt (p .head) (p .table))) e)
+      same = caught-size w bk h n j r ∙ ap (λ (y : View). y .size) (sym (h .inv .points n j .place .catches) ∙ ap (λ (es : List ℕ). applyAll E es
+          (fileAt (p .head) (p .table))) e)
 
       no-longer : lengthened x (p .head .length) (caught E (memory E (w .words)) (w .shared) p .head .length) ≡ false
       no-longer = rw (same, le-ltb (p .head .length) (p .head .length) (omega arith))
@@ -164,4 +165,5 @@ lone-read E h p j b calls bytes steps enoughSteps = go (atCut h) (ap (λ (w : W.
     go w e j b =
         let t = after-tied E (h .words) (opens-enough h) (callsBefore h) (bytesBefore h) in
         let most = rank-most start _ t p (rw e at j) (rw e at b) in
-        rw e (lone E isReading stepAnswers (rank E) reading-busy (rank-some E) (λ L. step-good {L = L}) p calls bytes steps start _ _ t (rw e at j) (rw e at b) (omega arith))
+        rw e (lone E isReading stepAnswers (rank E) reading-busy (rank-some E) (λ L. step-good {L = L}) p calls bytes steps start _ _ t (rw e at j)
+            (rw e at b) (omega arith))

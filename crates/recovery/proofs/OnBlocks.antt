@@ -205,7 +205,8 @@ fit-is E w known n p k = go (eqb known (suc n)) refl
 abbrev pub Leaves : Shared → Point → Outcome → Type 0
 Leaves s p o = (o .shared ≡ s) × (o .point .table ≡ p .table)
 
-store-keeps : (E : Edition) (m : Memory) (s : Shared) (p : Point) → storesBy (isZeroing (p .head .write .phase)) E (p .head .write) ≡ true → Leaves s p (carriedOut E m s p (writeOn E m s p))
+store-keeps : (E : Edition) (m : Memory) (s : Shared) (p : Point) → storesBy (isZeroing (p .head .write .phase)) E (p .head .write) ≡ true → Leaves s p
+    (carriedOut E m s p (writeOn E m s p))
 unfolding afterFill afterZero
 store-keeps E m s p c = go (isZeroing (p .head .write .phase)) refl c
   where
@@ -231,7 +232,8 @@ step-keeps E words s p c = kind (isReading (p .head .write .phase)) refl
 
     kind : (b : Bool) → isReading (p .head .write .phase) ≡ b → Leaves s p (stepping E words s p)
     kind true e = absurd (no-true c (choose-true (isReading (p .head .write .phase)) false (storesBy (isZeroing (p .head .write .phase)) E (p .head .write)) e))
-    kind false e = subst (Leaves s p) (sym (write-kind E words s p e)) (go (sym (choose-false (isReading (p .head .write .phase)) false (storesBy (isZeroing (p .head .write .phase)) E (p .head .write)) e) ∙ c)
+    kind false e = subst (Leaves s p) (sym (write-kind E words s p e)) (go (sym (choose-false (isReading (p .head .write .phase)) false (storesBy
+        (isZeroing (p .head .write .phase)) E (p .head .write)) e) ∙ c)
         (stepRefusal E words s (p .head) (p .table)) refl)
 
 known-step : (E : Edition) (w : World) (n : ℕ) (p : Point) → isJoined (w .shared) n ≡ true → stores E (handed w n p .head .write) ≡ true

@@ -1,4 +1,5 @@
-// The five calls of `points` that lists are made of, each with what it leaves in a list of calls as its contract: the calls of the claims are the code's. And opening, which makes
+// The five calls of `points` that lists are made of, each with what it leaves in a list of calls as its contract: the calls of the claims are the code's.
+// And opening, which makes
 // the world that a list begins with; reading and locating, with what they show of the book.
 ghost use Rattle.words.specs.Edition.{one};
 ghost use Rattle.recovery.specs.Served.{OpenServed, JoinServed, BeginServed, BeginReadServed, StepServed, LeaveServed, ReadServed};

@@ -179,7 +179,8 @@ module _ {E : Edition} {L : List ℕ} (w : W.World) (bk : Book) (h : Tied E L w 
         step-tie w bk h n j (copyWord E m (w .shared) p) L refl (w .words) (taken (w .shared .taken)) _ bk (unstored E (w .words))
         (there-inv (worldOf w) bk (h .inv) n j holds-none (reads (record { offset = x .offset; size = x .size; pos = x .position + 1; text = text })) tt (
           (rw work-is at (pi .work)) .0,
-          copy-read (h .inv .core .file) (pi .place) s text read-inv (ltb-true (x .position) (rangeWords x) e) (λ at low word. byte-kept E m f x (p .text) at low word)
+          copy-read (h .inv .core .file) (pi .place) s text read-inv (ltb-true (x .position) (rangeWords x) e) (λ at low word. byte-kept E m f x
+              (p .text) at low word)
               (λ v q hv hq low high word. sees v q hq low high word),
         ))
         refl refl (λ b. refl) (h .sixteen) refl (h .numbers n j) (λ y. omega (arith, sized, text-kept)) refl (λ q. refl)
@@ -213,7 +214,7 @@ module _ {E : Edition} {L : List ℕ} (w : W.World) (bk : Book) (h : Tied E L w 
 
     module _ (e : ltb (x .position) (rangeWords x) ≡ false) (still : disturbed E m (w .shared) p ≡ false) where
       not-covered : covered E x (pi .ahead) ≡ false
-      not-covered = ap (λ (y : K.Walk). covered E x (y .entries)) (sym (ahead-is w bk h n j)) 
+      not-covered = ap (λ (y : K.Walk). covered E x (y .entries)) (sym (ahead-is w bk h n j))
           ∙ or-left (covered E x (walk .entries)) (lengthened x (p .head .length) (caught E m (w .shared) p .head .length)) still
 
       -- a block of the range
@@ -249,7 +250,8 @@ module _ {E : Edition} {L : List ℕ} (w : W.World) (bk : Book) (h : Tied E L w 
           let k : a - x .offset ≡ i = omega arith in
           let in-range = range-block E (x .offset) (x .size) i l in
           let pos = ltb-false (x .position) (rangeWords x) e in
-          let c = read-inv .copied v q hv hq (rw b (omega arith)) (rw b (omega arith)) (rw b (omega (arith, pos))) (clear-at v (in-range .0) (in-range .1)) not-longer in
+          let c = read-inv .copied v q hv hq (rw b (omega arith)) (rw b (omega arith)) (rw b (omega (arith, pos))) (clear-at v (in-range .0)
+          (in-range .1)) not-longer in
           let d = h .inv .core .file .fileBytes v q hv hq in
           (rw (b, k) at c) ∙ sym (rw b at d)
 

@@ -23,7 +23,8 @@ is-writing-requires : tie.Need-is-writing-requires
 is-writing-requires c κs = search needs
 
 returns : tie.Need-returns
-returns c = let a = c .before .before .before .args in held-none one (a .map .now) (a .write) (sym (c .before .is-writing .ensures) ∙ not-true _ (c .if1 .taken))
+returns c = let a = c .before .before .before .args in held-none one (a .map .now) (a .write) (sym (c .before .is-writing .ensures) ∙ not-true _
+    (c .if1 .taken))
 
 free-run-requires : tie.Need-free-run-requires
 free-run-requires c κs = search needs
