@@ -7,12 +7,12 @@ use crate::records;
 use crate::records::Places;
 use log::Shared;
 
-// The greatest number that a field of a point's record takes: 5 for the phase, 16 bits for the retries.
+// The greatest number that a field of a point's record takes: 6 for the phase, 16 bits for the retries.
 fn most(field: u64) -> u64
     ensures { λ r. ⌜ r < 4294967296 ⌝ }
 {
     if field == 5 {
-        return 5;
+        return 6;
     }
     if field == 11 {
         return 65535;

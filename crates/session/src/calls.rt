@@ -139,6 +139,28 @@ fn begin(image: &[u64], shared: Shared, places: &mut Places, o: Order) -> Shared
     begin_with(image, shared, places, o.a as usize, o.b as usize, text)
 }
 
+// `beginread P O L`
+fn begin_read(image: &[u64], shared: Shared, places: &mut Places, o: Order) -> Shared {
+    if 31 < o.a {
+        return wrong(shared);
+    }
+    if 4294967295 < o.b {
+        return wrong(shared);
+    }
+    if 1100 < o.c {
+        return wrong(shared);
+    }
+    let p = o.a as usize;
+    let point = records::load(places, p);
+    let begun = points::begin::begin_read(image, shared, point, o.b as usize, o.c as usize);
+    let reply = begun.reply;
+    print::reply(reply, b"begun\n");
+    if is_done(reply) {
+        records::save(places, p, begun.point);
+    }
+    begun.shared
+}
+
 // `step P K`: place p's point makes up to k steps.
 fn step(image: &mut [u64], shared: Shared, places: &mut Places, o: Order) -> Shared {
     if 31 < o.a {
@@ -184,6 +206,9 @@ pub fn obey(image: &mut [u64], shared: Shared, places: &mut Places, o: Order) ->
     }
     if command == order::BEGIN {
         return begin(image, shared, places, o);
+    }
+    if command == order::BEGINREAD {
+        return begin_read(image, shared, places, o);
     }
     if command == order::STEP {
         return step(image, shared, places, o);

@@ -2,6 +2,7 @@
 ghost use mathlib.Core.Path.{_≡_};
 ghost use mathlib.Core.List.{[], _∷_};
 ghost use Prim.Native.Nat.{_<_};
+ghost use lib.ListN.{take};
 ghost use Rattle.session.specs.Digest.{digest, digestFrom, onward, parts};
 
 // A digest with one number more.
@@ -31,6 +32,16 @@ pub fn of_bytes(bytes: &[u8]) -> u64
         h = add(h, bytes[i] as u64);
     }
     h
+}
+
+// Of the first n bytes; of all where there are fewer.
+pub fn of_front(bytes: &[u8], n: usize) -> u64
+    ensures { λ r. ⌜ r ≡ digest (take n (now (bytes .entry))) ⌝ }
+{
+    if bytes.len() < n {
+        return of_bytes(bytes);
+    }
+    of_bytes(&bytes[0..n])
 }
 
 pub fn of_numbers(numbers: &[u16]) -> u64

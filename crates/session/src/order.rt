@@ -36,6 +36,8 @@ pub const STEP: u32 = 25;
 
 pub const LEAVE: u32 = 26;
 
+pub const BEGINREAD: u32 = 27;
+
 // Looks.
 pub const READ: u32 = 30;
 
@@ -120,6 +122,9 @@ fn call_verb(name: &[u8]) -> Verb {
     }
     if scan::is(name, b"begin") {
         return taking(BEGIN, 4);
+    }
+    if scan::is(name, b"beginread") {
+        return taking(BEGINREAD, 3);
     }
     if scan::is(name, b"step") {
         return taking(STEP, 2);

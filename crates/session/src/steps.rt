@@ -1,5 +1,6 @@
 // A point's steps, told by stretches of equal answers.
 ghost use Prim.Native.Nat.{_+_, _<_};
+use crate::digest;
 use crate::print;
 use log::Shared;
 use points::Point;
@@ -11,14 +12,20 @@ const EXTENDING: u32 = 1;
 
 const MOVED: u32 = 2;
 
-const COMMITTED: u32 = 3;
+const COPIED: u32 = 3;
 
-const REFUSED: u32 = 4;
+// From here on the steps end.
+const COMMITTED: u32 = 4;
 
-// An answer as numbers: its kind, and the retry count of Committed or the reason of a refusal.
+const REFUSED: u32 = 5;
+
+const BYTES: u32 = 6;
+
+// An answer as numbers: its kind; the retry count of Committed, the reason of a refusal or how many bytes a read answers; and their digest.
 struct Told {
     kind: u32,
     value: u32,
+    digest: u64,
 }
 
 // The records after some steps.
@@ -27,27 +34,28 @@ pub struct Walked {
     pub point: Point,
 }
 
-fn told_of(answer: StepAnswer) -> Told {
+// An answer without bytes.
+fn without_bytes(kind: u32, value: u32) -> Told {
+    Told {
+        kind,
+        value,
+        digest: 1,
+    }
+}
+
+// An answer, with the bytes that were lent to the step.
+fn told_of(answer: StepAnswer, bytes: &[u8; 1024]) -> Told {
     match answer {
-        StepAnswer::Stored => Told {
-            kind: STORED,
-            value: 0,
-        },
-        StepAnswer::Extending => Told {
-            kind: EXTENDING,
-            value: 0,
-        },
-        StepAnswer::Moved => Told {
-            kind: MOVED,
-            value: 0,
-        },
-        StepAnswer::Committed(retries) => Told {
-            kind: COMMITTED,
-            value: retries as u32,
-        },
-        StepAnswer::Refused(reason) => Told {
-            kind: REFUSED,
-            value: reason,
+        StepAnswer::Stored => without_bytes(STORED, 0),
+        StepAnswer::Extending => without_bytes(EXTENDING, 0),
+        StepAnswer::Moved => without_bytes(MOVED, 0),
+        StepAnswer::Copied => without_bytes(COPIED, 0),
+        StepAnswer::Committed(retries) => without_bytes(COMMITTED, retries as u32),
+        StepAnswer::Refused(reason) => without_bytes(REFUSED, reason),
+        StepAnswer::Bytes(count) => Told {
+            kind: BYTES,
+            value: count,
+            digest: digest::of_front(bytes, count as usize),
         },
     }
 }
@@ -62,8 +70,15 @@ fn print_told(t: Told) {
     if t.kind == MOVED {
         return print::words(b"moved");
     }
+    if t.kind == COPIED {
+        return print::words(b"copied");
+    }
     if t.kind == COMMITTED {
         return print::labelled(b"committed ", t.value as u64);
+    }
+    if t.kind == BYTES {
+        print::labelled(b"read ", t.value as u64);
+        return print::labelled(b" digest ", t.digest);
     }
     print::labelled(b"refused ", t.value as u64);
 }
@@ -99,28 +114,26 @@ fn stretch(before: Told, times: u64, now: Told) -> u64
     1
 }
 
-// Up to `most` steps of a point, ending after Committed or a refusal, and their lines.
+// Up to `most` steps of a point, ending after Committed, a read's bytes or a refusal, and their lines.
 pub(crate) fn walk(image: &mut [u64], shared: Shared, point: Point, most: u64) -> Walked
     requires { ⌜ most < 100001 ⌝ }
 {
     let mut s = shared;
     let mut p = point;
-    let mut last = Told {
-        kind: STORED,
-        value: 0,
-    };
+    let mut bytes = [0u8; 1024];
+    let mut last = without_bytes(STORED, 0);
     let mut times: u64 = 0;
     let mut left = most;
     while 0 < left {
-        let stepped = points::step::step(image, s, p);
+        let stepped = points::step::step(image, s, p, &mut bytes);
         let answer = stepped.step;
-        let now = told_of(answer);
+        let now = told_of(answer, &bytes);
         times = stretch(last, times, now);
         last = now;
         s = stepped.shared;
         p = stepped.point;
         left -= 1;
-        if MOVED < now.kind {
+        if COMMITTED <= now.kind {
             left = 0;
         }
     }

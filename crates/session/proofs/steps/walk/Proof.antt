@@ -7,14 +7,18 @@ use Rattle.session.proofs.steps.walk.Statement.{statement}
 use Rattle.session.proofs.steps.walk.Tie as tie
 
 abbrev Inv-loop : tie.InvT-loop
-Inv-loop image₀ most s₀ p₀ last₀ times₀ left₀ image s p last times left = (length image ≡ length image₀) × (times + left ≤ 100000)
+Inv-loop image₀ most s₀ p₀ bytes₀ last₀ times₀ left₀ image s p bytes last times left =
+    (length image ≡ length image₀) × (times + left ≤ 100000)
 
 abbrev μ-loop : tie.MeasureT-loop
-μ-loop image₀ most s₀ p₀ last₀ times₀ left₀ image s p last times left = left
+μ-loop image₀ most s₀ p₀ bytes₀ last₀ times₀ left₀ image s p bytes last times left = left
 
 -- the way back to the step
 abbrev stepped : tie.After-stretch Inv-loop μ-loop → tie.After-step Inv-loop μ-loop
-stepped c = c .before .before .before .before
+stepped c = c .before .before .before .before .before
+
+without-bytes-requires : tie.Need-without-bytes-requires Inv-loop μ-loop
+without-bytes-requires c κs = tt
 
 loop-holds : tie.Need-loop-holds Inv-loop μ-loop
 loop-holds c = (refl, omega arith)
@@ -37,7 +41,7 @@ loop-less c = omega arith
 loop-again : tie.Need-loop-again Inv-loop μ-loop
 loop-again c =
     let s = stepped (c .before .before .before .before) in
-    (s .step .kept .0 ∙ s .before .before .before .loop .inv .0, omega arith)
+    (s .step .kept .0 ∙ s .before .before .before .before .loop .inv .0, omega arith)
 
 loop-less-2 : tie.Need-loop-less-2 Inv-loop μ-loop
 loop-less-2 c = omega arith
@@ -45,7 +49,7 @@ loop-less-2 c = omega arith
 loop-again-2 : tie.Need-loop-again-2 Inv-loop μ-loop
 loop-again-2 c =
     let s = stepped (c .before .before .before .before) in
-    (s .step .kept .0 ∙ s .before .before .before .loop .inv .0, omega arith)
+    (s .step .kept .0 ∙ s .before .before .before .before .loop .inv .0, omega arith)
 
 print-stretch-requires : tie.Need-print-stretch-requires Inv-loop μ-loop
 print-stretch-requires c κs = tt
@@ -62,6 +66,7 @@ walk-spec =
     (tie.spec
     Inv-loop
     μ-loop
+    without-bytes-requires
     loop-holds
     step-requires
     told-of-requires
