@@ -3,6 +3,7 @@
 use crate::image::*;
 use crate::maker::Maker;
 use crate::random::Random;
+use crate::readers::{begin_read_any, watch};
 use crate::record::Phase;
 
 /// An offset: mostly near the edges of a few blocks.
@@ -63,13 +64,18 @@ pub fn a_point(maker: &mut Maker) -> usize {
     }
 }
 
-pub fn begin_any(maker: &mut Maker) {
+/// A point that can begin, mostly.
+pub fn a_beginner(maker: &mut Maker) -> usize {
     let idle = maker.joined_idle(true);
-    let p = if idle.is_empty() || maker.random.once_in(16) {
+    if idle.is_empty() || maker.random.once_in(16) {
         a_point(maker)
     } else {
         *maker.random.pick(&idle)
-    };
+    }
+}
+
+pub fn begin_any(maker: &mut Maker) {
+    let p = a_beginner(maker);
     let (o, l) = (an_offset(&mut maker.random), a_length(&mut maker.random));
     let s = maker.random.below(256);
     maker.say(&format!("begin {p} {o} {l} {s}"));
@@ -175,7 +181,8 @@ pub fn work(maker: &mut Maker) {
         laid_out(maker, blocks);
     }
     match maker.random.below(40) {
-        0..=10 => begin_any(maker),
+        0..=8 => begin_any(maker),
+        9 | 10 => begin_read_any(maker),
         11..=26 => step_any(maker),
         27..=33 => look_any(maker),
         34 => digest_any(maker),
@@ -184,6 +191,7 @@ pub fn work(maker: &mut Maker) {
         38 if maker.random.once_in(4) => cut_and_open(maker),
         39 if maker.random.once_in(4) => race_to_extend(maker),
         39 if maker.random.once_in(3) => conflict(maker),
+        39 => watch(maker),
         _ => look_any(maker),
     }
 }

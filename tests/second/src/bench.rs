@@ -6,6 +6,8 @@ use crate::image::lay_out;
 use crate::image::MOST_BLOCKS;
 use crate::log::{catch_up, Broken};
 use crate::open::open;
+use crate::reading::begin_read;
+use crate::reads::*;
 use crate::record::*;
 use crate::refusal::Refusal;
 use crate::searches::*;
@@ -21,10 +23,10 @@ pub const MOST_WORDS: u64 = 65_600;
 const MOST_32: u64 = 0xFFFF_FFFF;
 
 /// Every command.
-pub const COMMANDS: [&str; 26] = [
+pub const COMMANDS: [&str; 27] = [
     "image", "noise", "set", "word", "layout", "open", "cut", "join", "joinas", "begin", "step",
     "leave", "read", "show", "locate", "view", "record", "shared", "alter", "table", "text",
-    "altershared", "map", "copy", "digest", "free",
+    "altershared", "map", "copy", "digest", "free", "beginread",
 ];
 
 /// "What the bench holds", and a tally of what was answered.
@@ -100,6 +102,9 @@ impl Bench {
             [b"joinas", n] => self.join("join", at_most(n, MOST_32)?),
             [b"begin", p, o, l, s] => {
                 self.begin(point(p)?, at_most(o, MOST_32)?, at_most(l, 1_100)?, at_most(s, 255)?)
+            }
+            [b"beginread", p, o, l] => {
+                self.begin_read(point(p)?, at_most(o, MOST_32)?, at_most(l, 1_100)?)
             }
             [b"step", p, k] => self.steps(point(p)?, at_most(k, 100_000)?),
             [b"leave", p] => self.leave(point(p)?),
@@ -234,6 +239,7 @@ impl Bench {
                 if why == Refusal::LogBroken {
                     self.broken_event(&before);
                 }
+                self.refusal_events(why, &before, false);
                 if why == Refusal::NoRun {
                     let write = Write { offset, text_length: length, ..Write::idle() };
                     self.tally.events(&no_run_events(&self.shared, write.span()));
@@ -251,6 +257,32 @@ impl Bench {
         self.tally.events(&found_events(&self.shared, record.write.span()));
     }
 
+    fn begin_read(&mut self, p: usize, offset: usize, length: usize) -> Option<String> {
+        let before = self.records[p].clone();
+        Some(match begin_read(&self.image, &self.shared, &before, offset, length) {
+            Ok(record) => {
+                self.tally.count("beginread", "begun");
+                self.tally.events(&begun_events(&before, &record));
+                self.records[p] = record;
+                "begun".to_string()
+            }
+            Err(why) => {
+                self.refusal_events(why, &before, true);
+                self.refused("beginread", why)
+            }
+        })
+    }
+
+    /// What a refused beginning or step says of reads.
+    fn refusal_events(&mut self, why: Refusal, record: &Record, begins_read: bool) {
+        match why {
+            Refusal::RecordUnfit => self.tally.events(&unfit_events(record, self.shared.blocks)),
+            Refusal::WrongMoment => self.tally.events(&busy_events(record, begins_read)),
+            Refusal::LogBroken if begins_read => self.broken_event(record),
+            _ => {}
+        }
+    }
+
     /// Up to `count` steps: "one line for each longest stretch of equal
     /// answers".
     fn steps(&mut self, p: usize, count: usize) -> Option<String> {
@@ -260,11 +292,13 @@ impl Bench {
         let mut stretches: Vec<(Answer, usize)> = Vec::new();
         for _ in 0..count {
             let answer = self.one_step(p);
+            let is_last =
+                matches!(answer, Answer::Committed(_) | Answer::Read(_) | Answer::Refused(_));
             match stretches.last_mut() {
                 Some((last, times)) if *last == answer => *times += 1,
                 _ => stretches.push((answer, 1)),
             }
-            if matches!(answer, Answer::Committed(_) | Answer::Refused(_)) {
+            if is_last {
                 break;
             }
         }
@@ -276,14 +310,14 @@ impl Bench {
     pub fn one_step(&mut self, p: usize) -> Answer {
         let before = self.records[p].clone();
         let (answer, shared, record) = step(&mut self.image, &self.shared, &before);
-        self.step_events(answer, &before, &record);
+        self.step_events(&answer, &before, &record);
         self.shared = shared;
         self.records[p] = record;
         answer
     }
 
     /// While the shared record is still the one handed in.
-    fn step_events(&mut self, answer: Answer, before: &Record, after: &Record) {
+    fn step_events(&mut self, answer: &Answer, before: &Record, after: &Record) {
         match answer {
             Answer::Stored => {
                 self.tally.count("step", "stored");
@@ -300,33 +334,52 @@ impl Bench {
                 self.tally.count("step", "moved");
                 self.moved_events(before, after);
             }
+            Answer::Copied => {
+                self.tally.count("step", "copied");
+                self.tally.events(&copied_events(&self.image, before, self.shared.blocks));
+            }
+            Answer::Read(bytes) => {
+                self.tally.count("step", "read");
+                self.tally.events(&ended_events(&self.image, before, bytes));
+            }
             Answer::Committed(retries) => {
                 self.tally.count("step", "committed");
-                if retries > 0 {
+                if *retries > 0 {
                     self.tally.event("committed after moved");
                 }
                 if after.view.passed == 64 {
                     self.tally.event("committed in the 64th log block");
                 }
             }
-            Answer::Refused(why) => {
-                self.tally.refused("step", why.number());
-                match why {
-                    Refusal::LogFull => self.tally.event("20 after work"),
-                    Refusal::NoLogBlock => {
-                        self.tally.event("21 after work");
-                        self.tally.events(&no_log_block_events(&self.shared));
-                    }
-                    Refusal::LogBroken => self.broken_event(before),
-                    _ => {}
+            Answer::Refused(why) => self.refused_step_events(*why, before),
+        }
+    }
+
+    fn refused_step_events(&mut self, why: Refusal, before: &Record) {
+        self.tally.refused("step", why.number());
+        match why {
+            Refusal::LogFull => self.tally.event("20 after work"),
+            Refusal::NoLogBlock => {
+                self.tally.event("21 after work");
+                self.tally.events(&no_log_block_events(&self.shared));
+            }
+            Refusal::LogBroken => {
+                self.broken_event(before);
+                if before.write.phase == Phase::Reading {
+                    self.tally.events(&broken_read_events(&self.image, before));
                 }
             }
+            _ => self.refusal_events(why, before, false),
         }
     }
 
     fn moved_events(&mut self, before: &Record, after: &Record) {
         if before.write.phase == Phase::Zeroing {
             self.tally.event("moved by a lost link");
+            return;
+        }
+        if before.write.phase == Phase::Reading {
+            self.tally.events(&read_moved_events(&self.image, before));
             return;
         }
         self.tally.event(match after.write.phase {
@@ -354,8 +407,9 @@ impl Bench {
         Some(match calls::leave(&self.image, &self.shared, &self.records[p]) {
             Ok(shared) => {
                 self.tally.count("leave", "left");
+                self.tally.events(&left_events(&self.shared, &self.records[p]));
                 match self.records[p].write.phase {
-                    Phase::Idle => {}
+                    Phase::Idle | Phase::Reading => {}
                     Phase::Zeroing => self.tally.event("left while zeroing"),
                     _ => self.tally.event("left while filling"),
                 }
@@ -373,6 +427,7 @@ impl Bench {
         let answer = match calls::read(&self.image, &self.shared, record, offset, &mut buffer) {
             Ok(count) => {
                 self.tally.count("read", "read");
+                self.meanwhile(p, "read at once while reading");
                 format!("read {count}")
             }
             Err(why) => self.refused("read", why),
@@ -386,6 +441,7 @@ impl Bench {
         Some(match calls::read(&self.image, &self.shared, record, offset, &mut buffer) {
             Ok(count) => {
                 self.tally.count("show", "show");
+                self.meanwhile(p, "shown while reading");
                 let bytes: Vec<String> =
                     buffer[..count].iter().map(|byte| format!("{byte:02x}")).collect();
                 format!("show {}", bytes.concat()).trim_end().to_string()
@@ -398,6 +454,7 @@ impl Bench {
         Some(match calls::locate(&self.image, &self.shared, &self.records[p], v) {
             Ok(block) => {
                 self.tally.count("locate", "located");
+                self.meanwhile(p, "located while reading");
                 format!("located {block}")
             }
             Err(why) => self.refused("locate", why),
@@ -416,7 +473,16 @@ impl Bench {
             return Some("view empty".to_string());
         }
         self.tally.count("view", "view");
-        Some(format!("view {place} digest {}", digest_words(part)))
+        let answer = format!("view {place} digest {}", digest_words(part));
+        self.meanwhile(p, "viewed while reading");
+        Some(answer)
+    }
+
+    /// Counts the event where place P's record has a read under way.
+    fn meanwhile(&mut self, p: usize, event: &str) {
+        if self.records[p].write.phase == Phase::Reading {
+            self.tally.event(event);
+        }
     }
 
     fn record(&self, p: usize) -> Option<String> {
@@ -496,6 +562,8 @@ fn stretch_line((answer, times): (Answer, usize)) -> String {
         Answer::Extending => "extending".to_string(),
         Answer::Moved => "moved".to_string(),
         Answer::Committed(retries) => format!("committed {retries}"),
+        Answer::Copied => "copied".to_string(),
+        Answer::Read(bytes) => format!("read {} digest {}", bytes.len(), digest_bytes(&bytes)),
         Answer::Refused(why) => format!("refused {}", why.number()),
     };
     if times > 1 {

@@ -21,8 +21,8 @@ impl Book {
     }
 
     /// A step's answer: Committed, 20 and 21 count; "all else, other refusals
-    /// too, changes nothing".
-    pub fn stepped(&mut self, point: usize, answer: Answer) {
+    /// too, changes nothing". Reads are passed over.
+    pub fn stepped(&mut self, point: usize, answer: &Answer) {
         match answer {
             Answer::Committed(_) => self.committed(point),
             Answer::Refused(Refusal::LogFull | Refusal::NoLogBlock) => self.notes[point] = None,
@@ -41,6 +41,11 @@ impl Book {
             }
             self.file[offset..end].copy_from_slice(&text);
         }
+    }
+
+    /// The file's byte, 0 past its end.
+    pub fn byte(&self, place: usize) -> u8 {
+        self.file.get(place).copied().unwrap_or(0)
     }
 
     /// "a leaving not refused only empties it"

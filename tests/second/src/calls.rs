@@ -60,7 +60,7 @@ pub fn begin(
 
 /// Frees what a point of this record holds.
 fn free_held(shared: &mut Shared, write: &Write) {
-    if write.phase != Phase::Idle {
+    if write.holds_run() {
         free_run(shared, write.run, write.span());
     }
     if write.phase == Phase::Zeroing {

@@ -42,7 +42,7 @@ impl Maker {
         (0..32).filter(|&p| self.bench.shared.has_joined(p)).collect()
     }
 
-    /// Joined points with a write under way, or without.
+    /// Joined points with a write or a read under way, or without.
     pub fn joined_idle(&self, idle: bool) -> Vec<usize> {
         self.joined().into_iter().filter(|&p| self.bench.records[p].is_idle() == idle).collect()
     }
@@ -56,12 +56,15 @@ impl Maker {
         (self.bench.image.len() / 64).max(4)
     }
 
-    /// Steps left until the point's next commit attempt.
+    /// Steps left until the point's next commit attempt, or its read's final step.
     pub fn steps_to_commit(&self, p: usize) -> usize {
         let write = &self.bench.records[p].write;
         match write.phase {
             Phase::Idle => 0,
             Phase::Zeroing => 65usize.saturating_sub(write.position),
+            Phase::Reading if write.text_length >= 1 => {
+                write.range_words().saturating_sub(write.position)
+            }
             Phase::Filling if write.text_length >= 1 && write.offset <= 131_072 => {
                 let end = write.offset + write.text_length.min(1_024);
                 let blocks = (end - 1) / 512 - write.offset / 512 + 1;

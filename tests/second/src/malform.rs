@@ -9,7 +9,7 @@ const PLACE: u64 = u64::MAX - 1;
 
 /// Each command with the greatest value of each of its numbers; u64::MAX where
 /// any number is allowed, 0 for a field's name.
-const SHAPES: [(&str, &[u64]); 26] = [
+const SHAPES: [(&str, &[u64]); 27] = [
     ("image", &[65_600]),
     ("noise", &[PLACE, PLACE, u64::MAX]),
     ("set", &[PLACE, u64::MAX]),
@@ -20,6 +20,7 @@ const SHAPES: [(&str, &[u64]); 26] = [
     ("join", &[31]),
     ("joinas", &[0xFFFF_FFFF]),
     ("begin", &[31, 0xFFFF_FFFF, 1_100, 255]),
+    ("beginread", &[31, 0xFFFF_FFFF, 1_100]),
     ("step", &[31, 100_000]),
     ("leave", &[31]),
     ("read", &[31, 0xFFFF_FFFF, 4_096]),
@@ -107,7 +108,7 @@ fn good_words(random: &mut Random, places: usize) -> Vec<String> {
         words.push(if is_field {
             random.pick(&FIELDS).to_string()
         } else if *command == "alter" && i == 2 {
-            let most = *random.pick(&[5, 6, 64, 65_535, 65_536, 0xFFFF_FFFF, 0x1_0000_0000]);
+            let most = *random.pick(&[5, 6, 7, 64, 65_535, 65_536, 0xFFFF_FFFF, 0x1_0000_0000]);
             number_word(random, most)
         } else {
             let most = greatest(random, command, most, places);

@@ -1,5 +1,6 @@
 //! Document 01, "The opened file": the shared record and the points' records.
-//! Document 02, K2: "The next place goes from the shared record and from 10."
+//! Document 02, K2: "The next place goes from the shared record and from 10." K1: a
+//! read under way stands in the write's fields.
 
 use crate::image::*;
 
@@ -59,6 +60,7 @@ pub enum Phase {
     RefillingLast = 3,
     RefillingBoth = 4,
     Zeroing = 5,
+    Reading = 6,
 }
 
 impl Phase {
@@ -74,6 +76,7 @@ impl Phase {
             3 => Some(Phase::RefillingLast),
             4 => Some(Phase::RefillingBoth),
             5 => Some(Phase::Zeroing),
+            6 => Some(Phase::Reading),
             _ => None,
         }
     }
@@ -91,7 +94,8 @@ pub struct View {
 }
 
 /// "its write: offset, up to 1,024 bytes of text, first block of its run,
-/// phase, position, log block being zeroed, retry count"
+/// phase, position, log block being zeroed, retry count". Of a read: its range,
+/// what has been copied, phase and how many words have been copied.
 #[derive(Clone, Debug, PartialEq, Eq)]
 pub struct Write {
     pub offset: usize,
@@ -117,6 +121,11 @@ impl Write {
             zeroing: 0,
             retries: 0,
         }
+    }
+
+    /// A write under way. "It holds no block" is said of a read.
+    pub fn holds_run(&self) -> bool {
+        !matches!(self.phase, Phase::Idle | Phase::Reading)
     }
 
     /// 16: "the text has 0 or more than 1,024 bytes".
@@ -145,6 +154,11 @@ impl Write {
 
     pub fn run_words(&self) -> usize {
         BLOCK_WORDS * self.span()
+    }
+
+    /// How many 8-byte words of the file "the range touches": up to 129.
+    pub fn range_words(&self) -> usize {
+        (self.end() - 1) / 8 - self.offset / 8 + 1
     }
 
     /// "A write's u is the bytes from its last block's start to its end."
@@ -234,25 +248,32 @@ impl View {
 }
 
 impl Write {
-    /// "With a write under way, ..."
+    /// "With a write under way, ..."; of a read: the range and the position.
     fn fits(&self, blocks: usize, view: &View) -> bool {
         Write::is_text_length(self.text_length)
             && Write::is_inside(self.offset, self.text_length)
-            && self.run >= 1
-            && self.run <= blocks - self.span()
+            && (!self.holds_run() || self.run_fits(blocks))
             && self.position_fits(blocks, view)
     }
 
+    /// "run ... also lie[s] inside from block 1 on"
+    fn run_fits(&self, blocks: usize) -> bool {
+        self.run >= 1 && self.run <= blocks - self.span()
+    }
+
     /// "the position is at most the run's words, or 64 in zeroing, which
-    /// needs slot 64 and under 64 passed"
+    /// needs slot 64 and under 64 passed"; in reading "position at most the
+    /// touched words"
     fn position_fits(&self, blocks: usize, view: &View) -> bool {
-        if self.phase == Phase::Zeroing {
-            (1..blocks).contains(&self.zeroing)
-                && self.position <= BLOCK_WORDS
-                && view.slot == END_SLOT
-                && view.passed < MOST_LOG_BLOCKS
-        } else {
-            self.position <= self.run_words()
+        match self.phase {
+            Phase::Zeroing => {
+                (1..blocks).contains(&self.zeroing)
+                    && self.position <= BLOCK_WORDS
+                    && view.slot == END_SLOT
+                    && view.passed < MOST_LOG_BLOCKS
+            }
+            Phase::Reading => self.position <= self.range_words(),
+            _ => self.position <= self.run_words(),
         }
     }
 }

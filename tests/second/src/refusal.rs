@@ -1,4 +1,5 @@
-//! Document 01, "Why a call is turned down".
+//! Document 01, "Why a call is turned down". Document 02, K1: "11, 15, 16 and 17 now
+//! speak of reads too."
 
 /// The reasons, in the order and with the numbers of document 01.
 #[derive(Clone, Copy, Debug, PartialEq, Eq, PartialOrd, Ord)]

@@ -6,9 +6,10 @@ use crate::image::*;
 use crate::maker::Maker;
 use crate::maps::a_map;
 use crate::random::Random;
+use crate::readers::*;
 
 /// The kinds of scripts.
-pub const KINDS: [&str; 11] = [
+pub const KINDS: [&str; 12] = [
     "ordinary work",
     "nearly full log",
     "nearly full image",
@@ -20,6 +21,7 @@ pub const KINDS: [&str; 11] = [
     "openings",
     "mixed",
     "stretches",
+    "reads",
 ];
 
 /// A script of a kind.
@@ -37,7 +39,8 @@ pub fn make(random: Random, kind: usize) -> Vec<u8> {
         7 => conflicts(&mut maker),
         8 => openings(&mut maker),
         9 => mixed(&mut maker, lines),
-        _ => stretches(&mut maker, lines),
+        10 => stretches(&mut maker, lines),
+        _ => reads(&mut maker, lines),
     }
     look_at_all(&mut maker);
     maker.script
@@ -74,6 +77,16 @@ fn ordinary(maker: &mut Maker, lines: usize) {
 
 /// A log with a few slots left in its last block.
 fn nearly_full_log(maker: &mut Maker, lines: usize) {
+    open_nearly_full(maker);
+    for _ in 0..lines / 40 + 1 {
+        works(maker, 20);
+        race_to_extend(maker);
+        conflict(maker);
+    }
+}
+
+/// An opened image with such a log, and some points joined.
+fn open_nearly_full(maker: &mut Maker) {
     let full = maker.random.below(4);
     let blocks = maker.random.between(full + 8, 80);
     let plan = Plan {
@@ -89,11 +102,6 @@ fn nearly_full_log(maker: &mut Maker, lines: usize) {
     maker.say("open 1024");
     join_some(maker);
     join_some(maker);
-    for _ in 0..lines / 40 + 1 {
-        works(maker, 20);
-        race_to_extend(maker);
-        conflict(maker);
-    }
 }
 
 fn nearly_full_image(maker: &mut Maker, lines: usize) {
@@ -165,12 +173,13 @@ fn hostile(maker: &mut Maker, lines: usize) {
         harm(maker);
         let p = a_point(maker);
         let v = *maker.random.pick(&[0, 1, 2, 255, 256, 0xFFFF_FFFFu32]);
-        let line = match maker.random.below(6) {
+        let line = match maker.random.below(7) {
             0 => format!("read {p} 0 64"),
             1 => format!("show {p} 500 20"),
             2 => format!("locate {p} {v}"),
             3 => format!("view {p} {v}"),
             4 => format!("begin {p} 5 9 1"),
+            5 => begin_read_line(maker, p),
             _ => format!("step {p} 200"),
         };
         maker.say(&line);
@@ -256,13 +265,14 @@ fn altered(maker: &mut Maker, lines: usize) {
 /// One call of point p.
 fn call_any(maker: &mut Maker, p: usize) {
     let o = an_offset(&mut maker.random);
-    let line = match maker.random.below(12) {
+    let line = match maker.random.below(13) {
         0..=5 => format!("step {p} {}", maker.random.pick(&[1, 1, 1, 2, 66, 130, 400])),
         6 => format!("begin {p} {o} {} 3", a_length(&mut maker.random)),
         7 => format!("leave {p}"),
         8 => format!("read {p} {o} 600"),
         9 => format!("show {p} {o} 30"),
         10 => format!("locate {p} {}", maker.random.below(4)),
+        11 => begin_read_line(maker, p),
         _ => format!("view {p} {}", maker.random.below(4)),
     };
     maker.say(&line);
@@ -310,12 +320,13 @@ fn alter_any(maker: &mut Maker, p: usize) {
         }
         6 => format!("map 0 {}", u64::MAX),
         7 => format!("copy {p} {}", maker.random.below(32)),
-        8 | 9 => format!("alter {p} phase {}", maker.random.below(6)),
+        8 | 9 => format!("alter {p} phase {}", maker.random.below(7)),
         10 => zeroing_scene(maker, p),
         11 => format!("alter {p} position {}", maker.random.below(194)),
         12 => format!("alter {p} {} {}", maker.random.pick(&FIELDS), maker.random.below(5)),
         13 => write_scene(maker, p),
         14 => format!("alter {p} number {}", maker.random.below(40)),
+        15 => read_scene(maker, p),
         _ => format!("alter {p} {} {border}", maker.random.pick(&FIELDS)),
     };
     maker.say(&line);
@@ -362,6 +373,45 @@ fn conflicts(maker: &mut Maker) {
         if maker.random.once_in(6) {
             works(maker, 4);
         }
+    }
+}
+
+/// Points that read while others write, on healthy and on altered ground.
+fn reads(maker: &mut Maker, lines: usize) {
+    open_for_reads(maker);
+    for _ in 0..lines / 10 + 1 {
+        if !maker.has_room() {
+            return;
+        }
+        match maker.random.below(16) {
+            0 => works(maker, 4),
+            1 => break_under(maker),
+            2 | 3 => dirty(maker),
+            4 => leave_reading(maker),
+            5 | 6 => altered_read(maker),
+            7 => conflict(maker),
+            _ => watch(maker),
+        }
+        if a_pair(maker).is_none() || is_stuck(maker) {
+            open_for_reads(maker);
+        }
+    }
+}
+
+/// An image with a few writes in it and points that can read them.
+fn open_for_reads(maker: &mut Maker) {
+    if maker.random.once_in(3) {
+        open_nearly_full(maker);
+    } else {
+        let blocks = maker.random.between(12, 60);
+        laid_out(maker, blocks);
+    }
+    for p in [2, 7, 19, 30] {
+        maker.say(&format!("join {p}"));
+    }
+    for _ in 0..maker.random.below(4) {
+        begin_any(maker);
+        step_any(maker);
     }
 }
 

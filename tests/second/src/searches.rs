@@ -3,6 +3,7 @@
 use crate::image::MOST_BLOCKS;
 use crate::map::{find, stretches, Stretch};
 use crate::record::Shared;
+use crate::tally::happened;
 
 /// The events of a search for `count` blocks that finds a stretch.
 pub fn found_events(shared: &Shared, count: usize) -> Vec<&'static str> {
@@ -13,7 +14,7 @@ pub fn found_events(shared: &Shared, count: usize) -> Vec<&'static str> {
     let end = chosen.start + chosen.length;
     let is_last = end == shared.blocks;
     let has_rival = fitting.len() > 1;
-    events(&[
+    happened(&[
         (fitting[0] != chosen, "found, not the first that fits"),
         (equals > 1, "found, lowest of equals"),
         (fitting.iter().any(|s| s.length > chosen.length), "found, not the longest"),
@@ -33,7 +34,7 @@ pub fn no_run_events(shared: &Shared, count: usize) -> Vec<&'static str> {
     let free: usize = stretches(shared).iter().map(|stretch| stretch.length).sum();
     let run_is_clear = |start: usize| (start..start + count).all(|block| is_clear(shared, block));
     let mut past_the_end = shared.blocks + 1 - count..shared.blocks;
-    events(&[
+    happened(&[
         (count == 2 && free >= 2, "19 for 2 blocks, enough free"),
         (count == 3 && free >= 3, "19 for 3 blocks, enough free"),
         (run_is_clear(0), "19 beside a clear bit 0"),
@@ -44,20 +45,15 @@ pub fn no_run_events(shared: &Shared, count: usize) -> Vec<&'static str> {
 /// The events of a search for a log block that finds one.
 pub fn extending_events(shared: &Shared) -> Vec<&'static str> {
     let lowest = stretches(shared).first().copied();
-    events(&[(find(shared, 1) != lowest, "extending, not the lowest free block")])
+    happened(&[(find(shared, 1) != lowest, "extending, not the lowest free block")])
 }
 
 /// The events of a search for a log block that finds none: 21.
 pub fn no_log_block_events(shared: &Shared) -> Vec<&'static str> {
-    events(&[
+    happened(&[
         (is_clear(shared, 0), "21 beside a clear bit 0"),
         (is_clear(shared, shared.blocks), "21 before clear bits past the end"),
     ])
-}
-
-/// The names of those that happened.
-fn events(named: &[(bool, &'static str)]) -> Vec<&'static str> {
-    named.iter().filter(|(happened, _)| *happened).map(|&(_, name)| name).collect()
 }
 
 /// Whether the map has that bit, at or past the block count too, and it is 0.

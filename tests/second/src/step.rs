@@ -1,21 +1,26 @@
 //! Document 01, "A write, step by step": one step. It first settles, with the
-//! image lent for reading only, which word gets which value, if any.
+//! image lent for reading only, which word gets which value, if any. A step of a
+//! read is in `reading`.
 
 use crate::calls::ask;
 use crate::image::*;
 use crate::log::{catch_up, Caught};
 use crate::map::{free_run, take_run};
+use crate::reading::read_on;
 use crate::record::*;
 use crate::refusal::{refuse, Refusal};
 
 /// What a step answers.
-#[derive(Clone, Copy, Debug, PartialEq, Eq)]
+#[derive(Clone, Debug, PartialEq, Eq)]
 pub enum Answer {
     Stored,
     Extending,
     Moved,
     /// With the retry count.
     Committed(u16),
+    Copied,
+    /// With the bytes of a read's range.
+    Read(Vec<u8>),
     Refused(Refusal),
 }
 
@@ -62,6 +67,10 @@ pub fn step(image: &mut [u64], shared: &Shared, record: &Record) -> (Answer, Sha
 pub fn settle(image: &[u64], shared: &Shared, record: &Record) -> Result<Settled, Refusal> {
     ask(image, shared, record)?;
     refuse(record.is_idle(), Refusal::WrongMoment)?;
+    if record.write.phase == Phase::Reading {
+        let (answer, after) = read_on(image, record)?;
+        return Ok(Settled::plain(answer, shared.clone(), after));
+    }
     if record.write.phase == Phase::Zeroing {
         return Ok(zero(image, shared, record));
     }

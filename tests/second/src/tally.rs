@@ -9,14 +9,15 @@ pub struct Tally {
 }
 
 /// "Which call gives which refusal", with the answers.
-pub const TABLE: [(&str, &[&str], &[u64]); 10] = [
+pub const TABLE: [(&str, &[&str], &[u64]); 11] = [
     ("layout", &["laid out"], &[1]),
     ("open", &["opened"], &[1, 2, 3, 4, 5, 6, 7, 8, 9]),
     ("join", &["joined"], &[10, 12, 13, 18]),
     ("begin", &["begun"], &[10, 11, 14, 15, 16, 17, 18, 19]),
+    ("beginread", &["begun"], &[10, 11, 14, 15, 16, 17, 18]),
     (
         "step",
-        &["stored", "extending", "moved", "committed"],
+        &["stored", "extending", "moved", "committed", "copied", "read"],
         &[10, 11, 14, 15, 18, 20, 21],
     ),
     ("leave", &["left"], &[10, 11, 14]),
@@ -27,7 +28,7 @@ pub const TABLE: [(&str, &[&str], &[u64]); 10] = [
 ];
 
 /// What happens inside the calls and is to be met too.
-pub const EVENTS: [&str; 35] = [
+pub const EVENTS: [&str; 90] = [
     "linked",
     "moved by a lost link",
     "moved, refills nothing",
@@ -63,7 +64,67 @@ pub const EVENTS: [&str; 35] = [
     "21 before clear bits past the end",
     "left while zeroing",
     "left while filling",
+    "read begun after catching up",
+    "read begun, write fields not 0",
+    "copied in a hole",
+    "copied past the end",
+    "copied past the end, not 0 there",
+    "copied, other bytes there by now",
+    "copied past the end, longer by now",
+    "copied a part of a word",
+    "copied, run, zeroing or retries not 0",
+    "copied, run outside the image",
+    "read moved, its one block covered",
+    "read moved, only its first block covered",
+    "read moved, only its middle block covered",
+    "read moved, only its last block covered",
+    "read moved, not by the newest entry",
+    "read moved, not by the oldest entry",
+    "read moved, by an entry from before its first block",
+    "read moved, by an entry that goes past its last block",
+    "read moved, by an entry of more than three blocks",
+    "read moved, only lengthened",
+    "read moved, only lengthened, its last byte past the end",
+    "read moved, covered and lengthened",
+    "read moved into a next log block",
+    "read moved, run, zeroing or retries not 0",
+    "read of 129 words",
+    "read of one byte",
+    "read over one block",
+    "read over two blocks",
+    "read over three blocks",
+    "read up to byte 131,072",
+    "read wholly past the end",
+    "read ended, lengthened but its range inside",
+    "read ended, lengthened from its end on",
+    "read ended, other blocks covered",
+    "read ended past the end, other blocks covered",
+    "read ended in a next log block",
+    "read ended, run, zeroing or retries not 0",
+    "read ended, what was copied is there no more",
+    "11 by a read's position, one too high",
+    "11 by a read's position",
+    "11 by a read's offset",
+    "11 by a read's text length",
+    "15 for a read while reading",
+    "15 for a read while writing",
+    "15 for a write while reading",
+    "left while reading",
+    "left while reading, a taken block for its run",
+    "left while reading, a taken block for its zeroing",
+    "18 in a read's final step, by an entry",
+    "18 in a read's final step, by a next index",
+    "18 in a read's final step, by a 65th log block",
+    "read at once while reading",
+    "shown while reading",
+    "located while reading",
+    "viewed while reading",
 ];
+
+/// The names of those that happened.
+pub fn happened(named: &[(bool, &'static str)]) -> Vec<&'static str> {
+    named.iter().filter(|(happened, _)| *happened).map(|&(_, name)| name).collect()
+}
 
 impl Tally {
     pub fn count(&mut self, call: &str, answer: &str) {

@@ -4,7 +4,10 @@
 use crate::book::Book;
 use crate::calls;
 use crate::image::*;
+use crate::log::catch_up;
 use crate::open::{open, show};
+use crate::reading::begin_read;
+use crate::reads::{ended_events, read_moved_events};
 use crate::record::*;
 use crate::refusal::Refusal;
 use crate::step::{step, Answer};
@@ -13,12 +16,15 @@ use crate::tally::Tally;
 /// "a point that from any moment of its write on alone takes steps finishes
 /// its write in at most 388 further steps"
 pub const MOST_STEPS: usize = 388;
+/// "Alone from any moment on, a read ends within 260 steps."
+pub const MOST_READ_STEPS: usize = 260;
 
 /// A call of the list. A joined point hands in its newest record, another one
 /// the record given here, with its number.
 pub enum Call {
     Join(usize),
     Begin(usize, Option<Record>, usize, Vec<u8>),
+    BeginRead(usize, Option<Record>, usize, usize),
     Step(usize, Option<Record>),
     Leave(usize, Option<Record>),
 }
@@ -65,20 +71,39 @@ impl World {
     pub fn call(&mut self, call: Call) -> Result<(), String> {
         let before = self.image.clone();
         let shared = self.shared.clone();
+        let is_of_read = self.is_of_read(&call);
         let refused = match call {
             Call::Join(number) => self.join(number)?,
             Call::Begin(p, record, offset, text) => self.begin(p, record, offset, &text)?,
+            Call::BeginRead(p, record, o, l) => self.begin_read(p, record, o, l)?,
             Call::Step(p, record) => self.step(p, record)?,
             Call::Leave(p, record) => self.leave(p, record)?,
         };
         let changed = before.iter().zip(&self.image).filter(|(a, b)| a != b).count();
         must(changed <= 1, "a call changes at most one word")?;
+        must(!is_of_read || changed == 0, "a read changes no word")?;
+        must(!is_of_read || shared == self.shared, "a read leaves the shared record")?;
         if let Some(why) = refused {
             must(changed == 0, "a refused call changes no word")?;
             let ends = matches!(why, Refusal::LogFull | Refusal::NoLogBlock);
             must(ends || shared == self.shared, "a refused call leaves the shared record")?;
         }
         self.check_image()
+    }
+
+    /// A beginning or a step of a read.
+    fn is_of_read(&self, call: &Call) -> bool {
+        match call {
+            Call::BeginRead(..) => true,
+            Call::Step(p, _) => self.is_reading(*p),
+            _ => false,
+        }
+    }
+
+    /// Whether the point is joined and has a read under way.
+    pub fn is_reading(&self, p: usize) -> bool {
+        let newest = self.records.get(p).and_then(|record| record.as_ref());
+        newest.is_some_and(|record| record.write.phase == Phase::Reading)
     }
 
     fn join(&mut self, number: usize) -> Result<Option<Refusal>, String> {
@@ -136,6 +161,27 @@ impl World {
         }
     }
 
+    fn begin_read(
+        &mut self,
+        p: usize,
+        record: Option<Record>,
+        offset: usize,
+        length: usize,
+    ) -> Result<Option<Refusal>, String> {
+        let (record, joined) = self.handed_in(p, record);
+        match begin_read(&self.image, &self.shared, &record, offset, length) {
+            Ok(record) => {
+                must(joined, "only a joined point begins")?;
+                self.tally.count("beginread", "begun");
+                self.moved[p] = 0;
+                self.records[p] = Some(record);
+                Ok(None)
+            }
+            Err(why) if joined => self.refused("beginread", why, &[15, 16, 17]),
+            Err(why) => self.refused("beginread", why, &[11, 14]),
+        }
+    }
+
     fn step(&mut self, p: usize, record: Option<Record>) -> Result<Option<Refusal>, String> {
         let (record, joined) = self.handed_in(p, record);
         let (answer, shared, after) = step(&mut self.image, &self.shared, &record);
@@ -147,9 +193,9 @@ impl World {
         }
         must(joined || matches!(answer, Answer::Refused(_)), "only a joined point steps")?;
         if joined {
-            self.book.stepped(p, answer);
+            self.book.stepped(p, &answer);
             self.shared = shared;
-            self.count_step(p, answer, &record, &after)?;
+            self.count_step(p, &answer, &record, &after)?;
             self.records[p] = Some(after);
         }
         Ok(match answer {
@@ -163,27 +209,54 @@ impl World {
     fn count_step(
         &mut self,
         p: usize,
-        answer: Answer,
+        answer: &Answer,
         before: &Record,
         after: &Record,
     ) -> Result<(), String> {
         match answer {
             Answer::Stored => self.tally.count("step", "stored"),
             Answer::Extending => self.tally.count("step", "extending"),
+            Answer::Moved if before.write.phase == Phase::Reading => {
+                self.tally.count("step", "moved");
+                self.tally.events(&read_moved_events(&self.image, before));
+                self.check_moved(before, after)?;
+            }
             Answer::Moved => {
                 self.tally.count("step", "moved");
                 self.moved[p] += 1;
             }
+            Answer::Copied => self.tally.count("step", "copied"),
+            Answer::Read(bytes) => {
+                self.tally.count("step", "read");
+                self.tally.events(&ended_events(&self.image, before, bytes));
+                self.check_bytes(&before.write, bytes)?;
+                must(after.write == Write::idle(), "the point is idle after the bytes")?;
+            }
             Answer::Committed(retries) => {
                 self.tally.count("step", "committed");
                 let count = self.moved[p].min(65_535);
-                must(u64::from(retries) == count, "the retry count of the answer")?;
+                must(u64::from(*retries) == count, "the retry count of the answer")?;
                 self.log.push(before.write.entry(p).pack());
             }
             Answer::Refused(_) => {}
         }
         let count = self.moved[p].min(65_535);
         must(after.is_idle() || u64::from(after.write.retries) == count, "the retry count")
+    }
+
+    /// "the copy begins again": after Moved a read is what a beginning leaves.
+    fn check_moved(&self, before: &Record, after: &Record) -> Result<(), String> {
+        let Write { offset, text_length, .. } = before.write;
+        let idle = Record { write: Write::idle(), ..before.clone() };
+        let again = begin_read(&self.image, &self.shared, &idle, offset, text_length);
+        must(again.as_ref() == Ok(after), "a moved read is one that begins")
+    }
+
+    /// "they are the file's as of that step, 0 past its end"
+    fn check_bytes(&self, write: &Write, bytes: &[u8]) -> Result<(), String> {
+        must(bytes.len() == write.text_length, "a read answers its whole range")?;
+        let same = (0..bytes.len()).all(|i| bytes[i] == self.book.byte(write.offset + i));
+        must(same, "the bytes of a read are the book's")
     }
 
     fn leave(&mut self, p: usize, record: Option<Record>) -> Result<Option<Refusal>, String> {
@@ -211,14 +284,37 @@ impl World {
         must(shown.file(&self.image) == self.book.file, "the bytes are the book's")?;
         must(shown.log == self.log, "the log is the old log and the entries committed")?;
         must(opened.entries == self.log.len(), "the count of log entries")?;
+        for p in (0..32).filter(|&p| self.is_reading(p)) {
+            self.records[p].as_ref().map_or(Ok(()), |record| self.check_copy(record))?;
+        }
         self.check_map(&scratch)
+    }
+
+    /// What a read has copied is the file's, where its final step would not say
+    /// Moved for that block or that end; what it has not copied is 0.
+    fn check_copy(&self, record: &Record) -> Result<(), String> {
+        let Record { view, write, .. } = record;
+        let caught = catch_up(&self.image, view).map_err(|_| "a reading point's log is broken")?;
+        let is_lengthened = caught.view.length > view.length && write.end() > view.length;
+        let copied_end = 8 * (write.offset / 8 + write.position);
+        for place in write.offset..write.end() {
+            let byte = write.text[place - write.offset];
+            let v = place / BLOCK_BYTES;
+            let is_stale = is_lengthened || caught.entries.iter().any(|entry| entry.covers(v));
+            if place >= copied_end {
+                must(byte == 0, "what is not copied is 0")?;
+            } else if !is_stale {
+                must(byte == self.book.byte(place), "what is copied is the book's")?;
+            }
+        }
+        Ok(())
     }
 
     /// "Taken are block 0, the log chain, the live blocks and what joined
     /// points hold", nothing held twice.
     fn check_map(&self, scratch: &[u16]) -> Result<(), String> {
         let mut taken: Vec<bool> = scratch.iter().map(|&mark| mark != 0).collect();
-        for record in self.records.iter().flatten().filter(|record| !record.is_idle()) {
+        for record in self.records.iter().flatten().filter(|record| record.write.holds_run()) {
             let write = &record.write;
             let mut held: Vec<usize> = (write.run..write.run + write.span()).collect();
             if write.phase == Phase::Zeroing {
@@ -238,10 +334,12 @@ impl World {
         let mut image = self.image.clone();
         let mut shared = self.shared.clone();
         let mut record = self.records[p].clone().ok_or("the point is joined")?;
-        for steps in 1..=MOST_STEPS {
+        let most = if self.is_reading(p) { MOST_READ_STEPS } else { MOST_STEPS };
+        for steps in 1..=most {
             let (answer, shared_after, record_after) = step(&mut image, &shared, &record);
             match answer {
                 Answer::Committed(_)
+                | Answer::Read(_)
                 | Answer::Refused(Refusal::LogFull | Refusal::NoLogBlock) => return Ok(steps),
                 Answer::Refused(why) => return Err(format!("alone refused by {}", why.number())),
                 _ => {}
@@ -249,7 +347,7 @@ impl World {
             shared = shared_after;
             record = record_after;
         }
-        Err("a point alone finishes within 388 steps".to_string())
+        Err(format!("a point alone finishes within {most} steps"))
     }
 }
 
@@ -276,5 +374,27 @@ pub fn longest_case() -> Result<usize, String> {
         world.call(Call::Step(1, None))?;
     }
     must(world.tally.of("step", "committed") == 2, "both have committed")?;
+    Ok(steps)
+}
+
+/// The case that needs all 260 steps: a read of 1,024 bytes at offset 1 touches
+/// 129 words; another commits over block 0 after the beginning.
+pub fn longest_read() -> Result<usize, String> {
+    let mut image = vec![0; 64 * 16];
+    lay_out(&mut image).map_err(|_| "laying out")?;
+    let mut world = World::new(image)?;
+    world.call(Call::Join(1))?;
+    world.call(Call::Join(2))?;
+    world.call(Call::BeginRead(1, None, 1, 1_024))?;
+    world.call(Call::Begin(2, None, 0, vec![2; 1]))?;
+    for _ in 0..65 {
+        world.call(Call::Step(2, None))?;
+    }
+    must(world.tally.of("step", "committed") == 1, "the other point has committed")?;
+    let steps = world.steps_alone(1)?;
+    for _ in 0..steps {
+        world.call(Call::Step(1, None))?;
+    }
+    must(world.tally.of("step", "read") == 1, "the read has ended")?;
     Ok(steps)
 }

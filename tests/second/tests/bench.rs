@@ -110,7 +110,7 @@ fn the_gate_script_gives_its_output() {
 /// The outputs were worked out by hand.
 #[test]
 fn the_kept_scripts_give_their_output() {
-    for name in ["stretches", "strangers"] {
+    for name in ["stretches", "strangers", "reading"] {
         let output = run(&kept(&format!("tests/{name}.script")));
         let expected = kept(&format!("tests/{name}.expected"));
         let [output, expected] = [output, expected].map(|bytes| String::from_utf8(bytes).unwrap());
@@ -124,6 +124,7 @@ fn the_gate_script_and_the_kept_ones_meet_everything() {
     bench.script(&kept("../../crates/session/stdin"));
     bench.script(&kept("tests/stretches.script"));
     bench.script(&kept("tests/strangers.script"));
+    bench.script(&kept("tests/reading.script"));
     assert_eq!(bench.tally.missing(), Vec::<String>::new());
 }
 

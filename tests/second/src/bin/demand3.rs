@@ -7,9 +7,10 @@ use second::acts::{a_length, an_offset};
 use second::forge::{any_plan, forge, plan_with, Plan};
 use second::image::lay_out;
 use second::random::Random;
+use second::readers::a_read_length;
 use second::record::{Phase, Record};
-use second::tally::Tally;
-use second::world::{longest_case, Call, World, MOST_STEPS};
+use second::tally::{Tally, EVENTS};
+use second::world::{longest_case, longest_read, Call, World, MOST_READ_STEPS, MOST_STEPS};
 
 const USAGE: &str = "demand3 [--seed S] [--runs N] [--calls N]";
 
@@ -19,14 +20,30 @@ struct Options {
     calls: usize,
 }
 
+/// Points that stepped alone: how many, and the most steps of a write and of a
+/// read.
+#[derive(Default)]
+struct Alone {
+    points: usize,
+    write: usize,
+    read: usize,
+}
+
+impl Alone {
+    fn add(&mut self, other: &Alone) {
+        self.points += other.points;
+        self.write = self.write.max(other.write);
+        self.read = self.read.max(other.read);
+    }
+}
+
 /// One run's walk: the world, its random numbers and what was seen.
 struct Walk {
     world: World,
     random: Random,
     made: usize,
     limit: usize,
-    alone: usize,
-    longest: usize,
+    alone: Alone,
     /// Beginnings refused since one that was not.
     barren: usize,
 }
@@ -37,10 +54,15 @@ fn main() -> ExitCode {
         return ExitCode::from(2);
     };
     println!("seed {}", options.seed);
-    match longest_case() {
-        Ok(MOST_STEPS) => println!("the longest case takes {MOST_STEPS} steps"),
-        Ok(steps) => return failed(&format!("the longest case takes {steps} steps")),
-        Err(why) => return failed(&format!("the longest case: {why}")),
+    for (name, longest, most) in [
+        ("case", longest_case(), MOST_STEPS),
+        ("read", longest_read(), MOST_READ_STEPS),
+    ] {
+        match longest {
+            Ok(steps) if steps == most => println!("the longest {name} takes {most} steps"),
+            Ok(steps) => return failed(&format!("the longest {name} takes {steps} steps")),
+            Err(why) => return failed(&format!("the longest {name}: {why}")),
+        }
     }
     run_all(&options)
 }
@@ -67,7 +89,7 @@ fn options() -> Option<Options> {
 
 fn run_all(options: &Options) -> ExitCode {
     let mut tally = Tally::default();
-    let (mut calls, mut alone, mut longest) = (0, 0, 0);
+    let (mut calls, mut alone) = (0, Alone::default());
     for run in 0..options.runs {
         let mut random = Random::stream(options.seed, run as u64);
         let image = first_image(&mut random, run);
@@ -76,18 +98,21 @@ fn run_all(options: &Options) -> ExitCode {
             Err(why) => return failed(&format!("seed {} run {run}: {why}", options.seed)),
         };
         let limit = options.calls;
-        let mut walk = Walk { world, random, made: 0, limit, alone: 0, longest: 0, barren: 0 };
+        let mut walk =
+            Walk { world, random, made: 0, limit, alone: Alone::default(), barren: 0 };
         if let Err(why) = walk.go() {
             let call = walk.made;
             return failed(&format!("seed {} run {run} call {call}: {why}", options.seed));
         }
         tally.add(&walk.world.tally);
         calls += walk.made;
-        alone += walk.alone;
-        longest = longest.max(walk.longest);
+        alone.add(&walk.alone);
     }
     report(&tally);
-    println!("{alone} points stepped alone, at most {longest} steps");
+    println!(
+        "{} points stepped alone, at most {} steps of a write and {} of a read",
+        alone.points, alone.write, alone.read
+    );
     println!("{} runs, {calls} calls: after each, image and book agreed", options.runs);
     ExitCode::SUCCESS
 }
@@ -103,6 +128,9 @@ fn report(tally: &Tally) {
         if tally.total(call) > 0 {
             println!("{call}: {}", counts.join(", "));
         }
+    }
+    for event in EVENTS.iter().filter(|event| tally.of("event", event) > 0) {
+        println!("event: {event} {}", tally.of("event", event));
     }
 }
 
@@ -171,7 +199,8 @@ impl Walk {
                 0 => self.join()?,
                 1 => self.leave()?,
                 2 => self.stranger()?,
-                3..=18 => self.begin()?,
+                3..=14 => self.begin()?,
+                15..=18 => self.begin_read()?,
                 19..=21 => self.together()?,
                 _ => self.steps()?,
             }
@@ -222,9 +251,10 @@ impl Walk {
         let unjoined: Vec<usize> = (0..40).filter(|p| !self.joined().contains(p)).collect();
         let p = *self.random.pick(&unjoined);
         let record = Some(self.any_record());
-        let call = match self.random.below(3) {
+        let call = match self.random.below(4) {
             0 => Call::Begin(p, record, an_offset(&mut self.random), vec![5; 9]),
             1 => Call::Step(p, record),
+            2 => Call::BeginRead(p, record, an_offset(&mut self.random), 9),
             _ => Call::Leave(p, record),
         };
         self.call(call)
@@ -234,7 +264,7 @@ impl Walk {
     fn any_record(&mut self) -> Record {
         let p = self.any_joined();
         let mut record = self.world.records[p].clone().unwrap_or(Record::zero());
-        match self.random.below(8) {
+        match self.random.below(9) {
             0 => record = Record::zero(),
             1 => record.view.block = self.random.below(2_000),
             2 => record.view.slot = self.random.below(70),
@@ -242,23 +272,39 @@ impl Walk {
             4 => record.write.position = self.random.below(400),
             5 => record.write.text_length = usize::MAX,
             6 => record.write.offset = usize::MAX - self.random.below(600),
+            7 => record.write.phase = Phase::Reading,
             _ => {}
         }
         record
     }
 
-    fn begin(&mut self) -> Result<(), String> {
+    /// A point that can begin, mostly.
+    fn beginner(&mut self) -> usize {
         let idle = self.with_write(false);
-        let p = if idle.is_empty() || self.random.once_in(10) {
+        if idle.is_empty() || self.random.once_in(10) {
             self.any_joined()
         } else {
             *self.random.pick(&idle)
-        };
-        let offset = match self.random.below(40) {
+        }
+    }
+
+    /// Mostly in the file's first blocks.
+    fn offset(&mut self) -> usize {
+        match self.random.below(40) {
             0 => usize::MAX - self.random.below(3),
             1..=6 => an_offset(&mut self.random),
             _ => an_offset(&mut self.random) % 2_048,
-        };
+        }
+    }
+
+    fn begin_read(&mut self) -> Result<(), String> {
+        let (p, offset) = (self.beginner(), self.offset());
+        let length = a_read_length(&mut self.random);
+        self.call(Call::BeginRead(p, None, offset, length))
+    }
+
+    fn begin(&mut self) -> Result<(), String> {
+        let (p, offset) = (self.beginner(), self.offset());
         let length = a_length(&mut self.random);
         let seed = self.random.any();
         let text = (0..length).map(|i| (seed >> (i % 57)) as u8 | 1).collect();
@@ -303,14 +349,14 @@ impl Walk {
         Ok(())
     }
 
-    /// A point with a write under way takes steps alone, on copies.
+    /// A point with a write or a read under way takes steps alone, on copies.
     fn alone(&mut self) -> Result<(), String> {
         let busy = self.with_write(true);
         if !busy.is_empty() {
             let p = *self.random.pick(&busy);
             let steps = self.world.steps_alone(p)?;
-            self.alone += 1;
-            self.longest = self.longest.max(steps);
+            let (write, read) = if self.world.is_reading(p) { (0, steps) } else { (steps, 0) };
+            self.alone.add(&Alone { points: 1, write, read });
         }
         Ok(())
     }
