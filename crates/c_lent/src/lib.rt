@@ -219,7 +219,7 @@ pub fn read(
     }
     numbers::of_count(points::read::read_lent(
         image,
-        numbers::shared(shared, taken),
+        numbers::lead(shared),
         numbers::head(head),
         table,
         offset,
@@ -242,7 +242,7 @@ pub fn locate(
     }
     numbers::of_count(points::locate::locate_lent(
         image,
-        numbers::shared(shared, taken),
+        numbers::lead(shared),
         numbers::head(head),
         table,
         block,

@@ -1,13 +1,14 @@
 -- One turn of the walk from a log place: a law for each way it goes on or ends.
 use mathlib.Core.Path.{_≡_, _∙_, ap}
 use mathlib.Core.Logic.{_≢_}
-use mathlib.Core.List.{List}
+use mathlib.Core.List.{List, []}
 use mathlib.Core.Bool.{true, false}
 use Prim.Native.Nat.{ℕ, suc, _-_, _+_, _≤_, _<_}
 use native.Mathlib.Omega.{arith}
 use lib.ListN.{length}
 use Rattle.words.specs.Edition.{Edition, chainMax}
-use Rattle.words.specs.Memory.{Memory}
+use Rattle.words.specs.Memory.{Memory, blockAt, wordAt}
+use Rattle.words.proofs.Logic.{upToZero-end}
 use Rattle.log.specs.CatchUp.{Walk, ended, following, walk, ahead}
 use Rattle.log.specs.Chain.{nextIndex}
 use Rattle.log.specs.declared.Place.{Place}
@@ -27,6 +28,13 @@ module _ (E : Edition) (m : Memory) (blocks : ℕ) (p : Place) where
   pub ahead-stop : end < E .blockWords → ahead E m blocks p ≡ ended es (p .block) end true
   unfolding ahead
   ahead-stop l = walk-stop E m blocks (p .block) (p .slot) (chainMax - p .passed) l
+
+  -- an empty word at the place: nothing is ahead
+  pub ahead-none : p .slot < E .blockWords → wordAt m (p .block) (p .slot) ≡ 0 → ahead E m blocks p ≡ ended [] (p .block) (p .slot) true
+  ahead-none l z =
+      let none : es ≡ [] = upToZero-end (blockAt m (p .block)) (p .slot) z in
+      let here-end : end ≡ p .slot = omega (arith, ap length none) in
+      ahead-stop (omega (arith, here-end)) ∙ rw (here-end, none)
 
   module _ (full : E .blockWords ≤ end) (n : ℕ) (next : nextIndex m (p .block) ≡ n) where
     pub ahead-last : n ≡ 0 → ahead E m blocks p ≡ ended es (p .block) end true

@@ -3,9 +3,9 @@
 use Prim.Native.Nat.{ℕ, zero, suc, _+_, _*_, _-_, _/_, _%_, _≤_, _<_}
 use native.Mathlib.Omega.{arith}
 use mathlib.Core.Path.{_≡_, refl, sym, ap, ap₂, _∙_}
-use mathlib.Core.List.{List, _∷_, _++_}
-use lib.ListN.{length, getD, drop, set}
-use lib.Seq.{sets, sets-eq, length-sets}
+use mathlib.Core.List.{List, [], _∷_, _++_, append-nil}
+use lib.ListN.{length, getD, take, drop, set, take-append-drop, length-drop, drop-of-length-le}
+use lib.Seq.{sets, sets-eq, length-sets, take-set-le, drop-set-add, getD-take, getD-drop, take-all, length-take-le}
 use Rattle.words.specs.Logic.{listFrom}
 use Rattle.words.specs.Word.{byteOf}
 use Rattle.words.specs.Memory.{byteIn}
@@ -103,7 +103,48 @@ word-bytes part i =
     listFrom-same (byteOf (getD part i 0)) (byteIn part) 0 (8 * i) 8
     (λ k l. let q : (8 * i + k) / 8 ≡ i = omega arith in let r : (8 * i + k) % 8 ≡ k = omega arith in let z : 0 + k ≡ k = omega arith in rw (q, r, z))
 
+-- bytes stored in the part from a on
+part-sets : (a : ℕ) (xs : List ℕ) (pos : ℕ) (vs : List ℕ) → take a xs ++ sets (drop a xs) pos vs ≡ sets xs (a + pos) vs
+part-sets a xs pos [] = take-append-drop a xs
+part-sets a xs pos (v ∷ vs) =
+    let on : a + suc pos ≡ suc (a + pos) = omega arith in
+    let front : take a xs ≡ take a (set xs (a + pos) v) = sym (take-set-le a xs (a + pos) v (omega arith)) in
+    rw (front, ← drop-set-add a xs pos v) (part-sets a (set xs (a + pos) v) (suc pos) vs ∙ rw on)
+
+-- the bytes of w words of a part from word i on
+bytes-lent : (part : List ℕ) (i w : ℕ) → listFrom 0 (8 * w) (byteIn (take w (drop i part))) ≡ listFrom (8 * i) (8 * w) (byteIn part)
+bytes-lent part i w =
+    listFrom-same (byteIn (take w (drop i part))) (byteIn part) 0 (8 * i) (8 * w)
+    (λ k l. let z : 0 + k ≡ k = omega arith in
+    let q : (8 * i + k) / 8 ≡ i + k / 8 = omega arith in
+    let r : (8 * i + k) % 8 ≡ k % 8 = omega arith in
+    rw (z, q, r, getD-take w (drop i part) (k / 8) 0 (omega arith), getD-drop i part (k / 8) 0))
+
 -- whole words from a byte on, where that is a word's first byte or there are none
-pub words-aligned : (f : ℕ → ℕ) (p i w : ℕ) → (0 < w → 8 * i ≡ p) → listFrom (8 * i) (8 * w) f ≡ listFrom p (8 * w) f
+words-aligned : (f : ℕ → ℕ) (p i w : ℕ) → (0 < w → 8 * i ≡ p) → listFrom (8 * i) (8 * w) f ≡ listFrom p (8 * w) f
 words-aligned f p i zero h = refl
 words-aligned f p i (suc w) h = let e : 8 * i ≡ p = h (omega arith) in rw e
+
+-- w words of a part from word i on, and a buffer from a on, both lent: as the borrow lends them
+module _ (part xs : List ℕ) (a i w n : ℕ) (inside : i + w ≤ length part) (same : w ≡ n) where
+  lent-words : length (take n (drop i part)) ≡ w
+  lent-words = length-take-le n (drop i part) (omega (arith, length-drop i part)) ∙ sym same
+
+  lent-whole : take (length xs - a) (drop a xs) ≡ drop a xs
+  lent-whole = take-all (length xs - a) (drop a xs) (omega (arith, length-drop a xs))
+
+  -- the words have room there
+  pub words-fit : a + 8 * w ≤ length xs → 8 * length (take n (drop i part)) ≤ length (take (length xs - a) (drop a xs))
+  words-fit h = rw (lent-words, lent-whole) (omega (arith, length-drop a xs))
+
+  -- put into the buffer's front, they are the bytes from p on, from a on in the whole buffer
+  pub words-lent :
+      (ys : List ℕ) (p : ℕ) → (0 < w → 8 * i ≡ p)
+      → ys ≡ sets (take (length xs - a) (drop a xs)) 0 (listFrom 0 (8 * length (take n (drop i part))) (byteIn (take n (drop i part))))
+      → take a xs ++ (ys ++ drop (length xs - a) (drop a xs)) ≡ sets xs a (listFrom p (8 * w) (byteIn part))
+  words-lent ys p aligned e =
+      let none : drop (length xs - a) (drop a xs) ≡ [] = drop-of-length-le (drop a xs) {i = length xs - a} (omega (arith, length-drop a xs)) in
+      let z : a + 0 ≡ a = omega arith in
+      rw (none, append-nil ys, e, lent-whole, lent-words, ← same)
+      (part-sets a xs 0 (listFrom 0 (8 * w) (byteIn (take w (drop i part))))
+      ∙ rw z (ap (sets xs a) (bytes-lent part i w ∙ words-aligned (byteIn part) p i w aligned)))

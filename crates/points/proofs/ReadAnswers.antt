@@ -19,8 +19,10 @@ use Rattle.log.specs.Replay.{Mapped, fileByte}
 use Rattle.log.specs.Opening.{replyOf}
 use Rattle.points.specs.declared.Head.{Head}
 use Rattle.points.specs.declared.Count.{Count}
+use Rattle.points.specs.declared.Numbers.{Numbers}
 use Rattle.points.specs.Reading.{seen, readRefusal, readCount, reading, bufferAfter, locateRefusal, located, locating, viewed}
-use Rattle.points.specs.Lent.{catchUpRefusal, partOf}
+use Rattle.points.specs.Search.{sharedOf, numbersOf}
+use Rattle.points.specs.Lent.{catchUpRefusal, foundAt, partOf}
 use Rattle.points.proofs.Copied.{listFrom-same, sets-front}
 use Rattle.points.proofs.FilePieces.{part-block}
 use Rattle.points.proofs.CaughtUp.{catch-up-reasons, catch-up-passed, catch-up-inside, failed-before}
@@ -38,6 +40,22 @@ answer-refused (suc r) n k e ne = rw e
 answer-done : (r n k : ℕ) → r ≡ 0 → k ≡ n → record { reply = Done; count = k } ≡ answer r n
 answer-done zero n k e f = rw f
 answer-done (suc r) n k e f = absurd (omega arith)
+
+-- an entry of a table, 0 and any other
+module _ (b x : ℕ) (is : b ≡ x) where
+  pub found-none : b ≡ 0 → record { reply = Refused 22; count = 0 } ≡ foundAt x
+  found-none z = ap foundAt (sym z ∙ is)
+
+  pub found-some : b ≢ 0 → record { reply = Done; count = b } ≡ foundAt x
+  found-some ne = some b ne ∙ ap foundAt is
+    where
+      some : (n : ℕ) → n ≢ 0 → record { reply = Done; count = n } ≡ foundAt n
+      some zero ne = absurd (ne refl)
+      some (suc n) ne = refl
+
+-- a shared record is that of its numbers and its map
+pub of-numbers : (s : Shared) (n : Numbers) → n ≡ numbersOf s → sharedOf n (s .taken) ≡ s
+of-numbers s n e = ap (λ (k : Numbers). sharedOf k (s .taken)) e
 
 -- the part of an answer that is 0 exactly where it is refused
 view-answer : (m : Memory) (r n b : ℕ) → b ≡ answer r n .count → (r ≡ 0 → n ≢ 0)
@@ -122,17 +140,24 @@ module _ (E : Edition) (I : List ℕ) (s : Shared) (h : Head) (table : List ℕ)
         index-is : b ≡ getD (file .table) v 0
         index-is = at ∙ ap (λ (g : Mapped). getD (g .table) v 0) is
 
-        pub locate-unmapped : b ≡ 0 → record { reply = Refused 22; count = 0 } ≡ locating E I s h table v
+        locate-unmapped : b ≡ 0 → record { reply = Refused 22; count = 0 } ≡ locating E I s h table v
         unfolding locating located
         locate-unmapped n =
             answer-refused (locateRefusal E I s h table v) (getD (file .table) v 0) 22
             (sym (locate-late ∙ first-settled 22 (isZero (getD (file .table) v 0)) [] (is-zero (getD (file .table) v 0) (sym index-is ∙ n)))) (omega arith)
 
-        pub locate-found : b ≢ 0 → record { reply = Done; count = b } ≡ locating E I s h table v
+        locate-found : b ≢ 0 → record { reply = Done; count = b } ≡ locating E I s h table v
         unfolding locating located
         locate-found n =
             answer-done (locateRefusal E I s h table v) (getD (file .table) v 0) b
             (locate-late ∙ first-goes-on 22 (isZero (getD (file .table) v 0)) [] (not-zero (getD (file .table) v 0) (λ m. n (index-is ∙ m)))) index-is
+
+      pub locate-index : (f : Mapped) → f ≡ file → foundAt (getD (f .table) v 0) ≡ locating E I s h table v
+      locate-index f is = by-index (getD (f .table) v 0) refl
+        where
+          by-index : (b : ℕ) → b ≡ getD (f .table) v 0 → foundAt b ≡ locating E I s h table v
+          by-index zero at = locate-unmapped f is zero at refl
+          by-index (suc b) at = locate-found f is (suc b) at (λ z. absurd (omega arith))
 
     -- ---- viewing: the located block, which is 0 exactly when locating refuses
 

@@ -1,16 +1,18 @@
 -- A read's word: where it lies, the bytes that its step copies, and those that its last step hands over. Over plain lists and numbers. Assumes nothing.
-use Prim.Native.Nat.{ℕ, suc, _+_, _*_, _-_, _/_, _%_, _≤_, _<_, max, min}
+use Prim.Native.Nat.{ℕ, zero, suc, _+_, _*_, _-_, _/_, _%_, _≤_, _<_, max, min}
 use native.Mathlib.Omega.{arith}
 use native.Mathlib.Numerals.{add-one}
 use native.Mathlib.Nat.{zero-add}
 use mathlib.Core.Path.{_≡_, refl, sym, _∙_, ap}
-use mathlib.Core.List.{List, _++_}
-use lib.ListN.{length, take, drop, set, getD}
-use lib.Seq.{paste-suc, sets}
+use mathlib.Core.Logic.{_≢_, _⊎_, inl, inr}
+use mathlib.Core.List.{List, [], _∷_, _++_}
+use lib.ListN.{length, take, drop, set, getD, length-set}
+use lib.Seq.{paste-suc, sets, getD-set-same, getD-set-other}
 use borrow.Author.Tests.{lt-ltb, le-ltb}
 use Rattle.words.specs.Edition.{Edition, blockBytes}
 use Rattle.words.specs.Logic.{listFrom}
 use Rattle.words.specs.Memory.{Memory}
+use Rattle.words.proofs.Logic.{length-listFrom, getD-listFrom}
 use Rattle.words.proofs.Sizes.{sized}
 use Rattle.words.proofs.Choice.{choose-true, choose-false}
 use Rattle.log.specs.Replay.{Mapped, mappedByte, fileByte}
@@ -130,3 +132,44 @@ module _ (E : Edition) (m : Memory) (f : Mapped) where
       (sets-three shown text copied cleared cleared (from - o) from (end - from) (to - end) 0 (to - from) (whole from end to (k .low) (k .high))
       (one ∙ ap (sets text (from - o)) front)
       (rw mid (rw at at two ∙ ap (sets copied (from - o + (end - from))) back)) refl)
+
+-- ---- byte by byte
+
+sets-out : (xs ys : List ℕ) (i k : ℕ) → (k < i) ⊎ (i + length ys ≤ k) → getD (sets xs i ys) k 0 ≡ getD xs k 0
+sets-out xs [] i k o = refl
+sets-out xs (y ∷ ys) i k o = sets-out (set xs i y) ys (suc i) k (further o) ∙ getD-set-other xs i k y 0 (apart o)
+  where
+    further : (k < i) ⊎ (i + suc (length ys) ≤ k) → (k < suc i) ⊎ (suc i + length ys ≤ k)
+    further (inl l) = inl (omega arith)
+    further (inr l) = inr (omega arith)
+
+    apart : (k < i) ⊎ (i + suc (length ys) ≤ k) → k ≢ i
+    apart (inl l) e = omega arith
+    apart (inr l) e = omega arith
+
+sets-in : (xs ys : List ℕ) (i k : ℕ) → k < length ys → i + length ys ≤ length xs → getD (sets xs i ys) (i + k) 0 ≡ getD ys k 0
+sets-in xs [] i k h l = absurd (omega arith)
+sets-in xs (y ∷ ys) i zero h l =
+    let e : i + 0 ≡ i = omega arith in
+    rw e (sets-out (set xs i y) ys (suc i) i (inl (omega arith)) ∙ getD-set-same xs i y 0 (omega arith))
+sets-in xs (y ∷ ys) i (suc k) h l =
+    let e : i + suc k ≡ suc i + k = omega arith in
+    rw e (sets-in (set xs i y) ys (suc i) k (omega arith) (rw length-set (omega arith)))
+
+-- a byte of a word that was copied before stays; one of the word copied is the file's
+module _ (E : Edition) (m : Memory) (f : Mapped) (w : Write) (text : List ℕ) (at : ℕ) (low : w .offset ≤ at) where
+  pub byte-kept : at / 8 < w .offset / 8 + w .position → getD (withWord E m f w text) (at - w .offset) 0 ≡ getD text (at - w .offset) 0
+  unfolding withWord
+  byte-kept h = sets-out text (listFrom (copyFrom w) (copyTo w - copyFrom w) (shownByte E m f)) (copyFrom w - w .offset) (at - w .offset) (inl (omega arith))
+
+  pub byte-copied : at / 8 ≡ w .offset / 8 + w .position → at < w .offset + w .size → w .size ≤ length text
+      → getD (withWord E m f w text) (at - w .offset) 0 ≡ shownByte E m f at
+  unfolding withWord
+  byte-copied h high long =
+      let n = copyTo w - copyFrom w in
+      let ys = listFrom (copyFrom w) n (shownByte E m f) in
+      let l = length-listFrom (copyFrom w) n (shownByte E m f) in
+      let k : at - w .offset ≡ (copyFrom w - w .offset) + (at - copyFrom w) = omega arith in
+      let b : copyFrom w + (at - copyFrom w) ≡ at = omega arith in
+      rw k (sets-in text ys (copyFrom w - w .offset) (at - copyFrom w) (omega (arith, l)) (omega (arith, l))
+      ∙ getD-listFrom (copyFrom w) n (shownByte E m f) (at - copyFrom w) 0 (omega arith) ∙ ap (shownByte E m f) b)

@@ -1,19 +1,21 @@
 -- For the contracts of the code, which is lent a record's parts: what it answers, what it settles, and what it asks for.
-use Prim.Native.Nat.{ℕ, zero, suc, _+_, _-_, _≤_, _<_}
+use Prim.Native.Nat.{ℕ, zero, suc, _+_, _-_, _≤_, _<_, min}
 use mathlib.Core.Path.{_≡_}
 use mathlib.Core.Bool.{Bool, true, false, _&&_}
 use mathlib.Core.List.{List, [], _∷_, _++_}
 use mathlib.Core.Option.{Option, none}
-use lib.ListN.{getD}
-use lib.Dec.{leb, ltb}
+use lib.ListN.{length, getD}
+use lib.Seq.{sets}
+use lib.Dec.{leb, ltb, eqb}
 use Rattle.words.specs.Edition.{Edition, one, blocksMax, fileBlocks, fileEnd}
-use Rattle.words.specs.Logic.{first, _when_}
+use Rattle.words.specs.Logic.{listFrom, first, _when_}
 use Rattle.words.specs.Word.{byteOf}
-use Rattle.words.specs.Memory.{Memory, Store, memory, blockAt, after}
+use Rattle.words.specs.Memory.{Memory, Store, memory, blockAt, wordAt, after}
 use Rattle.log.specs.declared.Shared.{Shared}
 use Rattle.log.specs.declared.Place.{Place}
+use Rattle.log.specs.declared.Reply.the-variants.{Done, Refused}
 use Rattle.log.specs.Entry.{legal}
-use Rattle.log.specs.Replay.{Mapped}
+use Rattle.log.specs.Replay.{Mapped, fileByte}
 use Rattle.log.specs.CatchUp.{Walk, ahead, placeAfter, broken}
 use Rattle.points.specs.declared.Write.{Write}
 use Rattle.points.specs.declared.Head.{Head}
@@ -22,6 +24,7 @@ use Rattle.points.specs.declared.Begun.{Begun}
 use Rattle.points.specs.declared.Stepped.{Stepped}
 use Rattle.points.specs.declared.LentBegun.{LentBegun}
 use Rattle.points.specs.declared.LentStepped.{LentStepped}
+use Rattle.points.specs.declared.Count.{Count}
 use Rattle.points.specs.declared.Numbers.{Numbers}
 use Rattle.points.specs.declared.plan.Reads.{Reads}
 use Rattle.points.specs.declared.plan.Reads.the-variants.{NoEntry, OwnEntry, AllAhead}
@@ -29,7 +32,7 @@ use Rattle.points.specs.declared.plan.Frees.{Frees}
 use Rattle.points.specs.declared.plan.Frees.the-variants.{NoBlock, Run, Replaced, Zeroed}
 use Rattle.points.specs.declared.plan.Plan.{Plan}
 use Rattle.points.specs.declared.read_step.Ahead.{Ahead}
-use Rattle.points.specs.Record.{textMax, isReading, runFirst, runBlocks, runWords, pointOf, recordReasons, brokenAhead}
+use Rattle.points.specs.Record.{textMax, isReading, runFirst, runBlocks, runWords, pointOf, recordReasons, brokenAhead, fileAt}
 use Rattle.points.specs.Search.{sharedOf}
 use Rattle.points.specs.Plan.{Outcome, answered, storedAt}
 use Rattle.points.specs.ReadSteps.{covered}
@@ -107,14 +110,28 @@ aheadOf E blocks h w = record { broken = broken E blocks w; covered = covered E 
 unfoldable pub catchUpRefusal : Edition → List ℕ → Shared → Head → List ℕ → Bool → ℕ
 catchUpRefusal E words s h table past = first (recordReasons E words s h table ++ 17 when past ∷ brokenAhead E words s h ∷ [])
 
--- the reason, 0 for none; and where there is none the table and the length that the point sees
-pub record CatchesUp (words : List ℕ) (s : Shared) (h : Head) (table : List ℕ) (past : Bool) (reason size : ℕ) (left : List ℕ) : Type 0 where
+-- the word at a log place is empty: nothing is ahead
+abbrev pub atTail : Edition → Memory → Place → Bool
+atTail E m p = ltb (p .slot) (E .blockWords) && eqb (wordAt m (p .block) (p .slot)) 0
+
+-- the reason, 0 for none; and where nothing is ahead, the file is as the record has it
+pub record Settles (words : List ℕ) (s : Shared) (h : Head) (table : List ℕ) (past : Bool) (reason : ℕ) (tail : Bool) : Type 0 where
   pub refusal : reason ≡ catchUpRefusal one words s h table past
-  pub file : reason ≡ 0 → record { table = left; size = size } ≡ seen one words s h table
+  pub file : tail ≡ true → fileAt h table ≡ seen one words s h table
 
 -- a table, where the length does not matter: bytes are found by it alone
 abbrev pub unsized : List ℕ → Mapped
 unsized table = record { table = table; size = 0 }
+
+-- what is read of a file of this table and length: the count, and the bytes at the buffer's front
+pub record FillsFrom (words table : List ℕ) (size offset : ℕ) (buffer : List ℕ) (answer : Count) (left : List ℕ) : Type 0 where
+  pub count : answer ≡ record { reply = Done; count = min (length buffer) (size - offset) }
+  pub bytes : left ≡ sets buffer 0 (listFrom offset (min (length buffer) (size - offset)) (fileByte one (memory one words) (unsized table)))
+
+-- what is located at an entry of a table: the index, and 22 for 0
+abbrev pub foundAt : ℕ → Count
+foundAt zero = record { reply = Refused 22; count = 0 }
+foundAt (suc b) = record { reply = Done; count = suc b }
 
 -- the part of the image that a logical index names: a block, and nothing for 0
 abbrev pub partOf : Memory → ℕ → List ℕ

@@ -1,51 +1,74 @@
-// The file as a point sees it, caught up privately: what reading, locating and viewing share.
+// The file as a point sees it: what reading, locating and viewing share.
 ghost use mathlib.Core.Path.{_≡_};
+ghost use mathlib.Core.Bool.{false};
+ghost use mathlib.Core.List.{List};
+ghost use Prim.Native.Nat.{ℕ};
 ghost use lib.ListN.{getD};
 ghost use Rattle.words.specs.Edition.{one};
 ghost use Rattle.words.specs.Memory.{memory};
-ghost use Rattle.points.specs.Lent.{CatchesUp, partOf};
+ghost use Rattle.points.specs.Search.{sharedOf};
+ghost use Rattle.points.specs.Lent.{atTail, Settles, partOf};
 use crate::Count;
 use crate::Head;
+use crate::Numbers;
+use log::Place;
 use log::Reply;
-use log::Shared;
 
-// Why the file is not read, 0 where it is; and its length.
+// Why the file is not read, 0 where it is; and whether it is the file as the record has it, nothing being ahead.
 pub(crate) struct Current {
     pub reason: u32,
-    pub size: u32,
+    pub tail: bool,
 }
 
-fn refused_by(reason: u32) -> Current
-    ensures { λ r. ⌜ r .reason ≡ reason ⌝ }
+// A reason, 0 for none, where the word at the log place is not known to be empty.
+fn settled(reason: u32) -> Current
+    ensures { λ r. ⌜ (r .reason ≡ reason) × (r .tail ≡ false) ⌝ }
 {
-    Current { reason, size: 0 }
+    Current {
+        reason,
+        tail: false,
+    }
 }
 
-// The first of 10, 11, 14, 17 where the block asked for lies past the file, and 18; where there is none, the table is caught up, and the length answered.
-pub(crate) fn catch_up(
+// Whether the word at a log place is empty.
+fn at_tail(image: &[u64], place: Place) -> bool
+    ensures { λ r. ⌜ r ≡ atTail one (memory one (now (image .entry))) place ⌝ }
+{
+    let slot = place.slot as usize;
+    let part = words::image::block(image, place.block as usize);
+    (slot < 64) & (words::image::word(part, slot) == 0)
+}
+
+// The first of 10, 11, 14, 17 where the block asked for lies past the file, and 18. Where the word at the log place is empty there is no walk.
+pub(crate) fn settle(
     image: &[u64],
-    shared: Shared,
+    numbers: Numbers,
     head: Head,
-    table: &mut [u16; 256],
+    table: &[u16; 256],
     past: bool,
 ) -> Current
-    ensures { λ r. ⌜ CatchesUp (now (image .entry)) shared head (now (table .entry)) past (r .reason) (r .size) (now (table .exit)) ⌝ }
+    ensures { λ r. ⌜ ((taken : List ℕ)
+        → Settles (now (image .entry)) (sharedOf numbers taken) head (now (table .entry)) past (r .reason) (r .tail)) ⌝ }
 {
-    let reason = crate::record::unfit(image, shared, head, table);
+    let reason = crate::record::unfit_numbers(image, numbers, head, table);
     if reason != 0 {
-        return refused_by(reason);
+        return settled(reason);
     }
     if past {
-        return refused_by(crate::PAST_END);
+        return settled(crate::PAST_END);
     }
-    let blocks = shared.blocks;
     let place = head.place;
-    let ahead = log::ahead::look(image, blocks, place, 0, 0);
-    if ahead.broken {
-        return refused_by(log::LOG_BROKEN);
+    if at_tail(image, place) {
+        return Current {
+            reason: 0,
+            tail: true,
+        };
     }
-    let size = log::ahead::catch_up(image, blocks, place, table, head.length);
-    Current { reason: 0, size }
+    let ahead = log::ahead::look(image, numbers.blocks, place, 0, 0);
+    if ahead.broken {
+        return settled(log::LOG_BROKEN);
+    }
+    settled(0)
 }
 
 // The logical block of a virtual one; 0 where nothing is mapped, and past the table.

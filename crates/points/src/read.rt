@@ -1,6 +1,7 @@
 // Reading: the file's bytes into a lent buffer, block by block, whole words where they are aligned.
 ghost use mathlib.Core.Path.{_≡_};
-ghost use Prim.Native.Nat.{_+_, _*_, _-_, _≤_, _<_, _^_, min};
+ghost use mathlib.Core.List.{List};
+ghost use Prim.Native.Nat.{ℕ, _+_, _*_, _-_, _≤_, _<_, _^_, min};
 ghost use lib.ListN.{length};
 ghost use lib.Seq.{sets};
 ghost use Rattle.words.specs.Edition.{one};
@@ -9,9 +10,11 @@ ghost use Rattle.words.specs.Word.{byteOf};
 ghost use Rattle.words.specs.Memory.{memory, byteIn};
 ghost use Rattle.log.specs.Replay.{mappedByte, fileByte};
 ghost use Rattle.points.specs.Reading.{ReadLeaves};
-ghost use Rattle.points.specs.Lent.{unsized};
+ghost use Rattle.points.specs.Search.{sharedOf};
+ghost use Rattle.points.specs.Lent.{unsized, FillsFrom};
 use crate::Count;
 use crate::Head;
+use crate::Numbers;
 use crate::Point;
 use log::Shared;
 
@@ -43,17 +46,18 @@ fn put_word(w: u64, buffer: &mut [u8], at: usize)
     buffer[at + 7] = byte(w, 7);
 }
 
-// The bytes of n words of a part go to the buffer from a place on.
-fn copy_words(part: &[u64], from: usize, buffer: &mut [u8], at: usize, n: usize)
-    requires { ⌜ (from + n ≤ length (now part)) × (at + 8 * n ≤ length (now buffer)) ⌝ }
-    ensures { λ _. ⌜ now (buffer .exit) ≡ sets (now (buffer .entry)) at (listFrom (8 * from) (8 * n) (byteIn (now (part .entry)))) ⌝ }
+// The bytes of a part's words go to the buffer's front. (One index for both, so that the loop becomes vectors.)
+fn copy_words(part: &[u64], buffer: &mut [u8])
+    requires { ⌜ 8 * length (now part) ≤ length (now buffer) ⌝ }
+    ensures { λ _. ⌜ now (buffer .exit)
+        ≡ sets (now (buffer .entry)) 0 (listFrom 0 (8 * length (now (part .entry))) (byteIn (now (part .entry)))) ⌝ }
 {
-    for k in 0..n {
-        put_word(part[from + k], buffer, at + 8 * k);
+    for k in 0..part.len() {
+        put_word(part[k], buffer, 8 * k);
     }
 }
 
-// The same for n bytes of a part, one by one.
+// n bytes of a part go to the buffer from a place on, one by one.
 fn copy_bytes(part: &[u64], from: usize, buffer: &mut [u8], at: usize, n: usize)
     requires { ⌜ (from + n ≤ 8 * length (now part)) × (at + n ≤ length (now buffer)) ⌝ }
     ensures { λ _. ⌜ now (buffer .exit) ≡ sets (now (buffer .entry)) at (listFrom from n (byteIn (now (part .entry)))) ⌝ }
@@ -85,19 +89,16 @@ fn copy(part: &[u64], from: usize, buffer: &mut [u8], at: usize, n: usize)
     let head = least(words::offset::byte(8 - words::offset::byte(from)), n);
     let whole = words::offset::whole_words(n - head);
     let middle = 8 * whole;
+    let first = words::offset::whole_words(from + head);
+    let last = first + whole;
+    let start = at + head;
     copy_bytes(part, from, buffer, at, head);
-    copy_words(
-        part,
-        words::offset::whole_words(from + head),
-        buffer,
-        at + head,
-        whole,
-    );
+    copy_words(&part[first..last], &mut buffer[start..]);
     copy_bytes(
         part,
         from + head + middle,
         buffer,
-        at + head + middle,
+        start + middle,
         n - head - middle,
     );
 }
@@ -142,26 +143,45 @@ fn left(size: u32, offset: usize, room: usize) -> usize
     least(room, size as usize - offset)
 }
 
-// Reading, with the record's table lent: the file's bytes from an offset on fill the buffer, as far as both go; the count is answered, and no
-// further byte is touched.
+// What is left of a file of this table and length from an offset on goes to the buffer's front; the count is answered.
+fn fill_from(
+    image: &[u64],
+    table: &[u16; 256],
+    size: u32,
+    offset: usize,
+    buffer: &mut [u8],
+) -> Count
+    ensures { λ r. ⌜ FillsFrom (now (image .entry)) (now (table .entry)) size offset (now (buffer .entry)) r (now (buffer .exit)) ⌝ }
+{
+    let n = left(size, offset, buffer.len());
+    fill(image, table, offset, buffer, n);
+    crate::current::counted(n as u32)
+}
+
+// Reading, with the record's table lent, and the numbers alone of the shared record: the file's bytes from an offset on fill the buffer, as far as
+// both go; the count is answered, and no further byte is touched. Where nothing is ahead the lent table is the file's; otherwise a copy is caught up.
 pub fn read_lent(
     image: &[u64],
-    shared: Shared,
+    numbers: Numbers,
     head: Head,
     table: &[u16; 256],
     offset: usize,
     buffer: &mut [u8],
 ) -> Count
-    ensures { λ r. ⌜ ReadLeaves (now (image .entry)) shared head (now (table .entry)) offset (now (buffer .entry)) r (now (buffer .exit)) ⌝ }
+    ensures { λ r. ⌜ ((taken : List ℕ) → ReadLeaves (now (image .entry)) (sharedOf numbers taken) head (now (table .entry)) offset
+        (now (buffer .entry)) r (now (buffer .exit))) ⌝ }
 {
-    let mut own = *table;
-    let current = crate::current::catch_up(image, shared, head, &mut own, false);
+    let current = crate::current::settle(image, numbers, head, table, false);
     if current.reason != 0 {
         return crate::current::refused(current.reason);
     }
-    let n = left(current.size, offset, buffer.len());
-    fill(image, &own, offset, buffer, n);
-    crate::current::counted(n as u32)
+    if current.tail {
+        return fill_from(image, table, head.length, offset, buffer);
+    }
+    let place = head.place;
+    let mut own = *table;
+    let size = log::ahead::catch_up(image, numbers.blocks, place, &mut own, head.length);
+    fill_from(image, &own, size, offset, buffer)
 }
 
 // Reading.
@@ -169,5 +189,12 @@ pub fn read(image: &[u64], shared: Shared, point: Point, offset: usize, buffer: 
     ensures { λ r. ⌜ ReadLeaves (now (image .entry)) shared (point .head) (point .table) offset (now (buffer .entry)) r (now (buffer .exit)) ⌝ }
 {
     let head = point.head;
-    read_lent(image, shared, head, &point.table, offset, buffer)
+    read_lent(
+        image,
+        crate::shared::numbers(shared),
+        head,
+        &point.table,
+        offset,
+        buffer,
+    )
 }

@@ -14,22 +14,26 @@ use Rattle.log.specs.declared.Shared.{Shared}
 use Rattle.log.specs.CatchUp.{ahead, broken}
 use Rattle.points.specs.declared.Point.{Point}
 use Rattle.points.specs.declared.plan.Plan.{Plan}
-use Rattle.points.specs.Record.{isJoined, isIdle, fits, badShared, badText, pastEnd, span, recordReasons, brokenAhead, unfit}
+use Rattle.points.specs.Record.{isJoined, isIdle, isReading, fits, badShared, badText, pastEnd, span, recordReasons, brokenAhead, unfit}
 use Rattle.points.specs.Search.{search}
-use Rattle.points.specs.Calls.{badFirst, joinRefusal, beginRefusal}
-use Rattle.points.specs.Stepping.{endsWrite, planned, stepRefusal, writeOn, fill, commit, zeroOut, link, giveBack, extend, giveUp}
+use Rattle.points.specs.Calls.{badFirst, joinRefusal, beginRefusal, beginReadRefusal}
+use Rattle.points.specs.Stepping.{endsWrite, planned, stepping, stepRefusal, writeOn, fill, commit, zeroOut, link, giveBack, extend, giveUp}
 use Rattle.points.specs.Reading.{seen, locateRefusal}
+use Rattle.points.specs.Plan.{Outcome}
+use Rattle.points.specs.ReadSteps.{copyWord, beginAgain, answerBytes, readOn}
+use Rattle.points.proofs.Phases.{reading-busy}
+use Rattle.points.proofs.ReadCases.{read-refused, read-goes, each-read}
 use Rattle.points.proofs.StepCases.{each-plan}
 use Rattle.points.proofs.StepFacts.{goes-on, refused-on}
 use Rattle.recovery.specs.World as W
-use Rattle.recovery.specs.World.{Call, join, begin, step, leave, handed, serve}
+use Rattle.recovery.specs.World.{Call, join, begin, beginRead, step, leave, handed, serve}
 use Rattle.recovery.specs.Book.{Book}
 use Rattle.recovery.specs.History.{callsBefore, refusal, stepRefused, isFault, isStrange, byJoined}
 use Rattle.recovery.specs.Claim.{NoFault}
 use Rattle.words.proofs.Tests.{no-true}
 use Rattle.recovery.proofs.Opening.Opens.{first-some, first-inside}
 use Rattle.log.proofs.Replies.{number-back}
-use Rattle.points.proofs.Replies.{join-replies, begin-replies, leave-replies, step-answers}
+use Rattle.points.proofs.Replies.{join-replies, begin-replies, begin-read-replies, leave-replies, step-answers}
 use Rattle.recovery.proofs.Calls.Mapping.{Tied, handed-newest, handed-number}
 use Rattle.recovery.proofs.Calls.NotRefused.{shared-ok, record-passed, step-on, not-broken}
 use Rattle.recovery.proofs.Claim.{opens-enough, same-start, bytesBefore}
@@ -78,6 +82,21 @@ write-safe E m s p sound = each-plan E m s p SafePlan (record {
   moves = refl;
 })
 
+-- a read's step
+
+abbrev SafeOutcome : Outcome → Type 0
+SafeOutcome o = isFault (stepRefused (o .step)) ≡ false
+
+read-safe : (E : Edition) (m : Memory) (s : Shared) (p : Point) → broken E (s .blocks) (ahead E m (s .blocks) (p .head .place)) ≡ false
+    → SafeOutcome (readOn E m s p)
+unfolding copyWord beginAgain answerBytes
+read-safe E m s p sound = each-read E m s p SafeOutcome (record {
+  copies = λ e. refl;
+  stops = λ e. absurd (no-true e sound);
+  begins-again = λ e f. refl;
+  answers = λ e f. refl;
+})
+
 -- ---- the calls
 
 module _ {E : Edition} {L : List ℕ} (w : W.World) (bk : Book) (h : Tied E L w bk) where
@@ -88,10 +107,12 @@ module _ {E : Edition} {L : List ℕ} (w : W.World) (bk : Book) (h : Tied E L w 
   s = w .shared
 
   -- the reasons of beginning and of a step behind 10, 11 and 14
+  abbrev beginReasonsOwn : Point → ℕ → ℕ → List Reason → List Reason
+  beginReasonsOwn p o size more =
+      15 when not (isIdle (p .head .write .phase)) ∷ 16 when badText size ∷ 17 when pastEnd E o size ∷ brokenAhead E I s (p .head) ∷ more
+
   abbrev beginOwn : Point → ℕ → ℕ → List Reason
-  beginOwn p o size =
-      15 when not (isIdle (p .head .write .phase)) ∷ 16 when badText size ∷ 17 when pastEnd E o size ∷ brokenAhead E I s (p .head)
-      ∷ 19 when isZero (search s (span E o size)) ∷ []
+  beginOwn p o size = beginReasonsOwn p o size (19 when isZero (search s (span E o size)) ∷ [])
 
   abbrev stepOwn : Point → List Reason
   stepOwn p = 15 when isIdle (p .head .write .phase) ∷ []
@@ -129,12 +150,24 @@ module _ {E : Edition} {L : List ℕ} (w : W.World) (bk : Book) (h : Tied E L w 
     unfolding stepRefusal
     idle-15 e = record-passed w bk h n j (stepOwn p) ∙ rw e
 
+    begin-read-safe : (o size : ℕ) → isFault (beginReadRefusal E I s (p .head) (p .table) o size) ≡ false
+    unfolding beginReadRefusal
+    begin-read-safe o size = own-safe (beginReasonsOwn p o size []) (other refl (other refl (other refl (fails (not-broken w bk h n j) none))))
+
     plan-safe : SafePlan (planned E I s p)
     plan-safe = go (isIdle (p .head .write .phase)) refl
       where
         go : (b : Bool) → isIdle (p .head .write .phase) ≡ b → SafePlan (planned E I s p)
         go true e = subst SafePlan (sym (refused-on E I s p 14 (idle-15 e))) refl
         go false e = subst SafePlan (sym (goes-on E I s p (step-on w bk h n j e))) (write-safe E (memory E I) s p (not-broken w bk h n j))
+
+    step-safe : isFault (stepRefused (stepping E I s p .step)) ≡ false
+    step-safe = go (isReading (p .head .write .phase)) refl
+      where
+        go : (b : Bool) → isReading (p .head .write .phase) ≡ b → isFault (stepRefused (stepping E I s p .step)) ≡ false
+        go true r = subst SafeOutcome (sym (read-goes E I s p r (step-on w bk h n j (reading-busy (p .head .write .phase) r))))
+            (read-safe E (memory E I) s p (not-broken w bk h n j))
+        go false r = rw (step-answers E I s p r) plan-safe
 
   pub call-safe : (c : Call) → byJoined w c ≡ true → isFault (refusal (serve E w c .event)) ≡ false
   unfolding serve
@@ -145,7 +178,13 @@ module _ {E : Edition} {L : List ℕ} (w : W.World) (bk : Book) (h : Tied E L w 
     number-back (beginRefusal E I s (w .newest n .head) (w .newest n .table) o (length text)),
   )
       (begin-safe n j o (length text))
-  call-safe (step n q) j = rw (handed-newest w n q j, step-answers E I s (w .newest n)) (plan-safe n j)
+  call-safe (beginRead n q o size) j = rw (
+    handed-newest w n q j,
+    begin-read-replies E I s (w .newest n) o size,
+    number-back (beginReadRefusal E I s (w .newest n .head) (w .newest n .table) o size),
+  )
+      (begin-read-safe n j o size)
+  call-safe (step n q) j = rw (handed-newest w n q j) (step-safe n j)
   call-safe (leave n q) j = rw (
     handed-newest w n q j,
     leave-replies E I s (w .newest n),
@@ -180,12 +219,18 @@ module _ {E : Edition} {L : List ℕ} (w : W.World) (bk : Book) (h : Tied E L w 
     unfolding stepRefusal
     refused-strange = turned-away (stepOwn y)
 
-    step-strange : isStrange (stepRefused (planned E I s y .step)) ≡ true
-    step-strange = go (stepRefusal E I s (y .head) (y .table)) refl
+    begin-read-strange : (o size : ℕ) → isStrange (beginReadRefusal E I s (y .head) (y .table) o size) ≡ true
+    unfolding beginReadRefusal
+    begin-read-strange o size = turned-away (beginReasonsOwn y o size [])
+
+    step-strange : isStrange (stepRefused (stepping E I s y .step)) ≡ true
+    step-strange = go (stepRefusal E I s (y .head) (y .table)) refl (isReading (y .head .write .phase)) refl
       where
-        go : (k : ℕ) → stepRefusal E I s (y .head) (y .table) ≡ k → isStrange (stepRefused (planned E I s y .step)) ≡ true
-        go zero e = let z : isStrange 0 ≡ true = rw e at refused-strange in absurd (no-true z refl)
-        go (suc k) e = rw (refused-on E I s y k e) (rw e at refused-strange)
+        go : (k : ℕ) → stepRefusal E I s (y .head) (y .table) ≡ k → (b : Bool) → isReading (y .head .write .phase) ≡ b
+            → isStrange (stepRefused (stepping E I s y .step)) ≡ true
+        go zero e b r = let z : isStrange 0 ≡ true = rw e at refused-strange in absurd (no-true z refl)
+        go (suc k) e true r = rw (read-refused E I s y r k e) (rw e at refused-strange)
+        go (suc k) e false r = rw (step-answers E I s y r, refused-on E I s y k e) (rw e at refused-strange)
 
   pub call-strange : (c : Call) → byJoined w c ≡ false → isStrange (refusal (serve E w c .event)) ≡ true
   unfolding serve
@@ -193,7 +238,10 @@ module _ {E : Edition} {L : List ℕ} (w : W.World) (bk : Book) (h : Tied E L w 
   call-strange (begin n q o text) j =
       rw (begin-replies E I s (handed w n q) o text, number-back (beginRefusal E I s (y n q j .head) (y n q j .table) o (length text)))
       (begin-strange n q j o (length text))
-  call-strange (step n q) j = rw (step-answers E I s (handed w n q)) (step-strange n q j)
+  call-strange (beginRead n q o size) j =
+      rw (begin-read-replies E I s (handed w n q) o size, number-back (beginReadRefusal E I s (y n q j .head) (y n q j .table) o size))
+      (begin-read-strange n q j o size)
+  call-strange (step n q) j = step-strange n q j
   call-strange (leave n q) j = rw (leave-replies E I s (handed w n q), number-back (unfit E I s (y n q j .head) (y n q j .table))) (leave-strange n q j)
 
 pub no-fault : (E : Edition) → NoFault E

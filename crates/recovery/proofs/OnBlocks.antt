@@ -36,6 +36,7 @@ use Rattle.points.proofs.CarriedOut.{afterRefusal, afterFill, afterZero, refusa
 use Rattle.points.proofs.ReadCases.{write-kind}
 use Rattle.points.proofs.StepFacts.{goes-on, refused-on}
 use Rattle.words.proofs.Tests.{no-true}
+use Rattle.words.proofs.Choice.{choose-true, choose-false}
 use Rattle.recovery.proofs.Calls.Mapping.{withNewest-same, handed-newest}
 use Rattle.recovery.proofs.Computed.{test, agree}
 
@@ -229,8 +230,9 @@ step-keeps E words s p c = kind (isReading (p .head .write .phase)) refl
         (refl, refl)
 
     kind : (b : Bool) → isReading (p .head .write .phase) ≡ b → Leaves s p (stepping E words s p)
-    kind true e = let f : stores E (p .head .write) ≡ false = rw e in absurd (no-true c f)
-    kind false e = subst (Leaves s p) (sym (write-kind E words s p e)) (go (rw e at c) (stepRefusal E words s (p .head) (p .table)) refl)
+    kind true e = absurd (no-true c (choose-true (isReading (p .head .write .phase)) false (storesBy (isZeroing (p .head .write .phase)) E (p .head .write)) e))
+    kind false e = subst (Leaves s p) (sym (write-kind E words s p e)) (go (sym (choose-false (isReading (p .head .write .phase)) false (storesBy (isZeroing (p .head .write .phase)) E (p .head .write)) e) ∙ c)
+        (stepRefusal E words s (p .head) (p .table)) refl)
 
 known-step : (E : Edition) (w : World) (n : ℕ) (p : Point) → isJoined (w .shared) n ≡ true → stores E (handed w n p .head .write) ≡ true
     → tableFits (w .shared .blocks) (handed w n p .table) ≡ true → Known (serve E w (step n p) .world) (suc n)

@@ -16,14 +16,13 @@ use Rattle.points.specs.declared.Joined.{Joined}
 use Rattle.points.specs.declared.Begun.{Begun}
 use Rattle.points.specs.declared.Stepped.{Stepped}
 use Rattle.points.specs.declared.Left.{Left}
-use Rattle.points.specs.Calls.{joining, beginning, leaving}
-use Rattle.points.specs.Plan as plan
-use Rattle.points.specs.Stepping.{stepping}
+use Rattle.points.specs.Calls.{joining, beginning, beginningRead, leaving}
+use Rattle.points.specs.Stepping.{stepping, StepLeaves}
 use Rattle.points.specs.Reading.{ReadLeaves, locateRefusal, locating}
 use Rattle.log.proofs.Replies.{number-back, done-none, opened-replies}
 use Rattle.recovery.specs.World.{serve}
 use Rattle.recovery.specs.Claim.{Answered, NoFault}
-use Rattle.recovery.specs.Served.{OpenServed, JoinServed, BeginServed, StepServed, LeaveServed, ReadServed, LocateServed}
+use Rattle.recovery.specs.Served.{OpenServed, JoinServed, BeginServed, BeginReadServed, StepServed, LeaveServed, ReadServed, LocateServed}
 use Rattle.recovery.proofs.Answered.{answered}
 use Rattle.recovery.proofs.NoFault.{no-fault}
 
@@ -44,10 +43,19 @@ module _ (words : List ℕ) (s : Shared) where
   unfolding BeginServed serve
   begin-served p offset text r e w n q h = rw (e, h .record-is, h .image, h .shared)
 
-  pub step-served : (p : Point) (r : Stepped) (stored : List ℕ) → r ≡ plan.answered (stepping one words s p)
-      → stored ≡ after one words (stepping one words s p .store) → StepServed one words s p r stored
+  pub begin-read-served : (p : Point) (offset size : ℕ) (r : Begun) → r ≡ beginningRead one words s p offset size
+      → BeginReadServed one words s p offset size r
+  unfolding BeginReadServed serve
+  begin-read-served p offset size r e w n q h = rw (e, h .record-is, h .image, h .shared)
+
+  pub step-served : (p : Point) (lent : List ℕ) (r : Stepped) (stored bytes : List ℕ) → StepLeaves words s p lent r stored bytes
+      → StepServed one words s p lent r stored bytes
   unfolding StepServed serve
-  step-served p r stored e f w n q h = rw (e, f, h .record-is, h .image, h .shared)
+  step-served p lent r stored bytes l w n q h = record {
+    answer = stepping one words s p .bytes;
+    handed = l .handed;
+    served = rw (l .answers, l .stored, h .record-is, h .image, h .shared);
+  }
 
   pub leave-served : (p : Point) (r : Left) → r ≡ leaving one words s p → LeaveServed one words s p r
   unfolding LeaveServed serve

@@ -5,7 +5,7 @@ use Prim.Native.Nat.{ℕ, _+_, _*_, _<_}
 use mathlib.Core.Path.{_≡_}
 use mathlib.Core.Bool.{true, false}
 use mathlib.Core.List.{List, _++_}
-use lib.ListN.{length, getD, take, drop}
+use lib.ListN.{length, getD, drop}
 use Rattle.words.specs.Edition.{Edition, blockBytes, fileBlocks}
 use Rattle.words.specs.Memory.{memory}
 use Rattle.log.specs.declared.Reply.the-variants.{Done}
@@ -18,11 +18,10 @@ use Rattle.points.specs.declared.Point.{Point}
 use Rattle.points.specs.declared.Count.{Count}
 use Rattle.points.specs.declared.Joined.{Joined}
 use Rattle.points.specs.declared.Begun.{Begun}
-use Rattle.points.specs.declared.StepAnswer.{StepAnswer}
-use Rattle.points.specs.declared.StepAnswer.the-variants.{Stored, Moved, Extending, Committed, Refused, Copied, Bytes}
 use Rattle.points.specs.declared.Stepped.{Stepped}
 use Rattle.points.specs.declared.Left.{Left}
 use Rattle.points.specs.Record.{isJoined}
+use Rattle.points.specs.Stepping.{bytesAfter}
 use Rattle.recovery.specs.World.{World, join, begin, beginRead, step, leave, joined, begun, begunRead, stepped, left}
 use Rattle.recovery.specs.World.{handed, withNewest, joinedAs, serve, start}
 use Rattle.recovery.specs.History.{History, openWorld, atCut, bookFile, isFault}
@@ -62,26 +61,18 @@ BeginReadServed E words s p offset size r =
       world = record { words = words; shared = r .shared; newest = withNewest w n (r .point) };
     }
 
--- how many bytes came back beside an answer
-abbrev pub bytesBeside : StepAnswer → ℕ
-bytesBeside Stored = 0
-bytesBeside Moved = 0
-bytesBeside Extending = 0
-bytesBeside (Committed retries) = 0
-bytesBeside (Refused n) = 0
-bytesBeside Copied = 0
-bytesBeside (Bytes n) = n
+-- with the image and the lent bytes as the step leaves them: the event has the bytes that came back, which are the first of those lent, and the others are
+-- as they were
+pub record StepServedAs (E : Edition) (w : World) (n : ℕ) (q p : Point) (lent : List ℕ) (r : Stepped) (stored bytes : List ℕ) : Type 0 where
+  pub answer : List ℕ
+  pub handed : bytes ≡ bytesAfter answer lent
+  pub served : serve E w (step n q) ≡ record {
+    event = stepped n (p .head) (r .step) answer;
+    world = record { words = stored; shared = r .shared; newest = withNewest w n (r .point) };
+  }
 
--- with the image and the lent bytes as the step leaves them: the event has those that came back, and the others are as they were lent
 unfoldable pub StepServed : Edition → List ℕ → Shared → Point → List ℕ → Stepped → List ℕ → List ℕ → Type 0
-StepServed E words s p lent r stored bytes =
-    let n = bytesBeside (r .step) in
-    (drop n bytes ≡ drop n lent)
-    × ((w : World) (k : ℕ) (q : Point) → HandsIn w words s k q p
-    → serve E w (step k q) ≡ record {
-      event = stepped k (p .head) (r .step) (take n bytes);
-      world = record { words = stored; shared = r .shared; newest = withNewest w k (r .point) };
-    })
+StepServed E words s p lent r stored bytes = (w : World) (n : ℕ) (q : Point) → HandsIn w words s n q p → StepServedAs E w n q p lent r stored bytes
 
 unfoldable pub LeaveServed : Edition → List ℕ → Shared → Point → Left → Type 0
 LeaveServed E words s p r =

@@ -1,5 +1,7 @@
 -- `c_lent::locate`: refused where the record's numbers are none, else as the call answers. Assumes nothing.
-use mathlib.Core.Path.{_∙_}
+use mathlib.Core.Path.{_∙_, ap}
+use Rattle.points.specs.declared.Numbers.{Numbers}
+use Rattle.points.specs.Search.{sharedOf}
 use Rattle.c_lent.specs.Numbers.{sharedLent, textless}
 use Rattle.c_lent.proofs.Calls.{tests-none, tests-known, is-none, locate-known}
 use borrow.Author.Needs.{needs}
@@ -27,8 +29,8 @@ returns c =
     ∙ is-none (a .image .now) (sharedLent (a .shared) (a .taken)) (textless (a .head) (a .table)) _ _
     (tests-none (t .before .is-known .ensures) (t .if1 .taken)) _ (c .before .unknown .ensures (a .taken .now))
 
-shared-requires : tie.Need-shared-requires
-shared-requires c κs = search needs
+lead-requires : tie.Need-lead-requires
+lead-requires c κs = search needs
 
 head-requires : tie.Need-head-requires
 head-requires c κs = let t = c .before in tests-known (t .before .is-known .ensures) (t .if1 .left)
@@ -45,9 +47,10 @@ returns-2 c =
     let s = h .before in
     let t = s .before in
     let a = start (t .before) .args in
+    let shared = ap (λ (n : Numbers). sharedOf n (a .taken .now)) (s .lead .ensures) in
     locate-known (a .image .now) (sharedLent (a .shared) (a .taken)) (textless (a .head) (a .table))
-    (tests-known (t .before .is-known .ensures) (t .if1 .left)) _ (h .head .ensures) _ (s .shared .ensures) (a .block)
-    _ _ (c .before .locate-lent .ensures) (c .of-count .ensures)
+    (tests-known (t .before .is-known .ensures) (t .if1 .left)) _ (h .head .ensures) _ shared (a .block)
+    _ _ (c .before .locate-lent .ensures (a .taken .now)) (c .of-count .ensures)
 
 pub locate-spec : {M : Type 1} → statement M
 locate-spec =
@@ -57,7 +60,7 @@ locate-spec =
     unknown-requires
     no-count-requires
     returns
-    shared-requires
+    lead-requires
     head-requires
     locate-lent-requires
     of-count-requires

@@ -18,8 +18,8 @@ use Rattle.words.specs.Memory.{memory}
 use Rattle.log.specs.CatchUp.{broken, ahead}
 use Rattle.log.specs.Opening.{badEntry}
 use Rattle.points.specs.declared.Point as PP
-use Rattle.points.specs.Record.{isJoined, isIdle, isZeroing, runBlocks, runWords, fits, headFits, tableFits, writeFits, zeroingFits}
-use Rattle.points.specs.Record.{placeFits, inside, badShared, recordReasons}
+use Rattle.points.specs.Record.{isJoined, isIdle, isZeroing, isReading, isWriting, runBlocks, runWords, rangeWords}
+use Rattle.points.specs.Record.{fits, headFits, tableFits, workFits, writeFits, rangeFits, zeroingFits, placeFits, inside, badShared, recordReasons}
 use Rattle.points.specs.Stepping.{stepRefusal}
 use Rattle.recovery.specs.World as W
 use Rattle.recovery.specs.Book.{Book}
@@ -27,6 +27,7 @@ use Rattle.words.proofs.Logic.{all-every, none-any, and-both}
 use Rattle.words.proofs.Choice.{choose-true, choose-false}
 use Rattle.words.proofs.Tests.{not-of, not-no}
 use Rattle.points.proofs.RecordFacts.{shared-fits}
+use Rattle.points.proofs.Phases.{writing-busy, is-writing}
 use Rattle.recovery.proofs.Model.LogPlace.{numbered-high}
 use Rattle.recovery.proofs.Model.Walk.{walk-in, walk-slot}
 use Rattle.recovery.proofs.Model.Use.{chain, super, in-image}
@@ -36,7 +37,7 @@ use Rattle.recovery.proofs.Model.Keep.{run-in}
 use Rattle.recovery.proofs.Model.Span.{spans}
 use Rattle.recovery.proofs.Opening.Legal.{walk-legal}
 use Rattle.recovery.proofs.Calls.Begin.{ahead-is}
-use Rattle.recovery.proofs.Calls.Mapping.{Tied, worldOf, pointOf, writeOf, phaseIn, zeroing-phase, other-phase}
+use Rattle.recovery.proofs.Calls.Mapping.{Tied, worldOf, pointOf, writeOf, phaseIn, zeroing-phase, other-phase, reading-work}
 use Rattle.recovery.proofs.Calls.StepTied.{isBusy, sp}
 
 below-all : (B : ℕ) (l : List ℕ) → ((i : ℕ) → getD l i 0 < B) → all-of (λ b. ltb b B) l ≡ true
@@ -89,7 +90,7 @@ module _ {E : Edition} {L : List ℕ} (w : W.World) (bk : Book) (h : Tied E L w 
         )
 
     -- its write, if it has one
-    module _ (busyPhase : isIdle (p .head .write .phase) ≡ false) where
+    module _ (busyPhase : isWriting (p .head .write .phase) ≡ true) where
       abbrev v : WriteState
       v = writeOf (phaseIn (p .head .write .phase)) (p .head .write) (p .text)
 
@@ -100,7 +101,7 @@ module _ {E : Edition} {L : List ℕ} (w : W.World) (bk : Book) (h : Tied E L w 
       wi = the-write (worldOf w) bk (h .inv) n v j busyWork
 
       sized : length (v .text) ≡ p .head .write .size
-      sized = length-take-le (p .head .write .size) (p .text) (h .texts n j busyPhase)
+      sized = length-take-le (p .head .write .size) (p .text) (h .texts n j (writing-busy (p .head .write .phase) busyPhase))
 
       run-from : 1 ≤ p .head .write .run
       run-from =
@@ -154,10 +155,29 @@ module _ {E : Edition} {L : List ℕ} (w : W.World) (bk : Book) (h : Tied E L w 
         ),
       )
 
+    -- its read, if it has one
+    range-fits : isReading (p .head .write .phase) ≡ true → rangeFits E (p .head .write) ≡ true
+    unfolding rangeFits
+    range-fits r =
+        let i = (rw (reading-work (p .head .write .phase) (p .head .write) (p .text) r) at (pi .work)) .1 in
+        all-every _ (
+          not-no _ (not-of _ (is-between 1 (p .head .write .size) 1024 (i .some) (i .few))),
+          (
+            not-no _ (le-ltb (fileEnd E) (p .head .write .offset + p .head .write .size) (i .ends)),
+            (le-leb (p .head .write .position) (rangeWords (p .head .write)) (i .place), tt),
+          ),
+        )
+
+    work-fits : (b : Bool) → isReading (p .head .write .phase) ≡ b → isIdle (p .head .write .phase) ≡ false
+        → workFits E B (p .head .place) (p .head .write) ≡ true
+    work-fits true r e = choose-true (isReading (p .head .write .phase)) (rangeFits E (p .head .write)) _ r ∙ range-fits r
+    work-fits false r e = choose-false (isReading (p .head .write .phase)) (rangeFits E (p .head .write)) _ r
+        ∙ write-fits (is-writing (p .head .write .phase) e r)
+
     idle-or-fits : (b : Bool) → isIdle (p .head .write .phase) ≡ b
-        → (elim (isIdle (p .head .write .phase)) [ true ↦ true | false ↦ writeFits E B (p .head .place) (p .head .write) ]) ≡ true
+        → (elim (isIdle (p .head .write .phase)) [ true ↦ true | false ↦ workFits E B (p .head .place) (p .head .write) ]) ≡ true
     idle-or-fits true e = choose-true (isIdle (p .head .write .phase)) true _ e
-    idle-or-fits false e = choose-false (isIdle (p .head .write .phase)) true _ e ∙ write-fits e
+    idle-or-fits false e = choose-false (isIdle (p .head .write .phase)) true _ e ∙ work-fits (isReading (p .head .write .phase)) refl e
 
     all-fits : fits E B (p .head) (p .table) ≡ true
     unfolding fits headFits tableFits

@@ -1,9 +1,9 @@
--- What a call that is not the point's own step, and not its leaving, leaves to a point whose write is under way: the image, its record, its bit.
+-- What a call that is not the point's own step, and not its leaving, leaves to a point whose write or read is under way: the image, its record, its bit.
 -- Its own joining and beginning are refused, by 13 and 15.
 use mathlib.Core.Path.{_≡_, refl, sym, ap, _∙_, subst}
 use mathlib.Core.Logic.{_≢_}
 use mathlib.Core.List.{List}
-use mathlib.Core.Bool.{true, false}
+use mathlib.Core.Bool.{true, false, not}
 use Prim.Native.Nat.{ℕ, zero, suc, _<_}
 use lib.ListN.{length, getD}
 use borrow.Author.Tests.{not-false}
@@ -13,15 +13,16 @@ use Rattle.points.specs.declared.Joined.{Joined}
 use Rattle.points.specs.declared.Begun.{Begun}
 use Rattle.points.specs.declared.Left.{Left}
 use Rattle.points.specs.Record.{isJoined, isIdle, unfit}
-use Rattle.points.specs.Calls.{joining, joinRefusal, beginning, beginRefusal, leaving}
-use Rattle.recovery.specs.World.{World, join, begin, leave, handed, withNewest, joinedAs, serve}
+use Rattle.points.specs.Calls.{joining, joinRefusal, beginning, beginRefusal, beginningRead, beginReadRefusal, leaving}
+use Rattle.recovery.specs.World.{World, join, begin, beginRead, leave, handed, withNewest, joinedAs, serve}
 use Rattle.recovery.specs.Book.{Book}
 use Rattle.words.proofs.WithBit.{withBit-other}
 use Rattle.words.proofs.Tests.{no-true}
-use Rattle.points.proofs.NotRefused.{join-apart, begin-idle, leave-joined}
+use Rattle.points.proofs.NotRefused.{join-apart, begin-either, begin-idle, leave-joined}
 use Rattle.recovery.proofs.Calls.Mapping.{Tied, handed-newest, is-joined, withNewest-other, withNewest-handed}
 use Rattle.recovery.proofs.Calls.Join.{join-eq-done, join-eq-refused}
 use Rattle.recovery.proofs.Calls.Begin.{begin-eq-done, begin-eq-refused}
+use Rattle.recovery.proofs.Calls.Read.{begin-read-eq-done, begin-read-eq-refused}
 use Rattle.recovery.proofs.Calls.Leave.{leave-eq-done, leave-eq-refused}
 
 pub record Kept (w v : World) (n : ℕ) : Type 0 where
@@ -45,6 +46,11 @@ module _ {E : Edition} {L : List ℕ} (w : World) (bk : Book) (h : Tied E L w bk
           subst (λ (r : Joined). Kept w (after r) n) (sym (join-eq-done w bk h k e))
           (record { words = refl; newest = withNewest-other w k _ n apart; joined = withBit-other true (w .shared .joined) k n apart ∙ j })
 
+  -- one that begins is idle, so another
+  busy-apart : (k : ℕ) (p : PP.Point) → not (isIdle (handed w k p .head .write .phase)) ≡ false → n ≢ k
+  busy-apart k p e s =
+      no-true (ap (λ (q : PP.Point). isIdle (q .head .write .phase)) (sym (handed-newest w k p (rw s at j))) ∙ not-false _ e) (rw s at busy)
+
   pub begin-kept : (k : ℕ) (p : PP.Point) (o : ℕ) (text : List ℕ) → ((i : ℕ) → getD text i 0 < 256)
       → Kept w (serve E w (begin k p o text) .world) n
   unfolding serve
@@ -61,11 +67,27 @@ module _ {E : Edition} {L : List ℕ} (w : World) (bk : Book) (h : Tied E L w bk
       go (suc i) e = subst (λ (r : Begun). Kept w (after r) n) (sym (begin-eq-refused w bk h k p o text bytes y i e))
           (record { words = refl; newest = withNewest-handed w k p n j; joined = j })
       go zero e =
-          let idle : isIdle (y .head .write .phase) ≡ true = not-false _ (begin-idle E (w .words) (w .shared) y o text e) in
-          let apart : n ≢ k = λ s.
-          no-true (ap (λ (q : PP.Point). isIdle (q .head .write .phase)) (sym (handed-newest w k p (rw s at j))) ∙ idle) (rw s at busy) in
+          let apart = busy-apart k p (begin-idle E (w .words) (w .shared) y o (length text) (begin-either E (w .words) (w .shared) y o (length text) e)) in
           subst (λ (r : Begun). Kept w (after r) n) (sym (begin-eq-done w bk h k p o text bytes y e))
           (record { words = refl; newest = withNewest-other w k _ n apart; joined = j })
+
+  pub begin-read-kept : (k : ℕ) (p : PP.Point) (o size : ℕ) → Kept w (serve E w (beginRead k p o size) .world) n
+  unfolding serve
+  begin-read-kept k p o size = go (beginReadRefusal E (w .words) (w .shared) (y .head) (y .table) o size) refl
+    where
+      y : PP.Point
+      y = handed w k p
+
+      after : Begun → World
+      after r = record { words = w .words; shared = r .shared; newest = withNewest w k (r .point) }
+
+      go : (i : ℕ) → beginReadRefusal E (w .words) (w .shared) (y .head) (y .table) o size ≡ i
+          → Kept w (after (beginningRead E (w .words) (w .shared) y o size)) n
+      go (suc i) e = subst (λ (r : Begun). Kept w (after r) n) (sym (begin-read-eq-refused w bk h k p o size y i e))
+          (record { words = refl; newest = withNewest-handed w k p n j; joined = j })
+      go zero e =
+          subst (λ (r : Begun). Kept w (after r) n) (sym (begin-read-eq-done w bk h k p o size y e))
+          (record { words = refl; newest = withNewest-other w k _ n (busy-apart k p (begin-idle E (w .words) (w .shared) y o size e)); joined = j })
 
   pub leave-kept : (k : ℕ) (p : PP.Point) → k ≢ n → Kept w (serve E w (leave k p) .world) n
   unfolding serve

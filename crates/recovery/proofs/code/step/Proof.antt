@@ -12,9 +12,9 @@ same-length c = search needs
 
 returns : tie.Need-returns
 returns c =
-    let a = c .before .before .before .before .before .args in
+    let a = c .before .before .before .before .before .before .args in
     let s = c .before .before .step in
-    step-served (a .image .now) (a .shared) (a .point) (s .result) _ (s .ensures .answers) (s .ensures .stored)
+    step-served (a .image .now) (a .shared) (a .point) (a .bytes .now) (s .result) _ _ (s .ensures)
 
 pub step-spec : {M : Type 1} → statement M
 step-spec = tie.close (tie.spec step-requires same-length returns)
