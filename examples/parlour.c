@@ -28,6 +28,7 @@ static size_t words; /* of the image that are used */
 static store_shared shared;
 static store_point points[STORE_POINTS];
 static uint16_t scratch[STORE_SCRATCH];
+static uint8_t bytes[STORE_TEXT_MOST]; /* for reads in steps: examples/display.c */
 static size_t reserved; /* bytes of the file that have been given to readings */
 static size_t places[STORE_POINTS];
 static int has_place[STORE_POINTS];
@@ -146,7 +147,7 @@ static void begin_oldest(uint32_t p)
 
 static void step(uint32_t p)
 {
-    store_answer answer = store_step(image, words, &shared, &points[p]);
+    store_answer answer = store_step(image, words, &shared, &points[p], bytes);
     steps++;
     if (answer.word != 0)
         make_lasting(answer.word); /* before anything else is stored */

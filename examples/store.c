@@ -16,6 +16,7 @@ static uint64_t image[WORDS];
 static uint16_t scratch[STORE_SCRATCH];
 static store_shared shared;
 static store_point points[POINTS];
+static uint8_t bytes[STORE_TEXT_MOST]; /* for reads in steps, of which there are none here: examples/display.c has them */
 
 /* The readings, and where each stall's lies in the file: the first in block 1, the other two in block 0. */
 static const char *const readings[POINTS] = {"stall 0  11.2 kg  38.4 C", "stall 1   9.8 kg  38.6 C", "stall 2  12.5 kg  38.5 C"};
@@ -44,7 +45,7 @@ static void begin(unsigned i, const char *text)
 /* Makes one step of the point's write; 1 as long as there are more to make. */
 static int step(unsigned i)
 {
-    store_answer answer = store_step(image, WORDS, &shared, &points[i]);
+    store_answer answer = store_step(image, WORDS, &shared, &points[i], bytes);
     switch (answer.kind) {
     case STORE_STORED:
     case STORE_EXTENDING:
@@ -83,9 +84,9 @@ static void look(void)
             printf("block %u of the file is block %u of the image\n", v, (unsigned)rows[v]);
     for (unsigned i = 0; i < POINTS; i++) {
         uint8_t buffer[SIZE];
-        store_count bytes = store_read(image, WORDS, &shared, &points[i], places[i], buffer, sizeof buffer);
-        done(bytes.refused);
-        must(bytes.count == SIZE, "a read is short");
+        store_count count = store_read(image, WORDS, &shared, &points[i], places[i], buffer, sizeof buffer);
+        done(count.refused);
+        must(count.count == SIZE, "a read is short");
         must(memcmp(buffer, readings[i], SIZE) == 0, "a read shows something else than was committed");
         printf("read: \"%.*s\"\n", SIZE, (const char *)buffer);
     }

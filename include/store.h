@@ -14,9 +14,9 @@
        one call at a time for a file; between two calls anything may happen, loss of power included.
 
    What is answered. A refusal is the number of the first fault, by name below; 0 is no refusal. A call that is refused leaves image
-   and records as they were, a write under way too, with these exceptions: STORE_LOG_FULL and STORE_NO_LOG_BLOCK end the write; a
-   refused opening makes a shared record of zeros, a refused joining a point's record of zeros. Only store_lay_out and store_step
-   write to the image, and store_step stores at most one word. */
+   and records as they were, a write or a read under way too, with these exceptions: STORE_LOG_FULL and STORE_NO_LOG_BLOCK end the
+   write; a refused opening makes a shared record of zeros, a refused joining a point's record of zeros. Only store_lay_out and
+   store_step write to the image, and store_step stores at most one word, in a read none. */
 
 #ifndef STORE_H
 #define STORE_H
@@ -36,13 +36,13 @@ enum {
     STORE_SCRATCH = 1024,      /* numbers of a scratch, at least */
     STORE_VIRTUAL_BLOCKS = 256,
     STORE_FILE_MOST = 131072,  /* bytes of a file */
-    STORE_TEXT_MOST = 1024,    /* bytes of one write */
+    STORE_TEXT_MOST = 1024,    /* bytes of one write, and of one read in steps */
     STORE_POINTS = 32          /* points, numbered 0 to 31 */
 };
 
 /* The version of this header: it rises when a call, a record or the image changes. A program compares it with what the library that
    it is linked with answers, before any other call: a library of another version may take its records for something else. */
-enum { STORE_VERSION = 2 };
+enum { STORE_VERSION = 3 };
 uint32_t store_version(void);
 
 /* Why a call is refused; store_reason has a sentence for each. */
@@ -91,9 +91,9 @@ static inline const char *store_reason(uint32_t number)
         "the point number is above 31",
         "the point is joined already",
         "the point is not joined",
-        "a write was begun with one under way, or a step made with none",
-        "the text has 0 or more than 1,024 bytes",
-        "the write ends past byte 131,072, or the block asked for is above 255",
+        "a write or a read was begun with one under way, or a step made with none",
+        "the text, or the range to be read, has 0 or more than 1,024 bytes",
+        "the write, or the range to be read, ends past byte 131,072, or the block asked for is above 255",
         "the log, read on, has a wrong entry or index, or more than 64 log blocks",
         "no run of so many free blocks",
         "64 log blocks are full; the write is ended",
@@ -106,10 +106,12 @@ static inline const char *store_reason(uint32_t number)
 /* What a step answers. */
 enum {
     STORE_STORED = 1,     /* one word of the image was stored; step again */
-    STORE_MOVED = 2,      /* others came first, nothing was stored; step again */
+    STORE_MOVED = 2,      /* others came first, nothing was stored; a read is copied anew; step again */
     STORE_EXTENDING = 3,  /* a block was taken for the log; step again */
     STORE_COMMITTED = 4,  /* the write is real; the value is how often it was moved */
-    STORE_REFUSED = 5     /* the value says why */
+    STORE_REFUSED = 5,    /* the value says why */
+    STORE_COPIED = 6,     /* one word of the file was copied into the point's record; step again */
+    STORE_BYTES = 7       /* the read is done; the value is how many bytes it has */
 };
 
 /* What a point is doing. */
@@ -119,7 +121,8 @@ enum {
     STORE_REFILL_FIRST = 2,
     STORE_REFILL_LAST = 3,
     STORE_REFILL_BOTH = 4,
-    STORE_ZEROING = 5
+    STORE_ZEROING = 5,
+    STORE_READING = 6
 };
 
 /* The shared record of an opened image: one for all points. Opening makes it; loss of power may take it. */
@@ -134,9 +137,9 @@ typedef struct store_head {
     uint32_t number;               /* 0 to 31 */
     uint32_t length;               /* the file's, as the point knows it */
     uint32_t block, slot, passed;  /* where it stands in the log */
-    uint32_t offset, size;         /* its write: from which byte of the file, and how many */
+    uint32_t offset, size;         /* its write or read: from which byte of the file, and how many */
     uint32_t run;                  /* the first of the blocks that are being filled */
-    uint32_t phase, position;      /* what it is doing, one of the six above, and at which word */
+    uint32_t phase, position;      /* what it is doing, one of the seven above, and at which word */
     uint32_t zeroing;              /* the log block being zeroed */
     uint32_t retries;              /* how often the write was moved, at most 65,535 */
 } store_head;
@@ -145,7 +148,7 @@ typedef struct store_head {
 typedef struct store_point {
     store_head head;
     uint16_t table[256];  /* the block of the image for each block of the file, 0 for none */
-    uint8_t text[1024];   /* of its write */
+    uint8_t text[1024];   /* of its write, or what its read has copied */
 } store_point;
 
 /* What opening answers: the refusal, the file's length, and the counts of log entries and of free blocks. */
@@ -153,8 +156,8 @@ typedef struct store_opened {
     uint32_t refused, length, entries, free;
 } store_opened;
 
-/* What a step answers: one of the five; its value, 0 for the first three; and which word of the image it stored, 0 for none: a step
-   never stores word 0. Where the image is cached, image[word] is what has to be written back. */
+/* What a step answers: one of the seven; its value, 0 where none is named there; and which word of the image it stored, 0 for none: a
+   step never stores word 0. Where the image is cached, image[word] is what has to be written back. */
 typedef struct store_answer {
     uint32_t kind, value;
     size_t word;
@@ -206,13 +209,27 @@ uint32_t store_join(const uint64_t *image, size_t words, store_shared *shared, u
 uint32_t store_begin(const uint64_t *image, size_t words, store_shared *shared, store_point *point, size_t offset,
                      const uint8_t *bytes, size_t size);
 
-/* A step of the point's write: at most one word of the image is stored. Step on until STORE_COMMITTED or STORE_REFUSED; a point that
-   steps alone is done after at most 388 steps, and other points may take steps between.
+/* Begins a read of `size` bytes, 1 to 1,024, from byte `offset` of the file on, in steps: the other points need not wait for it. It may
+   pass the file's end, and takes no block. (store_read reads at once.)
    Lent: the image and both records.
-   Refusals, as value of STORE_REFUSED: 10, 11, 14, 15, 18, after which the write is still under way; 20, 21, which end it. */
-store_answer store_step(uint64_t *image, size_t words, store_shared *shared, store_point *point);
+   Refusals: 10, 11, 14, 15, 16, 17, 18. */
+uint32_t store_begin_read(const uint64_t *image, size_t words, const store_shared *shared, store_point *point, size_t offset,
+                          size_t size);
 
-/* The point leaves; a write that was under way is given up, and its blocks become free.
+/* A step of the point's write or read; other points may take steps between.
+   A write: at most one word of the image is stored. Step on until STORE_COMMITTED or STORE_REFUSED; a point that steps alone is done
+   after at most 388 steps.
+   A read: nothing is stored. Step on until STORE_BYTES or STORE_REFUSED; a point that steps alone is done after at most 260 steps. Each
+   step copies a word, and the last one looks at what was committed meanwhile: over blocks of the range, or past an end of the file that
+   lies in it, it answers STORE_MOVED and the read begins again; else STORE_BYTES, and the bytes are the file's as of that step, 0 past
+   its end.
+   Lent: the image, both records, and `bytes`, room for 1,024 bytes. With STORE_BYTES the read's come to its front; no other step touches
+   it, nor what lies behind them, so one room serves all points.
+   Refusals, as value of STORE_REFUSED: 10, 11, 14, 15, 18, after which the write or the read is still under way; 20, 21, which end the
+   write. */
+store_answer store_step(uint64_t *image, size_t words, store_shared *shared, store_point *point, uint8_t *bytes);
+
+/* The point leaves; a write or a read that was under way is given up, and a write's blocks become free.
    Lent: the image, the shared record, and the point's record, which is of no use afterwards. Refusals: 10, 11, 14. */
 uint32_t store_leave(const uint64_t *image, size_t words, store_shared *shared, const store_point *point);
 

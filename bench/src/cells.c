@@ -37,6 +37,13 @@ static struct {
     uint8_t text[STORE_TEXT_MOST], buffer[STORE_TEXT_MOST];
 } memory __attribute__((aligned(4096)));
 
+/* The step of this side's header: up to version 2 it is lent no room for the bytes of a read. */
+#ifdef STEP_WITHOUT_BYTES
+#define step(shared, point) store_step(image, WORDS, shared, point)
+#else
+#define step(shared, point) store_step(image, WORDS, shared, point, memory.buffer)
+#endif
+
 static uint64_t *const image = memory.image;
 static uint16_t *const scratch = memory.scratch;
 static uint8_t *const text = memory.text;
@@ -69,7 +76,7 @@ static void begin_at(store_point *point, size_t offset, size_t size)
 static void finish(store_point *point)
 {
     while (point->head.phase != STORE_IDLE)
-        must(store_step(image, WORDS, &kept->shared, point).kind != STORE_REFUSED);
+        must(step(&kept->shared, point).kind != STORE_REFUSED);
 }
 
 static void begun(void)
@@ -82,7 +89,7 @@ static void filled(void)
 {
     begun();
     for (size_t w = 0; w < now->size / 8; w++)
-        must(store_step(image, WORDS, &kept->shared, &kept->point).kind == STORE_STORED);
+        must(step(&kept->shared, &kept->point).kind == STORE_STORED);
 }
 
 static void written(void)
@@ -110,7 +117,7 @@ static void moved(void)
     begin_at(&other, 0, 8);
     finish(&other);
     do
-        answer = store_step(image, WORDS, &kept->shared, &kept->point);
+        answer = step(&kept->shared, &kept->point);
     while (answer.kind == STORE_STORED);
     must(answer.kind == STORE_MOVED);
 }
@@ -194,13 +201,13 @@ static void nothing(records *r)
 
 static void fill(records *r)
 {
-    must(store_step(image, WORDS, &r->shared, &r->point).kind == STORE_STORED);
+    must(step(&r->shared, &r->point).kind == STORE_STORED);
 }
 
 /* A commit; its entry is taken out again, for the next copy. */
 static void commit(records *r)
 {
-    store_answer answer = store_step(image, WORDS, &r->shared, &r->point);
+    store_answer answer = step(&r->shared, &r->point);
     must(answer.kind == STORE_COMMITTED);
     image[answer.word] = 0;
 }

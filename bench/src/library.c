@@ -33,10 +33,13 @@ uint32_t bench_begin(const uint64_t *image, size_t words, store_shared *shared, 
     return store_begin(image, words, shared, &points[number], offset, text, length);
 }
 
+/* Room for the bytes of a read in steps. */
+static uint8_t bytes[STORE_TEXT_MOST];
+
 /* One step: the kind of its answer. */
 uint32_t bench_step(uint64_t *image, size_t words, store_shared *shared, store_point *points, uint32_t number)
 {
-    return store_step(image, words, shared, &points[number]).kind;
+    return store_step(image, words, shared, &points[number], bytes).kind;
 }
 
 void bench_rewind(store_point *points, uint32_t number) { points[number].head.position = 0; }
@@ -56,7 +59,7 @@ uint32_t bench_fill_block(uint64_t *image, size_t words, store_shared *shared, s
     for (size_t i = 0; i < times; i++) {
         points[0].head.position = 0;
         for (size_t w = 0; w < 64; w++)
-            if (store_step(image, words, shared, &points[0]).kind != 1)
+            if (store_step(image, words, shared, &points[0], bytes).kind != 1)
                 return 1;
     }
     return 0;
@@ -97,7 +100,7 @@ static inline __attribute__((always_inline)) uint32_t turns(uint64_t *image, siz
         for (size_t p = first; p < first + count; p++) {
             if (points[p].head.phase == 0)
                 continue;
-            store_answer answer = store_step(image, words, shared, &points[p]);
+            store_answer answer = store_step(image, words, shared, &points[p], bytes);
             if (how != PLAIN && answer.word != 0)
                 make_lasting(&image[answer.word], how);
             tally[answer.kind]++;

@@ -14,6 +14,7 @@ static uint32_t numbers[STORE_POINTS]; /* of each point's reading that is writte
 static int said[STORE_POINTS];         /* it is acknowledged already; only where it is done too early */
 static int scarce;                     /* so few blocks are free that no write begins while another is under way */
 static uint64_t dice;
+static uint8_t bytes[STORE_TEXT_MOST]; /* for reads in steps, of which there are none */
 
 static void say(uint32_t kind, uint32_t point, uint32_t value, const char *call)
 {
@@ -76,7 +77,7 @@ static void step(uint32_t p)
     if (early && will_commit(&records->points[p].head))
         acknowledge(p);
     records->calling = 1;
-    store_answer answer = store_step(image, words, &records->shared, &records->points[p]);
+    store_answer answer = store_step(image, words, &records->shared, &records->points[p], bytes);
     records->calling = 0;
     if (answer.kind == STORE_COMMITTED) {
         acknowledge(p);

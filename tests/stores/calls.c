@@ -15,7 +15,7 @@ static size_t shift_now;
 static int memory;
 static uint64_t state;
 static uint16_t scratch[STORE_SCRATCH + 8], rows[STORE_VIRTUAL_BLOCKS];
-static uint8_t text[TEXT_BYTES], buffer[ROOM];
+static uint8_t text[TEXT_BYTES], buffer[ROOM]; /* the buffer is also the room for the bytes of a read in steps */
 
 uint64_t any(void)
 {
@@ -132,6 +132,12 @@ uint32_t begin(store_point *point, size_t offset, size_t size)
     return after(BEGIN, store_begin(image, words, &shared, point, offset, text, size));
 }
 
+uint32_t begin_read(store_point *point, size_t offset, size_t size)
+{
+    before(BEGIN_READ);
+    return after(BEGIN_READ, store_begin_read(image, words, &shared, point, offset, size));
+}
+
 uint32_t leave(const store_point *point)
 {
     before(LEAVE);
@@ -154,11 +160,15 @@ static uint32_t answer_of(store_answer answer, const store_head *head)
             return head->position < STORE_BLOCK_WORDS ? ZEROED : LINKED;
         return head->phase == STORE_FILLING ? FILLED : REFILLED;
     case STORE_MOVED:
-        return zeroing ? LOST_LINK : CAUGHT_UP;
+        return head->phase == STORE_READING ? READ_MOVED : zeroing ? LOST_LINK : CAUGHT_UP;
     case STORE_EXTENDING:
         return EXTENDING;
     case STORE_COMMITTED:
         return COMMITTED;
+    case STORE_COPIED:
+        return COPIED;
+    case STORE_BYTES:
+        return READ_ENDED;
     default:
         return answer.kind == STORE_REFUSED && answer.value >= 1 && answer.value <= STORE_NOT_MAPPED ? answer.value : ODD;
     }
@@ -168,7 +178,7 @@ store_answer step(store_point *point)
 {
     store_head head = point->head;
     before(STEP);
-    store_answer answer = store_step(image, words, &shared, point);
+    store_answer answer = store_step(image, words, &shared, point, buffer);
     if (has_stored(answer))
         mark(WORD_MARK(answer.word % AREA_WORDS));
     mark(ANSWER_MARK(STEP, has_stored(answer) || answer.word == 0 ? answer_of(answer, &head) : ODD));

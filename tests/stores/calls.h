@@ -34,6 +34,7 @@ uint32_t open_image(size_t places);
 uint32_t list(size_t places);
 uint32_t join(uint32_t number, store_point *point);
 uint32_t begin(store_point *point, size_t offset, size_t size);
+uint32_t begin_read(store_point *point, size_t offset, size_t size);
 store_answer step(store_point *point);
 uint32_t leave(const store_point *point);
 uint32_t read_file(const store_point *point, size_t offset, size_t room);

@@ -52,6 +52,7 @@ static void two_points(void)
 static void all_calls(store_point *point)
 {
     begin(point, 40, 10);
+    begin_read(point, 40, 10);
     step(point);
     read_file(point, 0, 64);
     look(point, 1);
@@ -69,9 +70,9 @@ static void unfit_records(size_t p)
     points[p].head.slot = 65;
     all_calls(&points[p]);
     points[p].head.slot = 2;
-    points[p].head.phase += 6;
+    points[p].head.phase += 7;
     all_calls(&points[p]);
-    points[p].head.phase -= 6;
+    points[p].head.phase -= 7;
     points[p].head.retries = 65536;
     all_calls(&points[p]);
     points[p].head.retries = 0;
@@ -87,6 +88,11 @@ static void unfit_arguments(void)
     two_points();
     step(&points[0]);
     begin(&points[1], 0, 1);
+    begin_read(&points[1], 0, 1);
+    begin_read(&points[0], 0, 0);
+    begin_read(&points[0], 0, 1025);
+    begin_read(&points[0], 131071, 2);
+    begin_read(&points[0], 1, SIZE_MAX);
     begin(&points[0], 0, 0);
     begin(&points[0], 0, 1025);
     begin(&points[0], 131071, 2);
@@ -98,18 +104,23 @@ static void unfit_arguments(void)
     begin(&points[0], 0, 1);
 }
 
-/* 18: the log is damaged while in use. The write under way is filled before. */
+/* 18: the log is damaged while in use. The write under way is filled before, and the read is copied. */
 static void broken_log(void)
 {
     two_points();
+    join(6, &points[2]);
+    begin_read(&points[2], 0, 8);
+    step(&points[2]);
     steps(&points[1], 64);
     image[64 + 4] = UINT64_MAX;
     step(&points[1]);
+    step(&points[2]);
     begin(&points[0], 0, 1);
+    begin_read(&points[0], 0, 1);
     read_file(&points[0], 0, 64);
     look(&points[0], 0);
     image[1] = 8;
-    join(20, &points[2]);
+    join(20, &points[3]);
 }
 
 void run_directed(void)

@@ -50,7 +50,7 @@ store_answer steps(store_point *point, size_t most)
     store_answer answer = {STORE_REFUSED, 0, 0};
     for (size_t i = 0; i < most; i++) {
         answer = step(point);
-        if (answer.kind == STORE_COMMITTED || answer.kind == STORE_REFUSED)
+        if (answer.kind == STORE_COMMITTED || answer.kind == STORE_REFUSED || answer.kind == STORE_BYTES)
             break;
     }
     return answer;

@@ -54,7 +54,7 @@ static void other_call(const struct session *session, size_t p)
     }
 }
 
-/* Points take turns as the generator says: an idle one begins, another makes some steps. */
+/* Points take turns as the generator says: an idle one begins a write or a read, another makes some steps. */
 static void work(const struct session *session)
 {
     size_t writes = session->writes;
@@ -62,9 +62,11 @@ static void work(const struct session *session)
         size_t p = below(session->count);
         if (!is_idle(&points[p])) {
             steps(&points[p], 1 + below(60));
-        } else if (writes > 0) {
+        } else if (writes > 0 && below(3)) {
             writes--;
             begin(&points[p], below(session->reach), 1 + below(session->longest));
+        } else if (writes > 0) {
+            begin_read(&points[p], below(session->reach), 1 + below(session->longest));
         }
         other_call(session, p);
     }
@@ -82,6 +84,21 @@ static void race_for_link(size_t shift)
             step(&points[p]);
     steps(&points[0], 388);
     steps(&points[1], 388);
+}
+
+/* A point reads in steps; when it has copied all, another has committed into the range, then past it. */
+static void read_between(void)
+{
+    lend_chain(12, 2, 1, 4);
+    start(2, 9);
+    begin_read(&points[0], 20, 300);
+    steps(&points[0], 38);
+    begin(&points[1], 100, 30);
+    steps(&points[1], 388);
+    step(&points[0]);
+    begin(&points[1], 5000, 30);
+    steps(&points[1], 388);
+    steps(&points[0], 260);
 }
 
 /* 64 log blocks have room for one entry more. */
@@ -122,6 +139,7 @@ void run_honest(void)
     start(near.count, 11);
     work(&near);
     race_for_link(1);
+    read_between();
     last_entry();
     no_free_block();
 }
@@ -134,7 +152,7 @@ static void hurry(store_point *point)
             point->head.position = 62;
 }
 
-/* Two writes that meet in a block, a full log block, and each other call. */
+/* Two writes that meet in a block, a read in steps, a full log block, and each other call. */
 void run_short(void)
 {
     lend_empty(8, 0);
@@ -144,6 +162,8 @@ void run_short(void)
     hurry(&points[0]);
     hurry(&points[1]);
     step(&points[0]);
+    begin_read(&points[0], 490, 30);
+    steps(&points[0], 260);
     read_file(&points[0], 0, 100);
     look(&points[0], 0);
     look(&points[0], 9);

@@ -6,7 +6,7 @@ enum { ACTS = 48 }; /* of a run */
 /* A number at or beside the edge of some range, or any. */
 static uint32_t a_number(void)
 {
-    static const uint32_t edges[] = {0, 1, 2, 5, 6, 31, 32, 63, 64, 65, 128, 192, 512, 1024, 65535, 65536, 131072, UINT32_MAX};
+    static const uint32_t edges[] = {0, 1, 2, 5, 6, 7, 31, 32, 63, 64, 65, 128, 192, 512, 1024, 65535, 65536, 131072, UINT32_MAX};
     switch (below(4)) {
     case 0:
         return (uint32_t)any();
@@ -69,15 +69,16 @@ static void alter_shared(void)
     }
 }
 
-/* A write that nobody began. Mostly its numbers fit. */
+/* A write or a read that nobody began. Mostly its numbers fit. */
 static void alter_write(store_head *head)
 {
     size_t blocks = words / STORE_BLOCK_WORDS;
     head->offset = (uint32_t)below(131072);
     head->size = 1 + (uint32_t)below(1024);
-    head->phase = 1 + (uint32_t)below(5);
+    head->phase = 1 + (uint32_t)below(6);
     uint32_t spanned = (head->offset + head->size - 1) / BLOCK_BYTES - head->offset / BLOCK_BYTES + 1;
-    uint32_t most = STORE_BLOCK_WORDS * (head->phase == STORE_ZEROING ? 1 : spanned);
+    uint32_t touched = (head->offset + head->size - 1) / 8 - head->offset / 8 + 1;
+    uint32_t most = head->phase == STORE_READING ? touched : STORE_BLOCK_WORDS * (head->phase == STORE_ZEROING ? 1 : spanned);
     head->run = (uint32_t)(below(8) ? 1 + below(blocks - spanned) : below(blocks));
     head->zeroing = (uint32_t)(below(8) ? 1 + below(blocks - 1) : below(blocks + 1));
     head->position = below(2) ? most : (uint32_t)below(most + 2);
@@ -120,9 +121,12 @@ static void alter_point(store_point *point)
 static void call_with(store_point *point)
 {
     size_t offset = below(6) ? below(2000) : below(2) ? (size_t)any() : 131072 - below(2000);
-    switch (below(12)) {
+    switch (below(13)) {
     case 0:
         begin(point, offset, below(TEXT_BYTES));
+        break;
+    case 12:
+        begin_read(point, offset, below(8) ? below(TEXT_BYTES) : (size_t)any());
         break;
     case 1:
         read_file(point, offset, below(ROOM));
@@ -210,6 +214,8 @@ void run_hostile(size_t runs)
         for (size_t p = 0; p < POINTS; p++)
             if (below(3))
                 begin(&points[p], below(2000), 1 + below(1024));
+            else if (below(2))
+                begin_read(&points[p], below(2000), 1 + below(1024));
         for (size_t n = 0; n < ACTS; n++)
             act();
     }

@@ -25,9 +25,22 @@
 #define ANSWER_MARK(call, answer) (MARKS + MARKS_BYTES / 4 * 3 + 8 * (ANSWERS * (uint64_t)(call) + (uint64_t)(answer)))
 #define END_MARK (MARKS + MARKS_BYTES - 8)
 
-enum call { LAY_OUT, OPEN, LIST, JOIN, BEGIN, STEP, LEAVE, READ, LOCATE, VIEW, CALLS };
+enum call { LAY_OUT, OPEN, LIST, JOIN, BEGIN, BEGIN_READ, STEP, LEAVE, READ, LOCATE, VIEW, CALLS };
 
 /* What a call answers: its refusal, 1 to 22; 0 for none; for a step that is not refused one of these. ODD is what no call may answer. */
-enum answer { FILLED = 32, REFILLED, ZEROED, LINKED, CAUGHT_UP, LOST_LINK, EXTENDING, COMMITTED, ODD = ANSWERS - 1 };
+enum answer {
+    FILLED = 32,
+    REFILLED,
+    ZEROED,
+    LINKED,
+    CAUGHT_UP,
+    LOST_LINK,
+    EXTENDING,
+    COMMITTED,
+    COPIED,
+    READ_MOVED,
+    READ_ENDED,
+    ODD = ANSWERS - 1
+};
 
 #endif

@@ -17,7 +17,7 @@ void lend_chain(size_t blocks, size_t shift, size_t chained, size_t last);
 /* Opens the image, and the first `count` points join, numbered from `number` on. Answers opening's refusal. */
 uint32_t start(size_t count, uint32_t number);
 
-/* Steps until the write is done, but at most so often. Answers the last step's answer. */
+/* Steps until the write or read is done, but at most so often. Answers the last step's answer. */
 store_answer steps(store_point *point, size_t most);
 
 /* The runs. The short one makes each call and prints what memory holds then. */

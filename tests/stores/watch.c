@@ -18,14 +18,16 @@ enum { BLOCK_BYTES = 512, WIDEST = 64, PIECE = 1 << 20, FIRST = 120 };
 /* Each call with its answers: all must come up, and no other may. */
 static const struct {
     const char *name;
-    unsigned char answers[20]; /* how many, then which */
+    unsigned char answers[24]; /* how many, then which */
 } calls[CALLS] = {
     [LAY_OUT] = {"lay_out", {2, 0, 1}},
     [OPEN] = {"open", {10, 0, 1, 2, 3, 4, 5, 6, 7, 8, 9}},
     [LIST] = {"list", {10, 0, 1, 2, 3, 4, 5, 6, 7, 8, 9}},
     [JOIN] = {"join", {5, 0, 10, 12, 13, 18}},
     [BEGIN] = {"begin", {9, 0, 10, 11, 14, 15, 16, 17, 18, 19}},
-    [STEP] = {"step", {15, FILLED, REFILLED, ZEROED, LINKED, CAUGHT_UP, LOST_LINK, EXTENDING, COMMITTED, 10, 11, 14, 15, 18, 20, 21}},
+    [BEGIN_READ] = {"begin_read", {8, 0, 10, 11, 14, 15, 16, 17, 18}},
+    [STEP] = {"step", {18, FILLED, REFILLED, ZEROED, LINKED, CAUGHT_UP, LOST_LINK, EXTENDING, COMMITTED, COPIED, READ_MOVED, READ_ENDED,
+                       10, 11, 14, 15, 18, 20, 21}},
     [LEAVE] = {"leave", {4, 0, 10, 11, 14}},
     [READ] = {"read", {5, 0, 10, 11, 14, 18}},
     [LOCATE] = {"locate", {7, 0, 10, 11, 14, 17, 18, 22}},
@@ -43,12 +45,13 @@ static const struct {
     [LIST] = {"list", "listing makes none"},
     [JOIN] = {"join", "joining makes none"},
     [BEGIN] = {"begin", "beginning makes none"},
+    [BEGIN_READ] = {"begin_read", "beginning a read makes none"},
     [LEAVE] = {"leave", "leaving makes none"},
     [READ] = {"read", "reading makes none"},
     [LOCATE] = {"locate", "locating makes none"},
     [VIEW] = {"view", "viewing makes none"},
     [ONE] = {"one", "a step that answers Stored or Committed makes one store"},
-    [NONE] = {"none", "a step that answers Moved, Extending or Refused makes none"},
+    [NONE] = {"none", "a step that answers Moved, Extending, Refused, Copied or Bytes makes none"},
     [WIDTH] = {"width", "a step's store is eight bytes wide"},
     [ALIGNED] = {"aligned", "a step's store is aligned to eight bytes"},
     [INSIDE] = {"inside", "a step's store lies in the image that is lent"},
@@ -75,9 +78,10 @@ static int has_ended;
 /* The answer's name: a refusal is a number. */
 static const char *answer_name(unsigned answer)
 {
-    static const char *const names[] = {"fill", "refill", "zero", "link", "caught up", "lost link", "extending", "committed"};
+    static const char *const names[] = {"fill",      "refill",    "zero",   "link",       "caught up", "lost link",
+                                        "extending", "committed", "copied", "read moved", "read ended"};
     static char refusal[8];
-    if (answer >= FILLED && answer <= COMMITTED)
+    if (answer >= FILLED && answer <= READ_ENDED)
         return names[answer - FILLED];
     snprintf(refusal, sizeof refusal, "%u", answer);
     return answer == 0 ? "done" : answer == ODD ? "odd" : refusal;
@@ -200,7 +204,7 @@ static void see_line(const char *line)
 static void print_table(void)
 {
     for (unsigned call = 0; call < CALLS; call++) {
-        printf("%-8s", calls[call].name);
+        printf("%-10s", calls[call].name);
         for (unsigned i = 1; i <= calls[call].answers[0]; i++) {
             unsigned answer = calls[call].answers[i];
             printf(" %s:%ld", answer_name(answer), answered[call][answer]);

@@ -53,14 +53,14 @@ static void when_not(uint64_t *image)
 }
 
 /* With UNSEEN the honest step works at the other addresses of the same memory: its store is made, but not seen. */
-store_answer store_step(uint64_t *image, size_t words, store_shared *shared, store_point *point)
+store_answer store_step(uint64_t *image, size_t words, store_shared *shared, store_point *point, uint8_t *bytes)
 {
     store_head before = point->head;
     uint64_t *worked_on = image;
 #ifdef UNSEEN
     worked_on = (uint64_t *)((uintptr_t)image - (uintptr_t)AREA + (uintptr_t)AGAIN);
 #endif
-    store_answer answer = honest_store_step(worked_on, words, shared, point);
+    store_answer answer = honest_store_step(worked_on, words, shared, point, bytes);
     if (has_stored(answer))
         when_stored(image + stored_word(answer, &before, &point->head), image + words);
     else

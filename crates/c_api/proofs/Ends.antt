@@ -1,6 +1,7 @@
 -- What a walk's two ends need of each parameter, by its kind; and how a walk becomes the function's theorem.
 --     Kind             a parameter: what is had of it at exit (`stay`), its machine values (`vals`, `tells`), the law of what is had (`goes`)
---     slice-in, slice-out, record-in, record-out, number-in     the kinds: a `&` and a `&mut` slice, a `&` and a `&mut` record, a number
+--     slice-in, slice-out, record-in, record-out, array-out, number-in     the kinds: a `&` and a `&mut` slice, a `&` and a `&mut` record,
+--       a `&mut` array, a number
 --     Kinds, stays     for a function's parameters.      valued, passed     their machine values, by parameter and in a row
 --     Walked           what a walk shows.      Exits, ends-well     its last step: the contract's clause holds of what is had
 --     proved-by        the theorem, from the walk at every choice of lifetimes, shares and arguments, and the callee's theorem
@@ -35,8 +36,9 @@ use denote.Triple.Entry.{Args, Vals, Res, onEntry}
 use denote.Triple.Spec.{tripleOf}
 use denote.Triple.Statement.{Contract, Triple}
 use denote.Triple.Table.{entered, cited}
-use denote.Triple.Walked.{Stay, Stays, stay-none, stay-none-ref, stay-none-slice, stay-ref, gave-slice, Fit, onExit, walkOf, ends-at, walked, walk-meets}
-use denote.Triple.Walked.{Goes, AllGo, goes-none, goes-none-ref, goes-none-slice, goes-ref, goes-gave-slice}
+use denote.Triple.Walked.{Stay, Stays, stay-none, stay-none-ref, stay-none-slice, stay-ref, gave-ref, gave-slice}
+use denote.Triple.Walked.{Fit, onExit, walkOf, ends-at, walked, walk-meets}
+use denote.Triple.Walked.{Goes, AllGo, goes-none, goes-none-ref, goes-none-slice, goes-ref, goes-gave-ref, goes-gave-slice}
 
 module _ {n : ℕ} where
   pub record Kind (s : Slot n) (k : Kept) : Type 2 where
@@ -80,6 +82,14 @@ module _ {n : ℕ} where
       vals = λ _. ptr-vals;
       tells = λ κs. mut-tells (nameOf (j ∷ [])) (meetAt n (j ∷ []) ok κs) R;
       goes = λ 𝓤 H A W. goes-ref 𝓤 H A W n j ok to;
+    }
+
+    abbrev pub array-out : Kind (mutRefTo (j ∷ []) ok to) yes
+    array-out = record {
+      stay = gave-ref (j ∷ []) ok to;
+      vals = λ _. ptr-vals;
+      tells = λ κs. mut-tells (nameOf (j ∷ [])) (meetAt n (j ∷ []) ok κs) R;
+      goes = λ 𝓤 H A W. goes-gave-ref 𝓤 H A W n j ok to;
     }
 
   abbrev pub number-in : (w : Width) → Kind (plain (λ _. UInt w)) yes

@@ -3,7 +3,7 @@
 --     cells E vs Γ     the context Γ, and upon it for each local its cell and the right to free it, the last local at the head. The first locals hold vs
 --     depth k E i      where that context has local i, if k other entries stand before it
 --     starts, goes-home                          into a function, and out of it
---     lends-field, lends-start, lends-slice      the three kinds of assignment: a field of a record, a slice's start, a slice
+--     lends-field, lends-whole, lends-start, lends-slice      the four kinds of assignment: a field of a record, an array, a slice's start, a slice
 --     loads                                      a call's operands
 --     slice-fits, pointer-fits, number-fits      what such a step asks of a value
 -- Assumes `Given`.
@@ -191,6 +191,16 @@ module _ {M : Type 1} {𝓤 : URA M} {H : Heap 𝓤} {A : Atoms 𝓤} {K : Type 
         (runs C Λ E (seq (assign (place i []) (addrOf (place j (deref τ ∷ field k ∷ [])))) rest) q)
     lends-field t {i} {j} at-j is at-i ok = assigns t (addr t (from t (hop t (look t (depth 𝓤 H A 0 E j) at-j) (fld t is (stop t))))) (from t (stop t))
         (init t (depth 𝓤 H A 0 E i) at-i ok)
+
+    -- local i = &*local j
+    pub lends-whole : K → {i j : ℕ} {rest : Body} {τ : Ty} {b o : ℕ}
+        → nth 𝓤 H A (depth 𝓤 H A 0 E j) Γ ≡ holds 𝓤 H A E j (vptr b o)
+        → nth 𝓤 H A (depth 𝓤 H A 0 E i) Γ ≡ ‵ (froom (spotOf 𝓤 H E i .0) (spotOf 𝓤 H E i .1) zero)
+        → T (hasTy (spotOf 𝓤 H E i .0) (vptr b o)) × WT (vptr b o)
+        → Step K W (put 𝓤 H A (depth 𝓤 H A 0 E i) (holds 𝓤 H A E i (vptr b o)) Γ) (runs C Λ E rest q) Γ
+        (runs C Λ E (seq (assign (place i []) (addrOf (place j (deref τ ∷ [])))) rest) q)
+    lends-whole t {i} {j} at-j at-i ok =
+        assigns t (addr t (from t (hop t (look t (depth 𝓤 H A 0 E j) at-j) (stop t)))) (from t (stop t)) (init t (depth 𝓤 H A 0 E i) at-i ok)
 
     -- local i = &*(local j).0, where local j is a slice
     pub lends-start : K → {i j : ℕ} {rest : Body} {τ τ′ : Ty} {ν : Sym} {τs : Tys} {b d n : ℕ} {p : ℕ × ℕ}

@@ -1,7 +1,9 @@
--- Both records, as `Parts.antt` lends them. Assumes nothing.
+-- Both records, as `Parts.antt` lends them; and the room for a read's bytes. Assumes nothing.
 use Prim.Native.Nat.{ℕ, _+_}
 use mathlib.Core.List.{List, map-id}
 use base.Fml.{GName}
+use denote.Array.{Array}
+use denote.Builtin.{u8}
 use denote.Laws.{Is, shows}
 use denote.Memory.{part-halves}
 use denote.RattleType.{RattleType}
@@ -20,6 +22,9 @@ SharedRow = S.the-row
 
 abbrev pub PointRow : RattleType
 PointRow = P.the-row
+
+abbrev pub BytesRow : RattleType
+BytesRow = Array u8 1024
 
 abbrev pub Shared : Lendable
 Shared = record {

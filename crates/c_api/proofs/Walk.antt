@@ -4,6 +4,7 @@
 --     enter            into the function's code
 --     starts           a cell for each local; the parameters are stored in theirs. It is told that each value fits its type, in the parameters' order
 --     lends-field      local i = &(*local j).k, a field of a record.      lends-start, lends-slice      a slice lent on: its start, then both halves
+--     lends-whole      local i = &*local j, an array lent on
 --     move             the tokens and the parameters come to the head
 --     served           the call: the parameters are lent (`Params.antt`), the callee's contract is used, and they come back
 --     loads            the call's operands are read from their locals
@@ -61,7 +62,7 @@ pub use Rattle.c_api.specs.declared.PointRecord.{PointRecord}
 pub use Rattle.c_api.specs.Records.{sharedParts, pointParts, textlessParts}
 pub use Rattle.c_api.proofs.Parts.{stars}
 pub use Rattle.c_api.proofs.Params.{Param, Xs, Zs, facts, alive, owns, served}
-pub use Rattle.c_api.proofs.Handed.{shr-slice, mut-slice, number, mut-record, shr-record}
-pub use Rattle.c_api.proofs.Records.{Shared, SharedRow, numbersRef, takenRef, sharedAt, Point, PointRow, headRef, tableRef, textRef, pointAt}
-pub use Rattle.c_api.proofs.Locals.{starts, slice-fits, pointer-fits, number-fits, lends-field, lends-start, lends-slice, loads, goes-home}
-pub use Rattle.c_api.proofs.Ends.{Kinds, slice-in, slice-out, record-in, record-out, number-in, passed, Walked, Exits, ends-well, proved-by}
+pub use Rattle.c_api.proofs.Handed.{shr-slice, mut-slice, mut-array, number, mut-record, shr-record}
+pub use Rattle.c_api.proofs.Records.{Shared, SharedRow, numbersRef, takenRef, sharedAt, Point, PointRow, headRef, tableRef, textRef, pointAt, BytesRow}
+pub use Rattle.c_api.proofs.Locals.{starts, slice-fits, pointer-fits, number-fits, lends-field, lends-whole, lends-start, lends-slice, loads, goes-home}
+pub use Rattle.c_api.proofs.Ends.{Kinds, slice-in, slice-out, record-in, record-out, array-out, number-in, passed, Walked, Exits, ends-well, proved-by}

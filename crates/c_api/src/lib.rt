@@ -4,8 +4,8 @@ ghost use mathlib.Core.Path.{_≡_};
 ghost use Rattle.words.specs.Edition.{one};
 ghost use Rattle.log.specs.Opening.{layoutRefusal, layout};
 ghost use Rattle.log.specs.Listing.{rowsOf};
-ghost use Rattle.c_lent.specs.Calls.{OpensFor, left, stepLeft, sharedLeft, readLeft};
-ghost use Rattle.c_lent.specs.Calls.{sharedFor, joinFor, beginFor, stepFor, leaveFor, readFor, locateFor};
+ghost use Rattle.c_lent.specs.Calls.{OpensFor, left, readBegun, stepLeft, sharedLeft, readLeft};
+ghost use Rattle.c_lent.specs.Calls.{sharedFor, joinFor, beginFor, beginReadFor, stepFor, leaveFor, readFor, locateFor};
 ghost use Rattle.c_api.specs.Records.{version, sharedParts, pointParts, textlessParts};
 use c_lent::Answer;
 use c_lent::Count;
@@ -31,7 +31,7 @@ pub struct PointRecord {
 pub extern "C" fn store_version() -> u32
     ensures { λ r. ⌜ r ≡ version ⌝ }
 {
-    2
+    3
 }
 
 #[no_mangle]
@@ -54,9 +54,10 @@ pub extern "C" fn store_step(
     image: &mut [u64],
     shared: &mut SharedRecord,
     point: &mut PointRecord,
+    bytes: &mut [u8; 1024],
 ) -> Answer
-    ensures { λ r. ⌜ stepLeft r (now (image .exit)) (sharedParts (now (shared .exit))) (pointParts (now (point .exit)))
-        ≡ stepFor (now (image .entry)) (sharedParts (now (shared .entry))) (pointParts (now (point .entry))) ⌝ }
+    ensures { λ r. ⌜ stepLeft r (now (image .exit)) (sharedParts (now (shared .exit))) (pointParts (now (point .exit))) (now (bytes .exit))
+        ≡ stepFor (now (image .entry)) (sharedParts (now (shared .entry))) (pointParts (now (point .entry))) (now (bytes .entry)) ⌝ }
 {
     c_lent::step(
         image,
@@ -65,6 +66,7 @@ pub extern "C" fn store_step(
         &mut point.head,
         &mut point.table,
         &mut point.text,
+        bytes,
     )
 }
 
@@ -143,6 +145,28 @@ pub extern "C" fn store_begin(
         &mut point.text,
         offset,
         bytes,
+    )
+}
+
+#[no_mangle]
+pub extern "C" fn store_begin_read(
+    image: &[u64],
+    shared: &SharedRecord,
+    point: &mut PointRecord,
+    offset: usize,
+    size: usize,
+) -> u32
+    ensures { λ r. ⌜ readBegun r (pointParts (now (point .exit)))
+        ≡ beginReadFor (now (image .entry)) (sharedParts (now (shared .entry))) (pointParts (now (point .entry))) offset size ⌝ }
+{
+    c_lent::begin_read(
+        image,
+        &shared.numbers,
+        &mut point.head,
+        &mut point.table,
+        &mut point.text,
+        offset,
+        size,
     )
 }
 

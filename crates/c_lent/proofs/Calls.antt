@@ -3,11 +3,10 @@ use Prim.Native.Nat.{ℕ}
 use mathlib.Core.Path.{_≡_, sym, _∙_, ap}
 use mathlib.Core.Bool.{Bool, true, false, not}
 use mathlib.Core.List.{List}
-use mathlib.Core.Option.{Option}
 use lib.ListN.{length}
 use borrow.Author.Tests.{not-true, not-false}
 use Rattle.words.specs.Edition.{one}
-use Rattle.words.specs.Memory.{Store, after}
+use Rattle.words.specs.Memory.{after}
 use Rattle.words.proofs.Choice.{choose-true, choose-false}
 use Rattle.log.specs.declared.Shared.{Shared}
 use Rattle.log.specs.Opening.{numberOf}
@@ -21,18 +20,18 @@ use Rattle.points.specs.declared.Left.{Left}
 use Rattle.points.specs.declared.LentBegun.{LentBegun}
 use Rattle.points.specs.declared.LentStepped.{LentStepped}
 use Rattle.points.specs.Record.{badShared, pointOf}
-use Rattle.points.specs.Calls.{joining, beginning, leaving}
-use Rattle.points.specs.Plan.{storedAt}
-use Rattle.points.specs.Stepping.{stepping}
+use Rattle.points.specs.Calls.{joining, beginning, beginningRead, leaving}
+use Rattle.points.specs.Plan.{Outcome, storedAt}
+use Rattle.points.specs.Stepping.{stepping, bytesAfter}
 use Rattle.points.specs.Search.{sharedOf}
 use Rattle.points.specs.Lent.{StepTells, begunOf, steppedOf}
 use Rattle.points.specs.Reading.{reading, bufferAfter, locating}
 use Rattle.c_lent.specs.declared.Answer.{Answer}
 use Rattle.c_lent.specs.declared.Count.{Count}
 use Rattle.c_lent.specs.Numbers.{answerNumbers, countNumbers, headNumbers, headFrom, isKnown, sharedNumbers, leadFrom, sharedFrom}
-use Rattle.c_lent.specs.Numbers.{SharedLent, PointLent, sharedIn, lendShared, lendPoint}
-use Rattle.c_lent.specs.Calls.{PointLeft, StepLeft, left, stepLeft, sharedLeft, readLeft, unknown, ifKnown}
-use Rattle.c_lent.specs.Calls.{joinFor, beginFor, stepFor, leaveFor, readFor, locateFor}
+use Rattle.c_lent.specs.Numbers.{SharedLent, PointLent, sharedAs, sharedIn, lendShared, lendPoint}
+use Rattle.c_lent.specs.Calls.{PointLeft, ReadBegun, StepLeft, left, readBegun, stepLeft, sharedLeft, readLeft, unknown, ifKnown}
+use Rattle.c_lent.specs.Calls.{joinFor, beginFor, beginReadFor, stepFor, leaveFor, readFor, locateFor}
 
 module _ (words shared taken : List ℕ) where
   -- why a record is refused whose numbers are none
@@ -50,17 +49,14 @@ module _ {b k : Bool} (e : b ≡ k) where
   pub tests-known : not b ≡ false → k ≡ true
   tests-known t = sym e ∙ not-false _ t
 
--- what is left of records whose parts are these
-abbrev lentAs : List ℕ → List ℕ → SharedLent
-lentAs numbers taken = record { numbers = numbers; taken = taken }
-
+-- a point's record whose parts are these
 abbrev pointAs : List ℕ → List ℕ → List ℕ → PointLent
 pointAs head table text = record { head = head; table = table; text = text }
 
 pub join-as :
     (words : List ℕ) (s : SharedLent) (number : ℕ) (x : Shared) → x ≡ sharedIn s → (j : Joined) → j ≡ joining one words x number
     → (n : ℕ) → n ≡ numberOf (j .reply) → (xs hs : List ℕ) → xs ≡ sharedNumbers (j .shared) → hs ≡ headNumbers (j .point .head)
-    → left n (lentAs xs (j .shared .taken)) (pointAs hs (j .point .table) (j .point .text)) ≡ joinFor words s number
+    → left n (sharedAs xs (j .shared .taken)) (pointAs hs (j .point .table) (j .point .text)) ≡ joinFor words s number
 join-as words s number x ex j e n en xs hs es eh = rw (en, es, eh, e, ex)
 
 module _ (words : List ℕ) (s : SharedLent) (p : PointLent) where
@@ -78,36 +74,48 @@ module _ (words : List ℕ) (s : SharedLent) (p : PointLent) where
     is-known served refused = sym (choose-true (isKnown (p .head)) _ _ known)
 
     pub step-known :
-        (lead : Numbers) → lead ≡ leadFrom (s .numbers) → (y : LentStepped) (taken table text image : List ℕ)
-        → StepTells words (sharedOf lead (s .taken)) (pointOf h (p .table) (p .text)) (steppedOf lead y taken table text) image (y .word)
-        → (a : Answer) → a ≡ answerNumbers (y .step) (y .word)
-        → (hs : List ℕ) → hs ≡ headNumbers (y .head) → stepLeft a image (lentAs (s .numbers) taken) (pointAs hs table text) ≡ stepFor words s p
-    step-known lead el y taken table text image e a ea hs eh′ =
-        rw (ea, eh′, e .place, e .leaves .stored) (ap left-by (e .leaves .answers) ∙ rw (el, eh) (is-known _ _))
+        (lead : Numbers) → lead ≡ leadFrom (s .numbers) → (lent : List ℕ) (y : LentStepped) (taken table text image bytes : List ℕ)
+        → StepTells words (sharedOf lead (s .taken)) (pointOf h (p .table) (p .text)) lent (steppedOf lead y taken table text) image bytes (y .word)
+        → (a : Answer) → a ≡ answerNumbers (y .step) (y .word) → (hs : List ℕ) → hs ≡ headNumbers (y .head)
+        → stepLeft a image (sharedAs (s .numbers) taken) (pointAs hs table text) bytes ≡ stepFor words s p lent
+    step-known lead el lent y taken table text image bytes e a ea hs eh′ =
+        rw (ea, eh′, e .place, e .leaves .stored, e .leaves .handed) (ap left-by (e .leaves .answers) ∙ rw (el, eh) (is-known _ _))
       where
-        store : Option Store
-        store = stepping one words (sharedOf lead (s .taken)) (pointOf h (p .table) (p .text)) .store
+        o : Outcome
+        o = stepping one words (sharedOf lead (s .taken)) (pointOf h (p .table) (p .text))
 
         left-by : Stepped → StepLeft
         left-by x =
-            stepLeft (answerNumbers (x .step) (storedAt one store)) (after one words store) (lentAs (s .numbers) (x .shared .taken)) (lendPoint (x .point))
+            stepLeft (answerNumbers (x .step) (storedAt one (o .store))) (after one words (o .store)) (sharedAs (s .numbers) (x .shared .taken))
+            (lendPoint (x .point)) (bytesAfter (o .bytes) lent)
 
     pub begin-known :
         (lead : Numbers) → lead ≡ leadFrom (s .numbers) → (offset : ℕ) (bytes : List ℕ) (y : LentBegun) (taken table text : List ℕ)
         → begunOf lead y taken table text ≡ beginning one words (sharedOf lead (s .taken)) (pointOf h (p .table) (p .text)) offset bytes
         → (n : ℕ) → n ≡ numberOf (y .reply) → (hs : List ℕ) → hs ≡ headNumbers (y .head)
-        → left n (lentAs (s .numbers) taken) (pointAs hs table text) ≡ beginFor words s p offset bytes
+        → left n (sharedAs (s .numbers) taken) (pointAs hs table text) ≡ beginFor words s p offset bytes
     begin-known lead el offset bytes y taken table text e n en hs eh′ =
         rw (en, eh′) (ap left-by e ∙ rw (el, eh) (is-known _ _))
       where
         left-by : Begun → PointLeft
-        left-by b = left (numberOf (b .reply)) (lentAs (s .numbers) (b .shared .taken)) (lendPoint (b .point))
+        left-by b = left (numberOf (b .reply)) (sharedAs (s .numbers) (b .shared .taken)) (lendPoint (b .point))
+
+    pub begin-read-known :
+        (lead : Numbers) → lead ≡ leadFrom (s .numbers) → (offset size : ℕ) (y : LentBegun) (table text : List ℕ)
+        → begunOf lead y (s .taken) table text ≡ beginningRead one words (sharedOf lead (s .taken)) (pointOf h (p .table) (p .text)) offset size
+        → (n : ℕ) → n ≡ numberOf (y .reply) → (hs : List ℕ) → hs ≡ headNumbers (y .head)
+        → readBegun n (pointAs hs table text) ≡ beginReadFor words s p offset size
+    begin-read-known lead el offset size y table text e n en hs eh′ =
+        rw (en, eh′) (ap left-by e ∙ rw (el, eh) (is-known _ _))
+      where
+        left-by : Begun → ReadBegun
+        left-by b = readBegun (numberOf (b .reply)) (lendPoint (b .point))
 
     module _ (x : Shared) (ex : x ≡ sharedIn s) where
       pub leave-known :
           (y : Left) → y ≡ leaving one words x (pointOf h (p .table) (p .text))
           → (n : ℕ) → n ≡ numberOf (y .reply) → (xs : List ℕ) → xs ≡ sharedNumbers (y .shared)
-          → sharedLeft n (lentAs xs (y .shared .taken)) ≡ leaveFor words s p
+          → sharedLeft n (sharedAs xs (y .shared .taken)) ≡ leaveFor words s p
       leave-known y e n en xs es =
           rw (en, es) (ap (λ (l : Left). sharedLeft (numberOf (l .reply)) (lendShared (l .shared))) e ∙ rw (ex, eh) (is-known _ _))
 

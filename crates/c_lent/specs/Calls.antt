@@ -13,9 +13,9 @@ use Rattle.log.specs.Opening.{numberOf, opened, scratchAfter}
 use Rattle.points.specs.declared.Point.{Point}
 use Rattle.points.specs.declared.StepAnswer.the-variants.{Refused}
 use Rattle.points.specs.Record.{badShared}
-use Rattle.points.specs.Calls.{joining, beginning, leaving}
+use Rattle.points.specs.Calls.{joining, beginning, beginningRead, leaving}
 use Rattle.points.specs.Plan.{storedAt}
-use Rattle.points.specs.Stepping.{stepping}
+use Rattle.points.specs.Stepping.{stepping, bytesAfter}
 use Rattle.points.specs.Reading.{reading, bufferAfter, locating}
 use Rattle.c_lent.specs.declared.Opened.{Opened}
 use Rattle.c_lent.specs.declared.Answer.{Answer}
@@ -48,15 +48,24 @@ left n s p = record { refused = n; shared = s; point = p }
 abbrev pub pointLeft : Reply → Shared → Point → PointLeft
 pointLeft reply s p = left (numberOf reply) (lendShared s) (lendPoint p)
 
--- a step's answer, the image and both records
+-- the refusal's number, and the point's record: beginning a read changes nothing else
+pub record ReadBegun : Type 0 where
+  pub refused : ℕ
+  pub point : PointLent
+
+abbrev pub readBegun : ℕ → PointLent → ReadBegun
+readBegun n p = record { refused = n; point = p }
+
+-- a step's answer, the image, both records and the lent bytes
 pub record StepLeft : Type 0 where
   pub answer : Answer
   pub image : List ℕ
   pub shared : SharedLent
   pub point : PointLent
+  pub bytes : List ℕ
 
-abbrev pub stepLeft : Answer → List ℕ → SharedLent → PointLent → StepLeft
-stepLeft a words s p = record { answer = a; image = words; shared = s; point = p }
+abbrev pub stepLeft : Answer → List ℕ → SharedLent → PointLent → List ℕ → StepLeft
+stepLeft a words s p bytes = record { answer = a; image = words; shared = s; point = p; bytes = bytes }
 
 -- the refusal's number, and the shared record
 pub record SharedLeft : Type 0 where
@@ -105,12 +114,18 @@ module _ (words : List ℕ) (s : SharedLent) (p : PointLent) where
       let b = beginning one words (sharedIn s) (pointIn p) offset bytes in
       ifKnown (left (numberOf (b .reply)) (withMap (b .shared)) (lendPoint (b .point))) (λ n. left n s p)
 
-  abbrev pub stepFor : StepLeft
-  stepFor =
+  abbrev pub beginReadFor : ℕ → ℕ → ReadBegun
+  beginReadFor offset size =
+      let b = beginningRead one words (sharedIn s) (pointIn p) offset size in
+      ifKnown (readBegun (numberOf (b .reply)) (lendPoint (b .point))) (λ n. readBegun n p)
+
+  -- of the bytes lent to a step those that a read answers come first, and the others are as they were
+  abbrev pub stepFor : List ℕ → StepLeft
+  stepFor lent =
       let o = stepping one words (sharedIn s) (pointIn p) in
       let answer = answerNumbers (o .step) (storedAt one (o .store)) in
-      ifKnown (stepLeft answer (after one words (o .store)) (withMap (o .shared)) (lendPoint (o .point)))
-      (λ n. stepLeft (answerNumbers (Refused n) 0) words s p)
+      ifKnown (stepLeft answer (after one words (o .store)) (withMap (o .shared)) (lendPoint (o .point)) (bytesAfter (o .bytes) lent))
+      (λ n. stepLeft (answerNumbers (Refused n) 0) words s p lent)
 
   abbrev pub leaveFor : SharedLeft
   leaveFor =

@@ -54,9 +54,9 @@ headFrom xs =
           };
     }
 
--- whether numbers are those of a head: the phase is one of six, and the retry count is at most 65,535
+-- whether numbers are those of a head: the phase is one of seven, and the retry count is at most 65,535
 abbrev pub isKnown : List ℕ → Bool
-isKnown xs = leb (getD xs 8 0) 5 && leb (getD xs 11 0) 65535
+isKnown xs = leb (getD xs 8 0) 6 && leb (getD xs 11 0) 65535
 
 -- the shared record's numbers, beside its map
 abbrev pub sharedNumbers : Shared → List ℕ
@@ -81,9 +81,12 @@ pub record PointLent : Type 0 where
   pub table : List ℕ
   pub text : List ℕ
 
+abbrev pub sharedAs : List ℕ → List ℕ → SharedLent
+sharedAs numbers taken = record { numbers = numbers; taken = taken }
+
 -- what a call's references hold
 abbrev pub sharedLent : RefT (List ℕ) → RefT (List ℕ) → SharedLent
-sharedLent shared taken = record { numbers = now shared; taken = now taken }
+sharedLent shared taken = sharedAs (now shared) (now taken)
 
 abbrev pub pointLent : RefT (List ℕ) → RefT (List ℕ) → RefT (List ℕ) → PointLent
 pointLent head table text = record { head = now head; table = now table; text = now text }

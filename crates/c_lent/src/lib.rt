@@ -1,9 +1,11 @@
 // The calls with records and answers in numbers, and each record lent in parts, arrays all of them: `shared` is blocks and joined points, `taken`
 // the map; `head` the twelve numbers of a point's record, beside `table` and `text`. Crate `c_api` exports them to C, on whole records.
 ghost use mathlib.Core.Path.{_≡_};
-ghost use Rattle.c_lent.specs.Numbers.{sharedLent, pointLent, textless};
-ghost use Rattle.c_lent.specs.Calls.{OpensFor, left, stepLeft, sharedLeft, readLeft};
-ghost use Rattle.c_lent.specs.Calls.{sharedFor, joinFor, beginFor, stepFor, leaveFor, readFor, locateFor};
+ghost use mathlib.Core.List.{List};
+ghost use Prim.Native.Nat.{ℕ};
+ghost use Rattle.c_lent.specs.Numbers.{sharedLent, sharedAs, pointLent, textless};
+ghost use Rattle.c_lent.specs.Calls.{OpensFor, left, readBegun, stepLeft, sharedLeft, readLeft};
+ghost use Rattle.c_lent.specs.Calls.{sharedFor, joinFor, beginFor, beginReadFor, stepFor, leaveFor, readFor, locateFor};
 use points::StepAnswer;
 
 // What opening answers: the refusal's number, 0 for none, length and counts.
@@ -109,6 +111,38 @@ pub fn begin(
     numbers::of_reply(reply)
 }
 
+// Beginning a read: of the shared record no more than its numbers is looked at, and nothing changed.
+pub fn begin_read(
+    image: &[u64],
+    shared: &[u32; 2],
+    head: &mut [u32; 12],
+    table: &mut [u16; 256],
+    text: &mut [u8; 1024],
+    offset: usize,
+    size: usize,
+) -> u32
+    ensures { λ r. ⌜ ((taken : List ℕ) → readBegun r (pointLent (head .exit) (table .exit) (text .exit)) ≡ beginReadFor (now (image .entry))
+        (sharedAs (now (shared .entry)) taken) (pointLent (head .entry) (table .entry) (text .entry)) offset size) ⌝ }
+{
+    if !numbers::is_known(head) {
+        return numbers::unknown(image, shared);
+    }
+    let begun = points::begin::begin_read_lent(
+        image,
+        numbers::lead(shared),
+        numbers::head(head),
+        table,
+        text,
+        offset,
+        size,
+    );
+    let reply = begun.reply;
+    let left = begun.head;
+    *head = numbers::of_head(left);
+    numbers::of_reply(reply)
+}
+
+// A step of a write or of a read. The bytes that the last step of a read answers come to the front of `bytes`; no other step touches it.
 pub fn step(
     image: &mut [u64],
     shared: &mut [u32; 2],
@@ -116,15 +150,25 @@ pub fn step(
     head: &mut [u32; 12],
     table: &mut [u16; 256],
     text: &mut [u8; 1024],
+    bytes: &mut [u8; 1024],
 ) -> Answer
     ensures { λ r. ⌜ stepLeft r (now (image .exit)) (sharedLent (shared .exit) (taken .exit)) (pointLent (head .exit) (table .exit) (text .exit))
-        ≡ stepFor (now (image .entry)) (sharedLent (shared .entry) (taken .entry)) (pointLent (head .entry) (table .entry) (text .entry)) ⌝ }
+        (now (bytes .exit)) ≡ stepFor (now (image .entry)) (sharedLent (shared .entry) (taken .entry)) (pointLent (head .entry) (table .entry) (text .entry))
+        (now (bytes .entry)) ⌝ }
 {
     if !numbers::is_known(head) {
         return numbers::of_step(StepAnswer::Refused(numbers::unknown(image, shared)), 0);
     }
     let lead = numbers::lead(shared);
-    let stepped = points::step::step_lent(image, lead, taken, numbers::head(head), table, text);
+    let stepped = points::step::step_lent(
+        image,
+        lead,
+        taken,
+        numbers::head(head),
+        table,
+        text,
+        bytes,
+    );
     let step = stepped.step;
     let left = stepped.head;
     *head = numbers::of_head(left);

@@ -35,6 +35,8 @@ fn kind(step: StepAnswer) -> u32
         StepAnswer::Extending => 3,
         StepAnswer::Committed(retries) => 4,
         StepAnswer::Refused(n) => 5,
+        StepAnswer::Copied => 6,
+        StepAnswer::Bytes(n) => 7,
     }
 }
 
@@ -47,6 +49,8 @@ fn value(step: StepAnswer) -> u32
         StepAnswer::Extending => 0,
         StepAnswer::Committed(retries) => retries as u32,
         StepAnswer::Refused(n) => n,
+        StepAnswer::Copied => 0,
+        StepAnswer::Bytes(n) => n,
     }
 }
 
@@ -118,7 +122,7 @@ pub(crate) fn of_head(head: points::Head) -> [u32; 12]
 pub(crate) fn is_known(numbers: &[u32; 12]) -> bool
     ensures { λ r. ⌜ r ≡ isKnown (now (numbers .entry)) ⌝ }
 {
-    (numbers[8] <= 5) & (numbers[11] <= 65535)
+    (numbers[8] <= 6) & (numbers[11] <= 65535)
 }
 
 // The head of its numbers.

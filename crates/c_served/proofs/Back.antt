@@ -6,7 +6,7 @@ use Rattle.log.specs.declared.Shared.{Shared}
 use Rattle.log.specs.declared.Reply.{Reply}
 use Rattle.log.specs.Opening.{replyOf, numberOf}
 use Rattle.points.specs.declared.StepAnswer.{StepAnswer}
-use Rattle.points.specs.declared.StepAnswer.the-variants.{Stored, Moved, Extending, Committed, Refused}
+use Rattle.points.specs.declared.StepAnswer.the-variants.{Stored, Moved, Extending, Committed, Refused, Copied, Bytes}
 use Rattle.points.specs.declared.Point.{Point}
 use Rattle.points.specs.Stepping.{stepKind, stepValue}
 use Rattle.log.proofs.Replies.{number-back}
@@ -20,6 +20,8 @@ is-answer Moved = refl
 is-answer Extending = refl
 is-answer (Committed retries) = refl
 is-answer (Refused n) = refl
+is-answer Copied = refl
+is-answer (Bytes n) = refl
 
 pub answer-back : (a : StepAnswer) → answerOf (stepKind a) (stepValue a) ≡ a
 answer-back Stored = refl
@@ -27,6 +29,8 @@ answer-back Moved = refl
 answer-back Extending = refl
 answer-back (Committed retries) = refl
 answer-back (Refused n) = refl
+answer-back Copied = refl
+answer-back (Bytes n) = refl
 
 -- a reply that goes by a refusal's number
 pub reply-back : (r : Reply) (n : ℕ) → r ≡ replyOf n → replyOf (numberOf r) ≡ r

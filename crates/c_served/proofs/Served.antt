@@ -12,28 +12,29 @@ use Rattle.log.specs.declared.Reply.{Reply}
 use Rattle.log.specs.declared.Reply.the-variants.{Done}
 use Rattle.log.specs.Opening.{openRefusal, opened, replyOf, numberOf}
 use Rattle.points.specs.Record.{pointOf, unfit}
-use Rattle.points.specs.Calls.{joinRefusal, joining, beginRefusal, beginning, leaving}
+use Rattle.points.specs.Calls.{joinRefusal, joining, beginRefusal, beginning, beginReadRefusal, beginningRead, leaving}
 use Rattle.points.specs.Plan.{answered, storedAt}
-use Rattle.points.specs.Stepping.{stepping}
+use Rattle.points.specs.Stepping.{stepping, bytesAfter}
 use Rattle.points.specs.Reading.{readRefusal, reading, locateRefusal, locating}
-use Rattle.points.proofs.Begins.{begin-map}
+use Rattle.points.proofs.Begins.{begin-map, begin-read-shared}
 use Rattle.points.proofs.CarriedOut.{step-map}
 use Rattle.points.proofs.StoredAt.{told-none}
 use Rattle.log.proofs.Replies.{number-back, opened-replies}
-use Rattle.points.proofs.Replies.{join-replies, begin-replies, leave-replies}
-use Rattle.recovery.proofs.Served.{open-served, join-served, begin-served, step-served, leave-served, read-served, locate-served}
+use Rattle.points.proofs.Replies.{join-replies, begin-replies, begin-read-replies, leave-replies}
+use Rattle.recovery.proofs.Served.{open-served, join-served, begin-served, begin-read-served, step-served, leave-served, read-served, locate-served}
 use Rattle.recovery.specs.Served.{OpenServed}
 use Rattle.c_lent.specs.Numbers.{SharedLent, PointLent, sharedIn, pointIn, lendShared, lendPoint, headFrom, isKnown}
 use Rattle.c_lent.specs.Numbers.{openedNumbers, answerNumbers, countNumbers}
 use Rattle.c_lent.specs.declared.Opened.{Opened}
 use Rattle.c_lent.specs.declared.Count.{Count}
-use Rattle.c_lent.specs.Calls.{PointLeft, StepLeft, SharedLeft, ReadLeft, left, stepLeft, sharedLeft, ifKnown}
-use Rattle.c_lent.specs.Calls.{sharedFor, joinFor, beginFor, stepFor, leaveFor, readFor, locateFor}
-use Rattle.c_served.specs.Served.{joinedFrom, begunFrom, steppedFrom, leftFrom, countFrom}
-use Rattle.c_served.specs.Served.{OpenServedFor, JoinServedFor, BeginServedFor, StepServedFor, LeaveServedFor, ReadServedFor, LocateServedFor}
+use Rattle.c_lent.specs.Calls.{PointLeft, ReadBegun, StepLeft, SharedLeft, ReadLeft, left, readBegun, stepLeft, sharedLeft, ifKnown}
+use Rattle.c_lent.specs.Calls.{sharedFor, joinFor, beginFor, beginReadFor, stepFor, leaveFor, readFor, locateFor}
+use Rattle.c_served.specs.Served.{joinedFrom, begunFrom, readBegunFrom, steppedFrom, leftFrom, countFrom}
+use Rattle.c_served.specs.Served.{OpenServedFor, JoinServedFor, BeginServedFor, BeginReadServedFor, StepServedFor}
+use Rattle.c_served.specs.Served.{LeaveServedFor, ReadServedFor, LocateServedFor}
 use Rattle.c_served.proofs.Back.{is-answer, answer-back, reply-back, shared-back, point-back}
 use Rattle.c_served.proofs.Told.{tells-store}
-use Rattle.c_served.proofs.Known.{join-known, begin-known, step-known}
+use Rattle.c_served.proofs.Known.{join-known, begin-known, begin-read-known, step-known}
 
 pub open-for :
     (words scratch : List ℕ) (r : Opened) (s : SharedLent) → r ≡ openedNumbers (opened one words scratch) → s ≡ sharedFor words scratch
@@ -82,19 +83,37 @@ module _ (words : List ℕ) (s : SharedLent) where
           begin-served words (sharedIn s) (pointIn p) offset bytes _ back,
         )
 
-    pub step-for : (l : StepLeft) → l ≡ stepFor words s p → StepServedFor words s p l
+    pub begin-read-for : (offset size : ℕ) (l : ReadBegun) → l ≡ beginReadFor words s p offset size → BeginReadServedFor words s p offset size l
+    unfolding BeginReadServedFor
+    begin-read-for offset size l e known =
+        let b = beginningRead one words (sharedIn s) (pointIn p) offset size in
+        let why = beginReadRefusal one words (sharedIn s) (headFrom (p .head)) (p .table) offset size in
+        let back : readBegunFrom s (readBegun (numberOf (b .reply)) (lendPoint (b .point))) ≡ b =
+        λ i. record {
+          reply = reply-back (b .reply) why (begin-read-replies one words (sharedIn s) (pointIn p) offset size) i;
+          shared = sym (begin-read-shared one words (sharedIn s) (pointIn p) offset size) i;
+          point = point-back (b .point) i;
+        } in
+        rw (e ∙ is-known _ _ known) (
+          begin-read-known one words (sharedIn s) (p .head) (p .table) (p .text) known offset size,
+          begin-read-served words (sharedIn s) (pointIn p) offset size _ back,
+        )
+
+    pub step-for : (lent : List ℕ) (l : StepLeft) → l ≡ stepFor words s p lent → StepServedFor words s p lent l
     unfolding StepServedFor
-    step-for l e known =
+    step-for lent l e known =
         let o = stepping one words (sharedIn s) (pointIn p) in
         let answer = answerNumbers (o .step) (storedAt one (o .store)) in
-        let served = stepLeft answer (after one words (o .store)) (record { numbers = s .numbers; taken = o .shared .taken }) (lendPoint (o .point)) in
+        let served =
+        stepLeft answer (after one words (o .store)) (record { numbers = s .numbers; taken = o .shared .taken }) (lendPoint (o .point))
+        (bytesAfter (o .bytes) lent) in
         let back : steppedFrom served ≡ answered o =
         rw (answer-back (o .step), point-back (o .point), step-map one words (sharedIn s) (pointIn p)) in
         rw (e ∙ is-known _ _ known) (
           step-known one words (sharedIn s) (p .head) (p .table) (p .text) known,
           is-answer (o .step),
           tells-store words (o .store) (told-none one words (sharedIn s) (pointIn p)),
-          step-served words (sharedIn s) (pointIn p) _ _ back refl,
+          step-served words (sharedIn s) (pointIn p) lent _ _ _ (record { answers = back; stored = refl; handed = refl }),
         )
 
     pub leave-for : (l : SharedLeft) → l ≡ leaveFor words s p → LeaveServedFor words s p l

@@ -10,7 +10,7 @@ use Rattle.words.specs.Edition.{one}
 use Rattle.words.specs.Logic.{between}
 use Rattle.log.specs.Opening.{replyOf, openRefusal}
 use Rattle.points.specs.declared.StepAnswer.{StepAnswer}
-use Rattle.points.specs.declared.StepAnswer.the-variants.{Stored, Moved, Extending, Committed, Refused}
+use Rattle.points.specs.declared.StepAnswer.the-variants.{Stored, Moved, Extending, Committed, Refused, Copied, Bytes}
 use Rattle.points.specs.declared.Joined.{Joined}
 use Rattle.points.specs.declared.Begun.{Begun}
 use Rattle.points.specs.declared.Stepped.{Stepped}
@@ -19,16 +19,16 @@ use Rattle.points.specs.declared.Count as counted
 use Rattle.points.specs.Record.{pointOf}
 use Rattle.recovery.specs.World.{start}
 use Rattle.recovery.specs.History.{openWorld}
-use Rattle.recovery.specs.Served.{JoinServed, BeginServed, StepServed, LeaveServed, ReadServed, LocateServed}
+use Rattle.recovery.specs.Served.{JoinServed, BeginServed, BeginReadServed, StepServed, LeaveServed, ReadServed, LocateServed}
 use Rattle.c_lent.specs.declared.Count.{Count}
 use Rattle.c_lent.specs.Numbers.{SharedLent, PointLent, sharedIn, pointIn, headFrom, isKnown}
-use Rattle.c_lent.specs.Calls.{PointLeft, StepLeft, SharedLeft, ReadLeft}
+use Rattle.c_lent.specs.Calls.{PointLeft, ReadBegun, StepLeft, SharedLeft, ReadLeft}
 
 -- ---- answers, read back from their numbers
 
 -- which answer of a step this is, by its number; a number that is none's reads as a refusal, and is not answered (`isAnswer`)
 abbrev pub isAnswer : ℕ → Bool
-isAnswer kind = between 1 kind 5
+isAnswer kind = between 1 kind 7
 
 abbrev pub answerOf : ℕ → ℕ → StepAnswer
 answerOf zero value = Refused value
@@ -36,13 +36,20 @@ answerOf (suc zero) value = Stored
 answerOf (suc (suc zero)) value = Moved
 answerOf (suc (suc (suc zero))) value = Extending
 answerOf (suc (suc (suc (suc zero)))) value = Committed value
-answerOf (suc (suc (suc (suc (suc n))))) value = Refused value
+answerOf (suc (suc (suc (suc (suc zero))))) value = Refused value
+answerOf (suc (suc (suc (suc (suc (suc zero)))))) value = Copied
+answerOf (suc (suc (suc (suc (suc (suc (suc zero))))))) value = Bytes value
+answerOf (suc (suc (suc (suc (suc (suc (suc (suc n)))))))) value = Refused value
 
 abbrev pub joinedFrom : PointLeft → Joined
 joinedFrom l = record { reply = replyOf (l .refused); shared = sharedIn (l .shared); point = pointIn (l .point) }
 
 abbrev pub begunFrom : PointLeft → Begun
 begunFrom l = record { reply = replyOf (l .refused); shared = sharedIn (l .shared); point = pointIn (l .point) }
+
+-- beginning a read leaves the shared record as it was
+abbrev pub readBegunFrom : SharedLent → ReadBegun → Begun
+readBegunFrom s l = record { reply = replyOf (l .refused); shared = sharedIn s; point = pointIn (l .point) }
 
 abbrev pub steppedFrom : StepLeft → Stepped
 steppedFrom l = record { step = answerOf (l .answer .kind) (l .answer .value); shared = sharedIn (l .shared); point = pointIn (l .point) }
@@ -74,11 +81,17 @@ module _ (words : List ℕ) (s : SharedLent) where
     BeginServedFor offset bytes l =
         isKnown (p .head) ≡ true → (isKnown (l .point .head) ≡ true) × BeginServed one words (sharedIn s) (pointIn p) offset bytes (begunFrom l)
 
-    unfoldable pub StepServedFor : StepLeft → Type 0
-    StepServedFor l =
+    unfoldable pub BeginReadServedFor : ℕ → ℕ → ReadBegun → Type 0
+    BeginReadServedFor offset size l =
+        isKnown (p .head) ≡ true
+        → (isKnown (l .point .head) ≡ true) × BeginReadServed one words (sharedIn s) (pointIn p) offset size (readBegunFrom s l)
+
+    -- with the bytes that were lent
+    unfoldable pub StepServedFor : List ℕ → StepLeft → Type 0
+    StepServedFor lent l =
         isKnown (p .head) ≡ true
         → (isKnown (l .point .head) ≡ true) × (isAnswer (l .answer .kind) ≡ true) × TellsStore words (l .image) (l .answer .word)
-        × StepServed one words (sharedIn s) (pointIn p) (steppedFrom l) (l .image)
+        × StepServed one words (sharedIn s) (pointIn p) lent (steppedFrom l) (l .image) (l .bytes)
 
     -- leaving, reading and locating are lent no text: the record's may be any
     unfoldable pub LeaveServedFor : SharedLeft → Type 0

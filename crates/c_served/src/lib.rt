@@ -1,8 +1,10 @@
 // The calls for C, each with what it leaves in a list of calls as its contract: the claims of `recovery` hold of what C calls. Opening, reading and locating
 // are beside them, as in recovery/src/code.rt. Nothing here runs.
-ghost use Rattle.c_lent.specs.Numbers.{sharedLent, pointLent, textless};
-ghost use Rattle.c_lent.specs.Calls.{left, stepLeft, sharedLeft, readLeft};
-ghost use Rattle.c_served.specs.Served.{OpenServedFor, JoinServedFor, BeginServedFor, StepServedFor};
+ghost use mathlib.Core.List.{List};
+ghost use Prim.Native.Nat.{ℕ};
+ghost use Rattle.c_lent.specs.Numbers.{sharedLent, sharedAs, pointLent, textless};
+ghost use Rattle.c_lent.specs.Calls.{left, readBegun, stepLeft, sharedLeft, readLeft};
+ghost use Rattle.c_served.specs.Served.{OpenServedFor, JoinServedFor, BeginServedFor, BeginReadServedFor, StepServedFor};
 ghost use Rattle.c_served.specs.Served.{LeaveServedFor, ReadServedFor, LocateServedFor};
 use c_lent::Answer;
 use c_lent::Count;
@@ -50,6 +52,21 @@ pub fn begin(
     c_lent::begin(image, shared, taken, head, table, text, offset, bytes)
 }
 
+pub fn begin_read(
+    image: &[u64],
+    shared: &[u32; 2],
+    head: &mut [u32; 12],
+    table: &mut [u16; 256],
+    text: &mut [u8; 1024],
+    offset: usize,
+    size: usize,
+) -> u32
+    ensures { λ r. ⌜ ((taken : List ℕ) → BeginReadServedFor (now (image .entry)) (sharedAs (now (shared .entry)) taken)
+        (pointLent (head .entry) (table .entry) (text .entry)) offset size (readBegun r (pointLent (head .exit) (table .exit) (text .exit)))) ⌝ }
+{
+    c_lent::begin_read(image, shared, head, table, text, offset, size)
+}
+
 pub fn step(
     image: &mut [u64],
     shared: &mut [u32; 2],
@@ -57,11 +74,13 @@ pub fn step(
     head: &mut [u32; 12],
     table: &mut [u16; 256],
     text: &mut [u8; 1024],
+    bytes: &mut [u8; 1024],
 ) -> Answer
     ensures { λ r. ⌜ StepServedFor (now (image .entry)) (sharedLent (shared .entry) (taken .entry)) (pointLent (head .entry) (table .entry) (text .entry))
-        (stepLeft r (now (image .exit)) (sharedLent (shared .exit) (taken .exit)) (pointLent (head .exit) (table .exit) (text .exit))) ⌝ }
+        (now (bytes .entry)) (stepLeft r (now (image .exit)) (sharedLent (shared .exit) (taken .exit)) (pointLent (head .exit) (table .exit) (text .exit))
+        (now (bytes .exit))) ⌝ }
 {
-    c_lent::step(image, shared, taken, head, table, text)
+    c_lent::step(image, shared, taken, head, table, text, bytes)
 }
 
 pub fn leave(

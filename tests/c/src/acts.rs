@@ -156,13 +156,27 @@ impl Run {
         self.world.begin(words, p, offset, &text, size)
     }
 
+    pub fn begin_read(&mut self) -> Done {
+        let places = self.places(true);
+        let p = self.a_place(&places);
+        let offset = self.offset();
+        let size = a_length(&mut self.random);
+        let size = match self.random.below(self.strange) {
+            0 => WIDE * self.random.between(1, 3) + size,
+            1 => self.random.any() as usize,
+            _ => size,
+        };
+        let words = self.words();
+        self.world.begin_read(words, p, offset, size).map(drop)
+    }
+
     pub fn step(&mut self, p: usize) -> Result<bool, String> {
         let words = self.words();
         let answer = self.world.step(words, p)?;
-        Ok(answer.kind != COMMITTED && answer.kind != REFUSED)
+        Ok(![COMMITTED, REFUSED, BYTES].contains(&answer.kind))
     }
 
-    /// Steps of one place, until the write is done or some are made.
+    /// Steps of one place, until the write or read is done or some are made.
     pub fn steps(&mut self, p: usize, most: usize) -> Done {
         for _ in 0..most {
             if !self.step(p)? {
@@ -182,7 +196,7 @@ impl Run {
         self.steps(p, most)
     }
 
-    /// All places with a write under way step in turn.
+    /// All places with a write or read under way step in turn.
     pub fn in_turn(&mut self) -> Done {
         for _ in 0..self.random.below(80) {
             for p in self.places(false) {
@@ -237,6 +251,32 @@ impl Run {
         self.steps(p, 400)
     }
 
+    /// A point reads in steps; between them another writes into the range,
+    /// beside it or past the end.
+    pub fn watch(&mut self) -> Done {
+        let idle = self.places(true);
+        let [p, q, ..] = idle[..] else { return self.join() };
+        let offset = an_offset(&mut self.random) % 100_000;
+        let size = a_length(&mut self.random).clamp(1, 1_024);
+        let words = self.words();
+        self.world.begin_read(words, p, offset, size)?;
+        for _ in 0..self.random.below(3) {
+            let most = *self.random.pick(&[0, 1, 40, 129, 130]);
+            self.steps(p, most)?;
+            let place = match self.random.below(4) {
+                0 => offset,
+                1 => offset + self.random.below(size),
+                2 => (offset + size) / 512 * 512,
+                _ => an_offset(&mut self.random) % 100_000,
+            };
+            let length = a_length(&mut self.random).clamp(1, 1_024);
+            self.begin_at(q, place, length)?;
+            let most = *self.random.pick(&[30, 400, 400]);
+            self.steps(q, most)?;
+        }
+        self.steps(p, 260)
+    }
+
     /// Two points want a new log block at once; one of them may leave.
     pub fn race(&mut self) -> Done {
         let idle = self.places(true);
@@ -260,7 +300,8 @@ impl Run {
     /// One act of honest work.
     pub fn work(&mut self) -> Done {
         match self.random.below(40) {
-            0..=9 => self.begin(),
+            0..=7 => self.begin(),
+            8 | 9 => self.begin_read(),
             10..=20 => self.some_steps(),
             21..=23 => self.in_turn(),
             24..=29 => self.look(),
@@ -268,6 +309,7 @@ impl Run {
             32 => self.leave(),
             33 => self.begin_again(),
             34 | 35 => self.race(),
+            36 | 37 => self.watch(),
             _ => self.conflict(),
         }
     }

@@ -74,6 +74,11 @@ pub const MOVED: u32 = 2;
 pub const EXTENDING: u32 = 3;
 pub const COMMITTED: u32 = 4;
 pub const REFUSED: u32 = 5;
+pub const COPIED: u32 = 6;
+pub const BYTES: u32 = 7;
+
+/// The phase of a point that reads in steps; none lies above it.
+pub const READING: u32 = 6;
 
 /// Why a beginning is refused in a full image.
 pub const NO_RUN: u32 = 19;
@@ -110,7 +115,21 @@ extern "C" {
         bytes: *const u8,
         size: usize,
     ) -> u32;
-    pub fn shim_step(image: *mut u64, words: usize, shared: *mut Shared, point: *mut Point) -> Answer;
+    pub fn shim_begin_read(
+        image: *const u64,
+        words: usize,
+        shared: *const Shared,
+        point: *mut Point,
+        offset: usize,
+        size: usize,
+    ) -> u32;
+    pub fn shim_step(
+        image: *mut u64,
+        words: usize,
+        shared: *mut Shared,
+        point: *mut Point,
+        bytes: *mut u8,
+    ) -> Answer;
     pub fn shim_leave(image: *const u64, words: usize, shared: *mut Shared, point: *const Point) -> u32;
     pub fn shim_read(
         image: *const u64,

@@ -4,6 +4,7 @@
 use second::calls;
 use second::image::lay_out as second_lay_out;
 use second::open::{open as second_open, show};
+use second::reading;
 use second::record::{self, Phase, Record};
 use second::refusal::{refuse, Refusal};
 use second::step::{settle, step as second_step, Answer as StepAnswer};
@@ -35,7 +36,7 @@ fn c_shared(shared: &record::Shared) -> Shared {
     }
 }
 
-/// The record of a call. A phase above 5 and a retry count above 65,535 are
+/// The record of a call. A phase above 6 and a retry count above 65,535 are
 /// no record's: it does not fit, and 10 comes first.
 fn record_of(words: usize, shared: &Shared, point: &Point) -> Result<Record, Refusal> {
     let Point { head, table, text } = point;
@@ -143,7 +144,15 @@ pub fn begin(image: &[u64], shared: &mut Shared, point: &mut Point, offset: usiz
     }))
 }
 
-pub fn step(image: &mut [u64], shared: &mut Shared, point: &mut Point) -> Answer {
+/// Beginning a read: the shared record stays as it is.
+pub fn begin_read(image: &[u64], shared: &Shared, point: &mut Point, offset: usize, size: usize) -> u32 {
+    let record = record_of(image.len(), shared, point);
+    let begun = record.and_then(|record| reading::begin_read(image, &shared_of(shared), &record, offset, size));
+    refusal(begun.map(|record| *point = c_point(&record)))
+}
+
+/// A step; a read's bytes come to the front of `bytes`.
+pub fn step(image: &mut [u64], shared: &mut Shared, point: &mut Point, bytes: &mut [u8]) -> Answer {
     let record = match record_of(image.len(), shared, point) {
         Ok(record) => record,
         Err(why) => return Answer { kind: REFUSED, value: number(why), word: 0 },
@@ -158,6 +167,11 @@ pub fn step(image: &mut [u64], shared: &mut Shared, point: &mut Point) -> Answer
         StepAnswer::Extending => (EXTENDING, 0),
         StepAnswer::Committed(retries) => (COMMITTED, u32::from(retries)),
         StepAnswer::Refused(why) => (REFUSED, number(why)),
+        StepAnswer::Copied => (COPIED, 0),
+        StepAnswer::Read(read) => {
+            bytes[..read.len()].copy_from_slice(&read);
+            (BYTES, read.len() as u32)
+        }
     };
     Answer { kind, value, word: store.map_or(0, |(place, _)| place) }
 }

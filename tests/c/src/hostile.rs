@@ -5,6 +5,7 @@ use second::forge::broken_entry;
 use second::image::Entry;
 
 use crate::acts::{Done, Run};
+use crate::c::READING;
 use crate::world::PLACES;
 
 impl Run {
@@ -61,7 +62,7 @@ impl Run {
         let blocks = self.blocks() as u32;
         // 64 times the last but one is the image's size in 32 bits.
         let edges =
-            [0, 2, 5, 31, 64, 128, 192, 512, 1_024, 65_535, 131_072, blocks, blocks + (1 << 26), u32::MAX];
+            [0, 2, 5, 7, 31, 64, 128, 192, 512, 1_024, 65_535, 131_072, blocks, blocks + (1 << 26), u32::MAX];
         match self.random.below(6) {
             0 => self.random.any() as u32,
             1 => self.random.between(1, self.blocks()) as u32,
@@ -115,6 +116,21 @@ impl Run {
         });
     }
 
+    /// A read that fits, mostly, but that nobody began; what it has no use for
+    /// is anything.
+    fn alter_read(&mut self, p: usize) {
+        let (offset, size) = (an_offset(&mut self.random) as u32 % 140_000, a_length(&mut self.random) as u32);
+        let touched = (offset + size.max(1) - 1) / 8 - offset / 8 + 1;
+        let position = *self.random.pick(&[0, touched - 1, touched, touched, touched, touched + 1]);
+        let (run, zeroing) = (self.a_number(), self.a_number());
+        let length = *self.random.pick(&[self.world.point(p).head.length, offset, offset + size / 2, 131_072]);
+        self.world.alter(p, |point| {
+            let head = &mut point.head;
+            (head.offset, head.size, head.phase, head.position) = (offset, size, READING, position);
+            (head.run, head.zeroing, head.length) = (run, zeroing, length);
+        });
+    }
+
     /// A record that zeroes a log block, or has just done so.
     fn alter_zeroing(&mut self, p: usize) {
         let phase = *self.random.pick(&[5, 5, 5, 1, 4]);
@@ -151,7 +167,7 @@ impl Run {
 
     /// One alteration of place p's record or of the shared record.
     fn alter(&mut self, p: usize) {
-        match self.random.below(16) {
+        match self.random.below(18) {
             0..=4 => self.alter_field(p),
             5 | 6 => self.alter_shared(),
             7 | 8 => self.alter_write(p),
@@ -169,6 +185,7 @@ impl Run {
                 let other = *self.world.point(self.random.below(PLACES));
                 self.world.alter(p, |point| *point = other);
             }
+            14 | 15 => self.alter_read(p),
             _ => self.alter_arrays(p),
         }
     }
@@ -181,8 +198,9 @@ impl Run {
         }
         let (words, offset) = (self.usual(), self.offset());
         for _ in 0..self.random.between(1, 4) {
-            match self.random.below(8) {
+            match self.random.below(9) {
                 0 => self.world.begin(words, p, offset, &[5; 600], 600).map(drop)?,
+                8 => self.world.begin_read(words, p, offset, 600).map(drop)?,
                 1 => self.world.read(words, p, offset, 700).map(drop)?,
                 2 => self.world.leave(words, p).map(drop)?,
                 3 => self.world.view(words, p, offset / 512)?,

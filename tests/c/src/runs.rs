@@ -143,6 +143,7 @@ impl Run {
         for p in 0..PLACES {
             self.world.read(self.usual(), p, 0, WIDE + 9)?;
             self.world.begin(words, p, 0, &[5; 9], 9)?;
+            self.world.begin_read(words, p, 0, 9)?;
             self.world.step(words, p)?;
             self.world.read(words, p, 0, 9)?;
             self.world.view(words, p, 0)?;

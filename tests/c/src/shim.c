@@ -74,9 +74,15 @@ uint32_t shim_begin(const uint64_t *image, size_t words, store_shared *shared, s
     return store_begin(image, words, shared, point, offset, bytes, size);
 }
 
-store_answer shim_step(uint64_t *image, size_t words, store_shared *shared, store_point *point)
+uint32_t shim_begin_read(const uint64_t *image, size_t words, const store_shared *shared, store_point *point, size_t offset,
+                         size_t size)
 {
-    return store_step(image, words, shared, point);
+    return store_begin_read(image, words, shared, point, offset, size);
+}
+
+store_answer shim_step(uint64_t *image, size_t words, store_shared *shared, store_point *point, uint8_t *bytes)
+{
+    return store_step(image, words, shared, point, bytes);
 }
 
 uint32_t shim_leave(const uint64_t *image, size_t words, store_shared *shared, const store_point *point)

@@ -6,20 +6,25 @@ use second::tally::Tally;
 use crate::c::*;
 
 /// Each call with its answers and the refusals that the header lists for it.
-pub const CALLS: [(&str, &[&str], &[u32]); 10] = [
+pub const CALLS: [(&str, &[&str], &[u32]); 11] = [
     ("lay_out", &["done"], &[1]),
     ("open", &["done"], &[1, 2, 3, 4, 5, 6, 7, 8, 9]),
     ("list", &["done"], &[1, 2, 3, 4, 5, 6, 7, 8, 9]),
     ("join", &["done"], &[10, 12, 13, 18]),
     ("begin", &["done"], &[10, 11, 14, 15, 16, 17, 18, 19]),
-    ("step", &["stored", "moved", "extending", "committed"], &[10, 11, 14, 15, 18, 20, 21]),
+    ("begin_read", &["done"], &[10, 11, 14, 15, 16, 17, 18]),
+    (
+        "step",
+        &["stored", "moved", "extending", "committed", "copied", "bytes"],
+        &[10, 11, 14, 15, 18, 20, 21],
+    ),
     ("leave", &["done"], &[10, 11, 14]),
     ("read", &["done"], &[10, 11, 14, 18]),
     ("locate", &["done"], &[10, 11, 14, 17, 18, 22]),
     ("view", &["done"], &[10, 11, 14, 17, 18, 22]),
 ];
 
-const TURNS: [&str; 7] = [
+const TURNS: [&str; 9] = [
     "linked",
     "lost link",
     "refills nothing",
@@ -27,9 +32,11 @@ const TURNS: [&str; 7] = [
     "refills last",
     "refills both",
     "committed after moved",
+    "a read begins again",
+    "a read's 18",
 ];
 
-const INPUTS: [&str; 14] = [
+const INPUTS: [&str; 17] = [
     "an image of 0 words",
     "an image of no multiple of 64 words",
     "an image beyond 32 bits",
@@ -39,6 +46,9 @@ const INPUTS: [&str; 14] = [
     "0 bytes to write",
     "bytes to write beyond 32 bits",
     "an offset to write at beyond 32 bits",
+    "a range of 0",
+    "a range beyond 32 bits",
+    "a range that begins beyond 32 bits",
     "a buffer of 0",
     "a buffer beyond 32 bits",
     "an offset to read at beyond 32 bits",
@@ -46,9 +56,9 @@ const INPUTS: [&str; 14] = [
     "a record's number above 31",
 ];
 
-/// Calls with a point's record, whose phase may be above 5 and whose retry
+/// Calls with a point's record, whose phase may be above 6 and whose retry
 /// count above 65,535.
-const WITH_RECORD: [&str; 6] = ["begin", "step", "leave", "read", "locate", "view"];
+const WITH_RECORD: [&str; 7] = ["begin", "begin_read", "step", "leave", "read", "locate", "view"];
 
 /// Counting, in the words of the table.
 pub trait Counting {
@@ -73,6 +83,8 @@ impl Counting for Tally {
             MOVED => self.count("step", "moved"),
             EXTENDING => self.count("step", "extending"),
             COMMITTED => self.count("step", "committed"),
+            COPIED => self.count("step", "copied"),
+            BYTES => self.count("step", "bytes"),
             _ => self.refused("step", u64::from(answer.value)),
         }
         let turn = match (answer.kind, after.phase) {
@@ -82,6 +94,8 @@ impl Counting for Tally {
             (MOVED, 2) => "refills first",
             (MOVED, 3) => "refills last",
             (MOVED, 4) => "refills both",
+            (MOVED, READING) => "a read begins again",
+            (REFUSED, READING) if answer.value == 18 => "a read's 18",
             (COMMITTED, _) if answer.value > 0 => "committed after moved",
             _ => return,
         };
@@ -90,8 +104,8 @@ impl Counting for Tally {
 
     fn refused_record(&mut self, call: &str, before: &Head, refused: u32) {
         self.input_if(refused == 14 && before.number > 31, "a record's number above 31");
-        if before.phase > 5 {
-            self.count("phase above 5", &format!("{call} {refused}"));
+        if before.phase > READING {
+            self.count("phase above 6", &format!("{call} {refused}"));
         } else if before.retries > 65_535 {
             self.count("retries above 65,535", &format!("{call} {refused}"));
         }
@@ -115,7 +129,7 @@ fn lines() -> Vec<(&'static str, Vec<String>)> {
         })
         .collect();
     let refusals: Vec<String> = WITH_RECORD.iter().flat_map(|call| [format!("{call} 10"), format!("{call} 11")]).collect();
-    lines.push(("phase above 5", refusals.clone()));
+    lines.push(("phase above 6", refusals.clone()));
     lines.push(("retries above 65,535", refusals));
     lines.push(("turn", TURNS.map(String::from).to_vec()));
     lines.push(("input", INPUTS.map(String::from).to_vec()));

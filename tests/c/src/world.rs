@@ -221,14 +221,34 @@ impl World {
         Ok(here)
     }
 
+    pub fn begin_read(&mut self, words: usize, p: usize, offset: usize, size: usize) -> Result<u32, String> {
+        self.last = ("begin_read", [words, p, offset, size]);
+        let before = self.point(p).head;
+        let (image, shared, point) = self.there(p);
+        let there = unsafe { shim_begin_read(image, words, shared, point, offset, size) };
+        let (image, shared, point) = self.here(words, p);
+        let here = expected::begin_read(image, shared, point, offset, size);
+        self.agree(there, here)?;
+        self.tally.input_if(size == 0, "a range of 0");
+        self.tally.input_if(size >= WIDE, "a range beyond 32 bits");
+        self.tally.input_if(offset >= WIDE, "a range that begins beyond 32 bits");
+        self.count("begin_read", words, &before, here);
+        Ok(here)
+    }
+
+    /// A step, lent room for a read's bytes with anything in it.
     pub fn step(&mut self, words: usize, p: usize) -> Result<Answer, String> {
         self.last = ("step", [words, p, 0, 0]);
         let before = self.point(p).head;
+        let salt = self.random.any();
+        let content: [u8; 1_024] = std::array::from_fn(|i| (salt >> (i % 53)) as u8);
+        let mut bytes = Both::new(&mut self.random, &content);
         let (image, shared, point) = self.there(p);
-        let there = unsafe { shim_step(image, words, shared, point) };
+        let there = unsafe { shim_step(image, words, shared, point, bytes.there.pointer()) };
         let (image, shared, point) = self.here(words, p);
-        let here = expected::step(image, shared, point);
+        let here = expected::step(image, shared, point, bytes.here.all_mut());
         self.agree(there, here)?;
+        bytes.agree("bytes")?;
         let after = self.point(p).head;
         self.tally.stepped(here, &before, &after);
         self.count_image(words);

@@ -19,11 +19,11 @@ uint32_t store_begin(const uint64_t *image, size_t words, store_shared *shared, 
     return refused;
 }
 
-store_answer store_step(uint64_t *image, size_t words, store_shared *shared, store_point *point)
+store_answer store_step(uint64_t *image, size_t words, store_shared *shared, store_point *point, uint8_t *bytes)
 {
     store_head before = point->head;
     before_call(image, &before);
-    store_answer answer = honest_store_step(image, words, shared, point);
+    store_answer answer = honest_store_step(image, words, shared, point, bytes);
     after_call(image, &before, &point->head, answer.kind);
     return answer;
 }

@@ -10,7 +10,7 @@ abbrev stepped : tie.After-of-step2 → tie.After-step-lent
 stepped c = c .before .before .before .before .before
 
 abbrev headed : tie.After-step-lent → tie.After-head
-headed c = c .before .before .before
+headed c = c .before .before .before .before
 
 abbrev led : tie.After-head → tie.After-lead
 led c = c .before .before .before .before
@@ -68,8 +68,8 @@ returns-2 c =
     let a = start (t .before) .args in
     let y = s .step-lent in
     step-known (a .image .now) (sharedLent (a .shared) (a .taken)) (pointLent (a .head) (a .table) (a .text))
-    (tests-known (t .before .is-known .ensures) (t .if1 .left)) _ (h .head .ensures) _ (l .lead .ensures)
-    (y .result) (y .last .1 .1 .0) (y .last .1 .1 .1 .1 .0) (y .last .1 .1 .1 .1 .1 .0) _ (y .ensures)
+    (tests-known (t .before .is-known .ensures) (t .if1 .left)) _ (h .head .ensures) _ (l .lead .ensures) (a .bytes .now)
+    (y .result) (y .last .1 .1 .0) (y .last .1 .1 .1 .1 .0) (y .last .1 .1 .1 .1 .1 .0) _ (y .last .1 .1 .1 .1 .1 .1 .0) (y .ensures)
     _ (c .of-step2 .ensures) _ (c .before .of-head .ensures)
 
 pub step-spec : {M : Type 1} → statement M

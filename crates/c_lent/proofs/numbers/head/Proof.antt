@@ -58,7 +58,7 @@ cast-t40 : tie.Need-cast-t40
 cast-t40 c =
     let start = first (seventh c) .before in
     let xs = start .args .numbers .now in
-    let l = leb-true (getD xs 11 0) 65535 (and-right (leb (getD xs 8 0) 5) (leb (getD xs 11 0) 65535) (start .pre)) in
+    let l = leb-true (getD xs 11 0) 65535 (and-right (leb (getD xs 8 0) 6) (leb (getD xs 11 0) 65535) (start .pre)) in
     record { fits = omega (arith, l) }
 
 returns : tie.Need-returns

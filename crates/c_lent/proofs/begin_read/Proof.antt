@@ -1,0 +1,76 @@
+-- `c_lent::begin_read`: refused where the record's numbers are none, else as the call answers; whatever the map is. Assumes nothing.
+use Rattle.c_lent.specs.Numbers.{sharedAs, pointLent}
+use Rattle.c_lent.proofs.Calls.{tests-none, tests-known, is-none, begin-read-known}
+use borrow.Author.Needs.{needs}
+use Rattle.c_lent.proofs.begin_read.Statement.{statement}
+use Rattle.c_lent.proofs.begin_read.Tie as tie
+
+-- the way back, call by call
+abbrev begun : tie.After-of-reply → tie.After-begin-read-lent
+begun c = c .before .before .before
+
+abbrev headed : tie.After-begin-read-lent → tie.After-head
+headed c = c .before .before .before
+
+abbrev led : tie.After-head → tie.After-lead
+led c = c .before .before
+
+abbrev tested : tie.After-lead → tie.Else1
+tested c = c .before
+
+abbrev start : tie.After-is-known → tie.Start
+start c = c .before .before .before
+
+is-known-requires : tie.Need-is-known-requires
+is-known-requires c κs = search needs
+
+unknown-requires : tie.Need-unknown-requires
+unknown-requires c κs = search needs
+
+returns : tie.Need-returns
+returns c taken =
+    let t = c .before in
+    let a = start (t .before) .args in
+    is-none (a .image .now) (sharedAs (a .shared .now) taken) (pointLent (a .head) (a .table) (a .text)) _ _
+    (tests-none (t .before .is-known .ensures) (t .if1 .taken)) _ (c .unknown .ensures taken)
+
+lead-requires : tie.Need-lead-requires
+lead-requires c κs = search needs
+
+head-requires : tie.Need-head-requires
+head-requires c κs = let t = tested (c .before) in tests-known (t .before .is-known .ensures) (t .if1 .left)
+
+begin-read-lent-requires : tie.Need-begin-read-lent-requires
+begin-read-lent-requires c κs = search needs
+
+of-head-requires : tie.Need-of-head-requires
+of-head-requires c κs = search needs
+
+of-reply-requires : tie.Need-of-reply-requires
+of-reply-requires c κs = search needs
+
+returns-2 : tie.Need-returns-2
+returns-2 c taken =
+    let b = begun c in
+    let h = headed b in
+    let l = led h in
+    let t = tested l in
+    let a = start (t .before) .args in
+    let y = b .begin-read-lent in
+    begin-read-known (a .image .now) (sharedAs (a .shared .now) taken) (pointLent (a .head) (a .table) (a .text))
+    (tests-known (t .before .is-known .ensures) (t .if1 .left)) _ (h .head .ensures) _ (l .lead .ensures) (a .offset) (a .size)
+    (y .result) _ _ (y .ensures taken) _ (c .of-reply .ensures) _ (c .before .of-head .ensures)
+
+pub begin-read-spec : {M : Type 1} → statement M
+begin-read-spec =
+    tie.close
+    (tie.spec
+    is-known-requires
+    unknown-requires
+    returns
+    lead-requires
+    head-requires
+    begin-read-lent-requires
+    of-head-requires
+    of-reply-requires
+    returns-2)
