@@ -34,6 +34,12 @@ pub trait Column {
 
     /// Reads the first writer's bytes, that many times.
     fn read(&mut self, times: usize, buffer: &mut [u8]);
+
+    /// The same in steps, between which others could write; at once where there
+    /// are no steps.
+    fn read_in_steps(&mut self, times: usize, buffer: &mut [u8]) {
+        self.read(times, buffer)
+    }
 }
 
 /// Where 1 kB is read to, on a cache line of its own wherever it is put.

@@ -90,7 +90,7 @@ static inline void make_lasting(uint64_t *word, uint32_t how)
 
 static inline __attribute__((always_inline)) uint32_t turns(uint64_t *image, size_t words, store_shared *shared, store_point *points,
                                                             size_t first, size_t count, const uint8_t *text, size_t length,
-                                                            uint64_t tally[6], const uint32_t how)
+                                                            uint64_t tally[8], const uint32_t how)
 {
     size_t under_way = count;
     for (size_t p = first; p < first + count; p++)
@@ -114,7 +114,7 @@ static inline __attribute__((always_inline)) uint32_t turns(uint64_t *image, siz
 /* Points from first on begin, each at 4,096 times its number, then take one step each in turn until all have committed.
    The tally counts answers by kind. 0, or 1 when a call was refused. */
 uint32_t bench_turns(uint64_t *image, size_t words, store_shared *shared, store_point *points, size_t first, size_t count,
-                     const uint8_t *text, size_t length, uint64_t tally[6], uint32_t how)
+                     const uint8_t *text, size_t length, uint64_t tally[8], uint32_t how)
 {
     switch (how) {
     case PLAIN:
@@ -126,6 +126,25 @@ uint32_t bench_turns(uint64_t *image, size_t words, store_shared *shared, store_
     default:
         return turns(image, words, shared, points, first, count, text, length, tally, CLFLUSH);
     }
+}
+
+uint32_t bench_begin_read(const uint64_t *image, size_t words, store_shared *shared, store_point *points, uint32_t number,
+                          size_t offset, size_t length)
+{
+    return store_begin_read(image, words, shared, &points[number], offset, length);
+}
+
+/* A read in steps into a buffer of 1,024 bytes, from its beginning to its bytes: 0, or 1 when a call was refused. */
+uint32_t bench_read_in_steps(uint64_t *image, size_t words, store_shared *shared, store_point *points, uint32_t number,
+                             size_t offset, uint8_t *buffer, size_t length)
+{
+    uint32_t kind;
+    if (store_begin_read(image, words, shared, &points[number], offset, length) != STORE_DONE)
+        return 1;
+    do
+        kind = store_step(image, words, shared, &points[number], buffer).kind;
+    while (kind == STORE_COPIED || kind == STORE_MOVED);
+    return kind != STORE_BYTES;
 }
 
 /* Reads: the refusal or 0, and the count of bytes. */

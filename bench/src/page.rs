@@ -176,7 +176,7 @@ pub struct Page {
     steps: (Row, Place),
     beginnings: (Vec<Row>, Place),
     opened: (Opened, Place),
-    read: (Row, Place),
+    read: ([Row; 2], Place),
     points: (Points, Place),
     log: (Log, Place),
     image: (Image, Place),
@@ -196,7 +196,8 @@ impl Page {
         let steps = (steps(run), references.again(run, &all));
         let beginnings = (beginnings(run), references.again(run, &all));
         let opened = (Opened::plan(run, folder), references.again(run, &all));
-        let read = (reads(run, &columns_of("read")), references.again(run, &all));
+        let of_read = columns_of("read");
+        let read = ([reads(run, &of_read), reads_in_steps(run, &of_read)], references.again(run, &all));
         let points = (Points::plan(run, &all, &writes), references.again(run, &all));
         let log = (Log::plan(run), references.again(run, &all));
         let image = (Image::plan(run, &writes, &opened.0), references.again(run, &all));
@@ -228,8 +229,8 @@ impl Page {
         text += &(steps_text(run, &self.steps.0) + &reference(self.steps.1));
         text += &(beginning::text(run, &self.beginnings.0) + &reference(self.beginnings.1));
         text += &(self.opened.0.text(run, &self.columns) + &reference(self.opened.1));
-        text += "## Reading\n\n";
-        text += &table::text(&head("", &self.columns), &[self.read.0.cells(run)]);
+        text += "## Reading\n\nAt once, and by this library and the second implementation in steps: its beginning, 128 that copy a word and one that answers; the others have no steps.\n\n";
+        text += &table::text(&head("", &self.columns), &self.read.0.each_ref().map(|row| row.cells(run)));
         text += &reference(self.read.1);
         text += &words_text(&self.columns);
         text += &format!("## How the cost grows\n\nOf {}. `growth.svg` shows the three tables:\n\n", First::NAME);
@@ -249,7 +250,7 @@ impl Page {
     pub fn table(&self, run: &Run) -> String {
         let row = |writers, size| self.writes.0.row(writers, size).unwrap();
         let opened = &self.opened.0.rows.iter().find(|row| row.0 == 1_000).unwrap().1;
-        short_table(run, &self.columns, [row(1, 64), row(1, 1_024), row(32, 64), opened, &self.read.0])
+        short_table(run, &self.columns, [row(1, 64), row(1, 1_024), row(32, 64), opened, &self.read.0[0], &self.read.0[1]])
     }
 
     /// What is to be said if the run drifted too far.
@@ -296,7 +297,7 @@ fn words_text(columns: &Columns) -> String {
 
 /// A table of those rows and the promises, without the columns that are left
 /// out.
-fn short_table(run: &Run, columns: &Columns, rows: [&Row; 5]) -> String {
+fn short_table(run: &Run, columns: &Columns, rows: [&Row; 6]) -> String {
     let kept: Vec<bool> = std::iter::once(true).chain(columns.iter().map(is_kept)).collect();
     let thin = |cells: Vec<String>| cells.into_iter().zip(&kept).filter(|(_, kept)| **kept).map(|(cell, _)| cell).collect::<Vec<_>>();
     let rows: Vec<_> = rows.into_iter().map(|row| row.cells(run)).chain([promises(columns)]).map(thin).collect();
@@ -311,12 +312,14 @@ pub fn short(run: &mut Run, folder: &Path, repetitions: usize) -> String {
         set
     };
     let all = set("write");
+    let of_read = set("read");
     let rows = [
         writes(run, &all, 1, 64),
         writes(run, &all, 1, 1_024),
         writes(run, &all, 32, 64),
         openings(run, &set("open"), 1_000),
-        reads(run, &set("read")),
+        reads(run, &of_read),
+        reads_in_steps(run, &of_read),
     ];
     run.measure(repetitions);
     short_table(run, &all, rows.each_ref())

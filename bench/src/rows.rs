@@ -89,24 +89,35 @@ pub fn openings(run: &mut Run, columns: &Columns, entries: usize) -> Row {
     Row { label, places: columns.iter().map(|column| open(run, column)).collect() }
 }
 
-/// A row of reads of 1 kB, of columns that are used for nothing else.
-pub fn reads(run: &mut Run, columns: &Columns) -> Row {
+/// How 1 kB is read: at once, or in steps.
+type Reading = fn(&mut dyn Column, usize, &mut [u8]);
+
+fn read_row(run: &mut Run, columns: &Columns, label: &str, times: usize, read: Reading) -> Row {
     let places = columns.iter().map(|column| {
         let mut text = text_of(1_024);
         let mut buffer = Buffer([0; 1_024]);
         let column = column.clone();
         column.borrow_mut().fresh(1);
         column.borrow_mut().rounds(1, &mut text);
-        column.borrow_mut().read(1, &mut buffer.0);
+        read(&mut *column.borrow_mut(), 1, &mut buffer.0);
         assert!(buffer.0[..] == text[..], "{} reads other bytes", column.borrow().name());
         run.add(move || {
-            let times = 1_000;
-            let time = timed(|| column.borrow_mut().read(times, &mut buffer.0));
+            let time = timed(|| read(&mut *column.borrow_mut(), times, &mut buffer.0));
             black_box(&buffer.0);
             Some(Work { time, pieces: times })
         })
     });
-    Row { label: "read 1,024 B".to_string(), places: places.collect() }
+    Row { label: label.to_string(), places: places.collect() }
+}
+
+/// A row of reads of 1 kB, of columns that are used for nothing else.
+pub fn reads(run: &mut Run, columns: &Columns) -> Row {
+    read_row(run, columns, "read 1,024 B", 1_000, |column, times, buffer| column.read(times, buffer))
+}
+
+/// The same in 129 steps, where a column has steps.
+pub fn reads_in_steps(run: &mut Run, columns: &Columns) -> Row {
+    read_row(run, columns, "read 1,024 B, in steps", 100, |column, times, buffer| column.read_in_steps(times, buffer))
 }
 
 /// The cells of a row of words stored for each byte written, over as many

@@ -5,6 +5,7 @@ use crate::store::*;
 use ::second::calls;
 use ::second::image::lay_out;
 use ::second::open::open;
+use ::second::reading::begin_read;
 use ::second::record::{Phase, Record, Shared};
 use ::second::step::{step, Answer};
 
@@ -13,16 +14,29 @@ pub struct Second {
     scratch: Vec<u16>,
     shared: Shared,
     points: Vec<Record>,
-    tally: [u64; 6],
+    tally: Tally,
 }
 
-fn kind(answer: Answer) -> usize {
+fn kind(answer: &Answer) -> usize {
     match answer {
         Answer::Stored => STORED,
         Answer::Moved => MOVED,
         Answer::Extending => EXTENDING,
         Answer::Committed(_) => COMMITTED,
+        Answer::Copied => COPIED,
+        Answer::Read(_) => BYTES,
         Answer::Refused(why) => panic!("a step is refused: {why:?}"),
+    }
+}
+
+impl Second {
+    /// A step of a point, tallied: its answer.
+    fn answer(&mut self, number: usize) -> Answer {
+        let (answer, shared, record) = step(&mut self.image, &self.shared, &self.points[number]);
+        self.shared = shared;
+        self.points[number] = record;
+        self.tally[kind(&answer)] += 1;
+        answer
     }
 }
 
@@ -36,7 +50,7 @@ impl Store for Second {
             scratch: vec![0; 1_024],
             shared: Shared::zero(),
             points: vec![Record::zero(); 32],
-            tally: [0; 6],
+            tally: Tally::default(),
         };
         store.lay_out();
         store
@@ -45,7 +59,7 @@ impl Store for Second {
     fn lay_out(&mut self) {
         lay_out(&mut self.image).unwrap();
         self.open();
-        self.tally = [0; 6];
+        self.tally = Tally::default();
     }
 
     fn restore(&mut self, from: &Second) {
@@ -74,10 +88,7 @@ impl Store for Second {
     }
 
     fn step(&mut self, number: usize) {
-        let (answer, shared, record) = step(&mut self.image, &self.shared, &self.points[number]);
-        self.shared = shared;
-        self.points[number] = record;
-        self.tally[kind(answer)] += 1;
+        self.answer(number);
     }
 
     fn rewind(&mut self, number: usize) {
@@ -102,7 +113,20 @@ impl Store for Second {
         calls::read(&self.image, &self.shared, &self.points[number], offset, buffer).unwrap()
     }
 
-    fn tally(&self) -> [u64; 6] {
+    fn begin_read(&mut self, number: usize, offset: usize, size: usize) {
+        self.points[number] = begin_read(&self.image, &self.shared, &self.points[number], offset, size).unwrap();
+    }
+
+    fn read_in_steps(&mut self, number: usize, offset: usize, buffer: &mut [u8]) {
+        self.begin_read(number, offset, buffer.len());
+        loop {
+            if let Answer::Read(bytes) = self.answer(number) {
+                return buffer.copy_from_slice(&bytes);
+            }
+        }
+    }
+
+    fn tally(&self) -> Tally {
         self.tally
     }
 

@@ -10,6 +10,10 @@ pub const MOVED: usize = 2;
 pub const EXTENDING: usize = 3;
 pub const COMMITTED: usize = 4;
 pub const REFUSED: usize = 5;
+pub const COPIED: usize = 6;
+pub const BYTES: usize = 7;
+/// Answers are tallied by kind.
+pub type Tally = [u64; 8];
 
 /// A map of taken blocks, a bit each.
 pub type Map = [u64; 16];
@@ -38,7 +42,11 @@ pub trait Store {
     /// take one step each in turn until all have committed.
     fn turns(&mut self, first: usize, count: usize, text: &[u8]);
     fn read(&self, number: usize, offset: usize, buffer: &mut [u8]) -> usize;
-    fn tally(&self) -> [u64; 6];
+    /// Begins a read in steps.
+    fn begin_read(&mut self, number: usize, offset: usize, size: usize);
+    /// A read in steps, from its beginning to its bytes.
+    fn read_in_steps(&mut self, number: usize, offset: usize, buffer: &mut [u8]);
+    fn tally(&self) -> Tally;
     fn map(&self) -> Map;
     /// The point is idle, as if it had begun nothing, and the map is that one.
     fn put_back(&mut self, number: usize, map: &Map);
@@ -92,6 +100,20 @@ pub trait Store {
         let mut store = Self::begun();
         store.finish(0);
         store.begin(0, offset, &text_of(8));
+        store
+    }
+
+    /// A read of 1,024 bytes of the file is under way, so many words of it copied.
+    fn reading(words: usize) -> Self
+    where
+        Self: Sized,
+    {
+        let mut store = Self::with_entries(0, 64);
+        store.turns(0, 1, &text_of(1_024));
+        store.begin_read(0, 0, 1_024);
+        for _ in 0..words {
+            store.step(0);
+        }
         store
     }
 
@@ -163,6 +185,12 @@ impl<S: Store> Column for Turns<S> {
     fn read(&mut self, times: usize, buffer: &mut [u8]) {
         for _ in 0..times {
             assert_eq!(self.store.read(0, 0, buffer), buffer.len());
+        }
+    }
+
+    fn read_in_steps(&mut self, times: usize, buffer: &mut [u8]) {
+        for _ in 0..times {
+            self.store.read_in_steps(0, 0, buffer);
         }
     }
 }

@@ -18,6 +18,7 @@ enum Call {
     Begin,
     Open,
     Read,
+    ReadInSteps,
 }
 
 impl Call {
@@ -25,9 +26,11 @@ impl Call {
         match name {
             "nothing" => Call::Nothing,
             "fill" | "fill, a word copied" | "fill, a word at the text's edge" | "commit" => Call::Step,
+            "copy a word of a read" | "answer a read" => Call::Step,
             "begin" => Call::Begin,
             "open" => Call::Open,
             "read" => Call::Read,
+            "read in steps" => Call::ReadInSteps,
             _ => panic!("no such call"),
         }
     }
@@ -68,7 +71,9 @@ impl<S: Store> Kept<S> {
                 store.fill_block(1);
                 store
             }
-            "read" => {
+            "copy a word of a read" => S::reading(1),
+            "answer a read" => S::reading(128),
+            "read" | "read in steps" => {
                 let mut store = S::with_entries(0, 64);
                 store.turns(0, 1, &text_of(1_024));
                 store
@@ -102,6 +107,7 @@ impl<S: Store> Calls for Kept<S> {
             Call::Begin => self.store.begin(self.point, self.offset, &self.text),
             Call::Open => assert_eq!(self.store.open(), 1_000),
             Call::Read => assert_eq!(self.store.read(0, 0, &mut self.buffer), 1_024),
+            Call::ReadInSteps => self.store.read_in_steps(0, 0, &mut self.buffer),
         }
     }
 }
