@@ -220,9 +220,9 @@ uint32_t store_begin_read(const uint64_t *image, size_t words, const store_share
    A write: at most one word of the image is stored. Step on until STORE_COMMITTED or STORE_REFUSED; a point that steps alone is done
    after at most 388 steps.
    A read: nothing is stored. Step on until STORE_BYTES or STORE_REFUSED; a point that steps alone is done after at most 260 steps. Each
-   step copies a word, and the last one looks at what was committed meanwhile: over blocks of the range, or past an end of the file that
-   lies in it, it answers STORE_MOVED and the read begins again; else STORE_BYTES, and the bytes are the file's as of that step, 0 past
-   its end.
+   step copies a word, and the last one looks at what was committed meanwhile: if it covers a block of the range, or lengthens the file
+   where the range ended past its end, the step answers STORE_MOVED and the read begins again; else STORE_BYTES, and the bytes are the
+   file's as of that step, 0 past its end.
    Lent: the image, both records, and `bytes`, room for 1,024 bytes. With STORE_BYTES the read's come to its front; no other step touches
    it, nor what lies behind them, so one room serves all points.
    Refusals, as value of STORE_REFUSED: 10, 11, 14, 15, 18, after which the write or the read is still under way; 20, 21, which end the

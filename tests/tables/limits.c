@@ -11,8 +11,8 @@ static uint64_t image[WORDS + STORE_BLOCK_WORDS];
 static uint16_t scratch[STORE_SCRATCH];
 static store_shared shared;
 static store_point points[STORE_POINTS + 1];
-static uint8_t text[STORE_TEXT_MOST + 1];
-static uint32_t stored, steps; /* of the last write */
+static uint8_t text[STORE_TEXT_MOST + 1], bytes[STORE_TEXT_MOST];
+static uint32_t stored, steps; /* of the last write or read */
 
 static void must(uint32_t refused)
 {
@@ -27,15 +27,15 @@ static uint32_t begin(uint32_t p, size_t offset, size_t size)
     return store_begin(image, WORDS, &shared, &points[p], offset, text, size);
 }
 
-/* Steps of a point until its write is done; the refusal that ended it. */
+/* Steps of a point until its write or read is done; the refusal that ended it. */
 static uint32_t finish(uint32_t p)
 {
     stored = steps = 0;
     for (;;) {
-        store_answer answer = store_step(image, WORDS, &shared, &points[p]);
+        store_answer answer = store_step(image, WORDS, &shared, &points[p], bytes);
         steps++;
         stored += answer.word != 0;
-        if (answer.kind == STORE_COMMITTED)
+        if (answer.kind == STORE_COMMITTED || answer.kind == STORE_BYTES)
             return STORE_DONE;
         if (answer.kind == STORE_REFUSED)
             return answer.value;
@@ -74,6 +74,12 @@ static int begins_of(size_t size)
 {
     start();
     return begin(0, 0, size) == STORE_DONE;
+}
+
+static int reads_of(size_t size)
+{
+    start();
+    return store_begin_read(image, WORDS, &shared, &points[0], 0, size) == STORE_DONE;
 }
 
 static int ends_at(size_t end)
@@ -135,16 +141,28 @@ static void longest_write(void)
     row("steps of a write that goes on alone, at most", steps);
 }
 
+/* The longest way of a read that goes on alone: 129 words copied, and again, since another has written there. */
+static void longest_read(void)
+{
+    start();
+    must(store_begin_read(image, WORDS, &shared, &points[0], 1, STORE_TEXT_MOST));
+    write_at(1, 0, 8);
+    must(finish(0));
+    row("steps of a read that goes on alone, at most", steps);
+}
+
 int main(void)
 {
     printf("| | |\n|---|---:|\n");
     row("bytes of a file, at most", greatest(1, 2 * STORE_FILE_MOST, ends_at));
     row("bytes of one write, at most", greatest(1, STORE_TEXT_MOST + 1, begins_of));
+    row("bytes of one read in steps, at most", greatest(1, STORE_TEXT_MOST + 1, reads_of));
     size_t blocks = greatest(STORE_BLOCKS_LEAST, STORE_BLOCKS_MOST + 1, lays_out);
     row("blocks of an image, at most", blocks);
     row("KiB of an image, at most", blocks * STORE_BLOCK_WORDS * sizeof(uint64_t) / 1024);
     row("points joined, at most", joined_points());
     fill_the_log();
     longest_write();
+    longest_read();
     return 0;
 }

@@ -95,6 +95,7 @@ static uint64_t image[STORE_BLOCKS_MOST * STORE_BLOCK_WORDS];
 static size_t words;
 static store_shared shared;
 static store_point points[POINTS];
+static uint8_t bytes[STORE_TEXT_MOST]; /* room for the bytes of a read in steps, which no write uses */
 static int beside;     /* whether it goes along */
 static int every_step; /* whether its points take the steps that fill, which take no block; else these are passed over */
 static unsigned long searches;
@@ -134,7 +135,7 @@ static void finish_beside(uint32_t p, const write *w, uint32_t log_block, uint32
     do {
         if (!every_step && points[p].head.phase != STORE_ZEROING)
             points[p].head.position = w->span * STORE_BLOCK_WORDS;
-        answer = store_step(image, words, &shared, &points[p]);
+        answer = store_step(image, words, &shared, &points[p], bytes);
         if (answer.kind == STORE_EXTENDING)
             taken = points[p].head.zeroing;
     } while (answer.kind != STORE_COMMITTED && answer.kind != STORE_REFUSED);
