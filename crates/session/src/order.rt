@@ -32,11 +32,11 @@ pub const JOINAS: u32 = 23;
 
 pub const BEGIN: u32 = 24;
 
-pub const STEP: u32 = 25;
+pub const BEGINREAD: u32 = 25;
 
-pub const LEAVE: u32 = 26;
+pub const STEP: u32 = 26;
 
-pub const BEGINREAD: u32 = 27;
+pub const LEAVE: u32 = 27;
 
 // Looks.
 pub const READ: u32 = 30;
