@@ -33,6 +33,12 @@ uint32_t bench_begin(const uint64_t *image, size_t words, store_shared *shared, 
     return store_begin(image, words, shared, &points[number], offset, text, length);
 }
 
+uint32_t bench_begin_read(const uint64_t *image, size_t words, const store_shared *shared, store_point *points, uint32_t number,
+                          size_t offset, size_t size)
+{
+    return store_begin_read(image, words, shared, &points[number], offset, size);
+}
+
 /* Room for the bytes of a read in steps. */
 static uint8_t bytes[STORE_TEXT_MOST];
 
@@ -90,7 +96,7 @@ static inline void make_lasting(uint64_t *word, uint32_t how)
 
 static inline __attribute__((always_inline)) uint32_t turns(uint64_t *image, size_t words, store_shared *shared, store_point *points,
                                                             size_t first, size_t count, const uint8_t *text, size_t length,
-                                                            uint64_t tally[6], const uint32_t how)
+                                                            uint64_t tally[8], const uint32_t how)
 {
     size_t under_way = count;
     for (size_t p = first; p < first + count; p++)
@@ -114,7 +120,7 @@ static inline __attribute__((always_inline)) uint32_t turns(uint64_t *image, siz
 /* Points from first on begin, each at 4,096 times its number, then take one step each in turn until all have committed.
    The tally counts answers by kind. 0, or 1 when a call was refused. */
 uint32_t bench_turns(uint64_t *image, size_t words, store_shared *shared, store_point *points, size_t first, size_t count,
-                     const uint8_t *text, size_t length, uint64_t tally[6], uint32_t how)
+                     const uint8_t *text, size_t length, uint64_t tally[8], uint32_t how)
 {
     switch (how) {
     case PLAIN:

@@ -20,6 +20,15 @@ extern "C" {
         text: *const u8,
         length: usize,
     ) -> u32;
+    fn bench_begin_read(
+        image: *const u64,
+        words: usize,
+        shared: *const u64,
+        points: *mut u64,
+        number: u32,
+        offset: usize,
+        size: usize,
+    ) -> u32;
     fn bench_step(image: *mut u64, words: usize, shared: *mut u64, points: *mut u64, number: u32) -> u32;
     fn bench_rewind(points: *mut u64, number: u32);
     fn bench_map(shared: *const u64, map: *mut u64);
@@ -64,7 +73,7 @@ pub struct Library {
     scratch: Vec<u16>,
     shared: Vec<u64>,
     points: Vec<u64>,
-    tally: [u64; 6],
+    tally: Tally,
     /// How `turns` makes stored words lasting, as `library.c` numbers it.
     how: u32,
 }
@@ -111,7 +120,7 @@ impl Store for Library {
             scratch: vec![0; 1_024],
             shared: words_for(shared),
             points: words_for(32 * point),
-            tally: [0; 6],
+            tally: [0; 8],
             how: 0,
         };
         store.lay_out();
@@ -123,7 +132,7 @@ impl Store for Library {
         // SAFETY: here and below the C functions get memory of the sizes that they are told.
         accepted(unsafe { bench_lay_out(image, words) });
         self.open();
-        self.tally = [0; 6];
+        self.tally = [0; 8];
     }
 
     fn restore(&mut self, from: &Library) {
@@ -155,11 +164,17 @@ impl Store for Library {
         accepted(unsafe { bench_begin(image, words, shared, points, number as u32, offset, text.as_ptr(), text.len()) });
     }
 
+    fn begin_read(&mut self, number: usize, offset: usize, size: usize) {
+        let (image, words) = self.image();
+        let (shared, points) = (self.shared.as_ptr(), self.points.as_mut_ptr());
+        accepted(unsafe { bench_begin_read(image, words, shared, points, number as u32, offset, size) });
+    }
+
     fn step(&mut self, number: usize) {
         let (image, words) = self.image_to_write();
         let (shared, points) = (self.shared.as_mut_ptr(), self.points.as_mut_ptr());
         let kind = unsafe { bench_step(image, words, shared, points, number as u32) } as usize;
-        assert!(kind < REFUSED, "a step is refused");
+        assert_ne!(kind, REFUSED, "a step is refused");
         self.tally[kind] += 1;
     }
 
@@ -188,7 +203,7 @@ impl Store for Library {
         count as usize
     }
 
-    fn tally(&self) -> [u64; 6] {
+    fn tally(&self) -> Tally {
         self.tally
     }
 

@@ -5,6 +5,7 @@ use crate::store::*;
 use ::second::calls;
 use ::second::image::lay_out;
 use ::second::open::open;
+use ::second::reading::begin_read;
 use ::second::record::{Phase, Record, Shared};
 use ::second::step::{step, Answer};
 
@@ -13,7 +14,7 @@ pub struct Second {
     scratch: Vec<u16>,
     shared: Shared,
     points: Vec<Record>,
-    tally: [u64; 6],
+    tally: Tally,
 }
 
 fn kind(answer: Answer) -> usize {
@@ -22,6 +23,8 @@ fn kind(answer: Answer) -> usize {
         Answer::Moved => MOVED,
         Answer::Extending => EXTENDING,
         Answer::Committed(_) => COMMITTED,
+        Answer::Copied => COPIED,
+        Answer::Read(_) => BYTES,
         Answer::Refused(why) => panic!("a step is refused: {why:?}"),
     }
 }
@@ -36,7 +39,7 @@ impl Store for Second {
             scratch: vec![0; 1_024],
             shared: Shared::zero(),
             points: vec![Record::zero(); 32],
-            tally: [0; 6],
+            tally: [0; 8],
         };
         store.lay_out();
         store
@@ -45,7 +48,7 @@ impl Store for Second {
     fn lay_out(&mut self) {
         lay_out(&mut self.image).unwrap();
         self.open();
-        self.tally = [0; 6];
+        self.tally = [0; 8];
     }
 
     fn restore(&mut self, from: &Second) {
@@ -71,6 +74,11 @@ impl Store for Second {
     fn begin(&mut self, number: usize, offset: usize, text: &[u8]) {
         let record = &self.points[number];
         (self.shared, self.points[number]) = calls::begin(&self.image, &self.shared, record, offset, text).unwrap();
+    }
+
+    fn begin_read(&mut self, number: usize, offset: usize, size: usize) {
+        let record = &self.points[number];
+        self.points[number] = begin_read(&self.image, &self.shared, record, offset, size).unwrap();
     }
 
     fn step(&mut self, number: usize) {
@@ -102,7 +110,7 @@ impl Store for Second {
         calls::read(&self.image, &self.shared, &self.points[number], offset, buffer).unwrap()
     }
 
-    fn tally(&self) -> [u64; 6] {
+    fn tally(&self) -> Tally {
         self.tally
     }
 

@@ -10,6 +10,11 @@ pub const MOVED: usize = 2;
 pub const EXTENDING: usize = 3;
 pub const COMMITTED: usize = 4;
 pub const REFUSED: usize = 5;
+pub const COPIED: usize = 6;
+pub const BYTES: usize = 7;
+
+/// How often each kind was answered.
+pub type Tally = [u64; 8];
 
 /// A map of taken blocks, a bit each.
 pub type Map = [u64; 16];
@@ -31,6 +36,8 @@ pub trait Store {
     fn join(&mut self, number: usize);
     fn leave(&mut self, number: usize);
     fn begin(&mut self, number: usize, offset: usize, text: &[u8]);
+    /// Begins a read in steps.
+    fn begin_read(&mut self, number: usize, offset: usize, size: usize);
     fn step(&mut self, number: usize);
     /// A point that is filling fills from its first word again.
     fn rewind(&mut self, number: usize);
@@ -38,7 +45,7 @@ pub trait Store {
     /// take one step each in turn until all have committed.
     fn turns(&mut self, first: usize, count: usize, text: &[u8]);
     fn read(&self, number: usize, offset: usize, buffer: &mut [u8]) -> usize;
-    fn tally(&self) -> [u64; 6];
+    fn tally(&self) -> Tally;
     fn map(&self) -> Map;
     /// The point is idle, as if it had begun nothing, and the map is that one.
     fn put_back(&mut self, number: usize, map: &Map);
@@ -81,6 +88,21 @@ pub trait Store {
         let mut store = Self::new(1_024);
         store.join(0);
         store.begin(0, 0, &text_of(512));
+        store
+    }
+
+    /// A read in steps of 1,024 bytes that were written is under way, that
+    /// many words of it copied.
+    fn reading(words: usize) -> Self
+    where
+        Self: Sized,
+    {
+        let mut store = Self::with_entries(0, 64);
+        store.turns(0, 1, &text_of(1_024));
+        store.begin_read(0, 0, 1_024);
+        for _ in 0..words {
+            store.step(0);
+        }
         store
     }
 

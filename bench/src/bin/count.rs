@@ -16,6 +16,7 @@ enum Call {
     Nothing,
     Step,
     Begin,
+    BeginRead,
     Open,
     Read,
 }
@@ -25,7 +26,9 @@ impl Call {
         match name {
             "nothing" => Call::Nothing,
             "fill" | "fill, a word copied" | "fill, a word at the text's edge" | "commit" => Call::Step,
+            "read in steps, a word" | "read in steps, the last step" => Call::Step,
             "begin" => Call::Begin,
+            "begin a read in steps" => Call::BeginRead,
             "open" => Call::Open,
             "read" => Call::Read,
             _ => panic!("no such call"),
@@ -68,7 +71,9 @@ impl<S: Store> Kept<S> {
                 store.fill_block(1);
                 store
             }
-            "read" => {
+            "read in steps, a word" => S::reading(0),
+            "read in steps, the last step" => S::reading(128),
+            "read" | "begin a read in steps" => {
                 let mut store = S::with_entries(0, 64);
                 store.turns(0, 1, &text_of(1_024));
                 store
@@ -76,7 +81,7 @@ impl<S: Store> Kept<S> {
             "open" => S::with_entries(1_000, 64),
             _ => S::with_entries(0, 64),
         };
-        let back = if [Call::Step, Call::Begin].contains(&Call::named(call)) { Back::All(make()) } else { Back::Nothing };
+        let back = if [Call::Step, Call::Begin, Call::BeginRead].contains(&Call::named(call)) { Back::All(make()) } else { Back::Nothing };
         Kept { store: make(), back, point: 0, offset: 0, text: text_of(512), buffer: vec![0; 1_024] }
     }
 
@@ -100,6 +105,7 @@ impl<S: Store> Calls for Kept<S> {
             Call::Nothing => {}
             Call::Step => self.store.step(0),
             Call::Begin => self.store.begin(self.point, self.offset, &self.text),
+            Call::BeginRead => self.store.begin_read(self.point, 0, 1_024),
             Call::Open => assert_eq!(self.store.open(), 1_000),
             Call::Read => assert_eq!(self.store.read(0, 0, &mut self.buffer), 1_024),
         }
