@@ -33,12 +33,6 @@ uint32_t bench_begin(const uint64_t *image, size_t words, store_shared *shared, 
     return store_begin(image, words, shared, &points[number], offset, text, length);
 }
 
-uint32_t bench_begin_read(const uint64_t *image, size_t words, const store_shared *shared, store_point *points, uint32_t number,
-                          size_t offset, size_t size)
-{
-    return store_begin_read(image, words, shared, &points[number], offset, size);
-}
-
 /* Room for the bytes of a read in steps. */
 static uint8_t bytes[STORE_TEXT_MOST];
 

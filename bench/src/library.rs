@@ -174,12 +174,6 @@ impl Store for Library {
         accepted(unsafe { bench_begin(image, words, shared, points, number as u32, offset, text.as_ptr(), text.len()) });
     }
 
-    fn begin_read(&mut self, number: usize, offset: usize, size: usize) {
-        let (image, words) = self.image();
-        let (shared, points) = (self.shared.as_ptr(), self.points.as_mut_ptr());
-        accepted(unsafe { bench_begin_read(image, words, shared, points, number as u32, offset, size) });
-    }
-
     fn step(&mut self, number: usize) {
         let (image, words) = self.image_to_write();
         let (shared, points) = (self.shared.as_mut_ptr(), self.points.as_mut_ptr());

@@ -87,11 +87,6 @@ impl Store for Second {
         (self.shared, self.points[number]) = calls::begin(&self.image, &self.shared, record, offset, text).unwrap();
     }
 
-    fn begin_read(&mut self, number: usize, offset: usize, size: usize) {
-        let record = &self.points[number];
-        self.points[number] = begin_read(&self.image, &self.shared, record, offset, size).unwrap();
-    }
-
     fn step(&mut self, number: usize) {
         self.answer(number);
     }

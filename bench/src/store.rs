@@ -35,8 +35,6 @@ pub trait Store {
     fn join(&mut self, number: usize);
     fn leave(&mut self, number: usize);
     fn begin(&mut self, number: usize, offset: usize, text: &[u8]);
-    /// Begins a read in steps.
-    fn begin_read(&mut self, number: usize, offset: usize, size: usize);
     fn step(&mut self, number: usize);
     /// A point that is filling fills from its first word again.
     fn rewind(&mut self, number: usize);
@@ -91,21 +89,6 @@ pub trait Store {
         let mut store = Self::new(1_024);
         store.join(0);
         store.begin(0, 0, &text_of(512));
-        store
-    }
-
-    /// A read in steps of 1,024 bytes that were written is under way, that
-    /// many words of it copied.
-    fn reading(words: usize) -> Self
-    where
-        Self: Sized,
-    {
-        let mut store = Self::with_entries(0, 64);
-        store.turns(0, 1, &text_of(1_024));
-        store.begin_read(0, 0, 1_024);
-        for _ in 0..words {
-            store.step(0);
-        }
         store
     }
 

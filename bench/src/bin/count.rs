@@ -16,7 +16,6 @@ enum Call {
     Nothing,
     Step,
     Begin,
-    BeginRead,
     Open,
     Read,
     ReadInSteps,
@@ -29,7 +28,6 @@ impl Call {
             "fill" | "fill, a word copied" | "fill, a word at the text's edge" | "commit" => Call::Step,
             "copy a word of a read" | "answer a read" => Call::Step,
             "begin" => Call::Begin,
-            "begin a read in steps" => Call::BeginRead,
             "open" => Call::Open,
             "read" => Call::Read,
             "read in steps" => Call::ReadInSteps,
@@ -83,7 +81,7 @@ impl<S: Store> Kept<S> {
             "open" => S::with_entries(1_000, 64),
             _ => S::with_entries(0, 64),
         };
-        let back = if [Call::Step, Call::Begin, Call::BeginRead].contains(&Call::named(call)) { Back::All(make()) } else { Back::Nothing };
+        let back = if [Call::Step, Call::Begin].contains(&Call::named(call)) { Back::All(make()) } else { Back::Nothing };
         Kept { store: make(), back, point: 0, offset: 0, text: text_of(512), buffer: vec![0; 1_024] }
     }
 
@@ -107,7 +105,6 @@ impl<S: Store> Calls for Kept<S> {
             Call::Nothing => {}
             Call::Step => self.store.step(0),
             Call::Begin => self.store.begin(self.point, self.offset, &self.text),
-            Call::BeginRead => self.store.begin_read(self.point, 0, 1_024),
             Call::Open => assert_eq!(self.store.open(), 1_000),
             Call::Read => assert_eq!(self.store.read(0, 0, &mut self.buffer), 1_024),
             Call::ReadInSteps => self.store.read_in_steps(0, 0, &mut self.buffer),
