@@ -14,7 +14,7 @@ static uint64_t image[WORDS], sound[WORDS];
 static uint16_t scratch[STORE_SCRATCH], marks[STORE_SCRATCH];
 static store_shared shared;
 static store_point points[POINTS], reader;
-static uint8_t bytes[STORE_TEXT_MOST]; /* room for the bytes of a read in steps, which no write uses */
+static uint8_t room[STORE_TEXT_MOST]; /* room for the bytes of a read in steps, which no write uses */
 static uint8_t file[STORE_FILE_MOST], other[STORE_FILE_MOST];
 
 static void must(uint32_t refused)
@@ -37,7 +37,7 @@ static void write_readings(uint32_t number)
     for (uint32_t busy = POINTS; busy > 0;)
         for (uint32_t p = 0; p < POINTS; p++)
             if (points[p].head.phase != STORE_IDLE) {
-                store_answer answer = store_step(image, WORDS, &shared, &points[p], bytes);
+                store_answer answer = store_step(image, WORDS, &shared, &points[p], room);
                 must(answer.kind == STORE_REFUSED ? answer.value : STORE_DONE);
                 busy -= answer.kind == STORE_COMMITTED;
             }
