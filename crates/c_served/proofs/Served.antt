@@ -16,7 +16,7 @@ use Rattle.points.specs.Calls.{joinRefusal, joining, beginRefusal, beginning, b
 use Rattle.points.specs.Plan.{answered, storedAt}
 use Rattle.points.specs.Stepping.{stepping, bytesAfter}
 use Rattle.points.specs.Reading.{readRefusal, reading, locateRefusal, locating}
-use Rattle.points.proofs.Begins.{begin-map, begin-read-shared}
+use Rattle.points.proofs.Replies.{begin-map, begin-read-shared}
 use Rattle.points.proofs.CarriedOut.{step-map}
 use Rattle.points.proofs.StoredAt.{told-none}
 use Rattle.log.proofs.Replies.{number-back, opened-replies}

@@ -1,6 +1,5 @@
 -- Beginning: its reasons in their order, the text in its array, and what it answers. Assumes nothing.
 use Prim.Native.Nat.{ℕ, zero, suc, _+_, _-_, _≤_, _<_}
-use native.Mathlib.Decide.{ℕ-discrete}
 use native.Mathlib.Omega.{arith}
 use native.Mathlib.Numerals.{add-one}
 use native.Mathlib.Nat.{zero-add}
@@ -245,18 +244,6 @@ module _ (E : Edition) (words : List ℕ) (s : Shared) (p : Point) (offset size 
                 };
           }
 
-  -- it leaves the shared record alone
-  pub begin-read-shared : beginningRead E words s p offset size .shared ≡ s
-  unfolding beginningRead
-  begin-read-shared = go (ℕ-discrete unread 0)
-    where
-      kept : Begun → Type 0
-      kept b = b .shared ≡ s
-
-      go : Dec (unread ≡ 0) → kept (beginningRead E words s p offset size)
-      go (yes z) = subst kept (sym (chosen-zero unread _ _ z)) refl
-      go (no ne) = subst kept (begin-read-refused unread refl ne) refl
-
 -- a beginning on a whole shared record, by its numbers and its map
 pub whole-begin :
     (words : List ℕ) (s : Shared) (p : Point) (offset : ℕ) (text : List ℕ) (n : Numbers) (left : LentBegun) (taken table kept : List ℕ) (t : Shared)
@@ -269,16 +256,3 @@ pub whole-begin-read :
     → n ≡ numbersOf s → begunOf n left (s .taken) table kept ≡ beginningRead one words (sharedOf n (s .taken)) p offset size
     → record { reply = left .reply; shared = s; point = record { head = left .head; table = table; text = kept } } ≡ beginningRead one words s p offset size
 whole-begin-read words s p offset size n left table kept en e = rw en at e
-
--- a beginning changes the map alone of the shared record
-pub begin-map : (E : Edition) (words : List ℕ) (s : Shared) (p : Point) (offset : ℕ) (text : List ℕ)
-    → withTaken s (beginning E words s p offset text .shared .taken) ≡ beginning E words s p offset text .shared
-unfolding beginning
-begin-map E words s p offset text = go (ℕ-discrete (beginRefusal E words s (p .head) (p .table) offset (length text)) 0)
-  where
-    kept : Begun → Type 0
-    kept b = withTaken s (b .shared .taken) ≡ b .shared
-
-    go : Dec (beginRefusal E words s (p .head) (p .table) offset (length text) ≡ 0) → kept (beginning E words s p offset text)
-    go (yes z) = subst kept (sym (chosen-zero (beginRefusal E words s (p .head) (p .table) offset (length text)) _ _ z)) refl
-    go (no ne) = subst kept (begin-refused E words s p offset text (beginRefusal E words s (p .head) (p .table) offset (length text)) refl ne) refl

@@ -1,9 +1,9 @@
--- A call that goes by its refusal's number replies that number: joining, beginning and leaving. And what a step of a write answers is its plan's. Assumes
--- nothing.
+-- A call that goes by its refusal's number replies that number: joining, beginning and leaving. What a beginning leaves of the shared record. And what a
+-- step of a write answers is its plan's. Assumes nothing.
 use mathlib.Core.Path.{_≡_, refl, ap}
 use mathlib.Core.Bool.{false}
 use mathlib.Core.List.{List}
-use Prim.Native.Nat.{ℕ}
+use Prim.Native.Nat.{ℕ, zero, suc}
 use lib.ListN.{length}
 use Rattle.words.specs.Edition.{Edition}
 use Rattle.log.specs.declared.Shared.{Shared}
@@ -14,10 +14,16 @@ use Rattle.points.specs.declared.Joined.{Joined}
 use Rattle.points.specs.declared.Begun.{Begun}
 use Rattle.points.specs.declared.Left.{Left}
 use Rattle.points.specs.Record.{isReading, unfit}
+use Rattle.points.specs.Search.{withTaken}
 use Rattle.points.specs.Calls.{joining, joinRefusal, beginning, beginRefusal, beginningRead, beginReadRefusal, leaving}
 use Rattle.points.specs.Plan.{Outcome, carriedOut}
 use Rattle.points.specs.Stepping.{planned, stepping}
 use Rattle.points.proofs.ReadCases.{write-kind}
+
+-- what holds of both ways of a choice by a refusal's number holds of the way taken
+chosen-either : {A : Type 0} (P : A → Type 0) (n : ℕ) {x : A} {y : ℕ → A} → P x → ((k : ℕ) → P (y k)) → P (elim n [ zero ↦ x | suc k ↦ y k ])
+chosen-either P zero a b = a
+chosen-either P (suc n) a b = b n
 
 module _ (E : Edition) (I : List ℕ) (s : Shared) where
   pub join-replies : (n : ℕ) → joining E I s n .reply ≡ replyOf (joinRefusal E I s n)
@@ -36,6 +42,17 @@ module _ (E : Edition) (I : List ℕ) (s : Shared) where
     pub begin-read-replies : (o size : ℕ) → beginningRead E I s p o size .reply ≡ replyOf (beginReadRefusal E I s (p .head) (p .table) o size)
     unfolding beginningRead
     begin-read-replies o size = replies (λ (b : Begun). b .reply) (beginReadRefusal E I s (p .head) (p .table) o size) _ _ refl (λ k. refl)
+
+    -- a write's changes the map alone of the shared record, a read's nothing
+    pub begin-map : (o : ℕ) (text : List ℕ) → withTaken s (beginning E I s p o text .shared .taken) ≡ beginning E I s p o text .shared
+    unfolding beginning
+    begin-map o text =
+        chosen-either (λ (b : Begun). withTaken s (b .shared .taken) ≡ b .shared) (beginRefusal E I s (p .head) (p .table) o (length text)) refl (λ k. refl)
+
+    pub begin-read-shared : (o size : ℕ) → beginningRead E I s p o size .shared ≡ s
+    unfolding beginningRead
+    begin-read-shared o size =
+        chosen-either (λ (b : Begun). b .shared ≡ s) (beginReadRefusal E I s (p .head) (p .table) o size) refl (λ k. refl)
 
     pub step-answers : isReading (p .head .write .phase) ≡ false → stepping E I s p .step ≡ planned E I s p .step
     unfolding carriedOut

@@ -36,7 +36,7 @@ use Rattle.recovery.specs.Claim.{BytesOf, EventBytes, ReadBytes}
 use Rattle.words.proofs.Tests.{no-true}
 use Rattle.words.proofs.Choice.{upd, upd-same, choose-true, choose-false, chosen-zero, chosen-suc}
 use Rattle.words.proofs.WithBit.{bit-view, withBit-other}
-use Rattle.points.proofs.Begins.{begin-map, begin-read-shared}
+use Rattle.points.proofs.Replies.{begin-map, begin-read-shared}
 use Rattle.points.proofs.CarriedOut.{step-map}
 use Rattle.points.proofs.NotRefused.{step-joined}
 use Rattle.points.proofs.StepCases.{each-plan}
