@@ -83,8 +83,13 @@ module _ (E : Edition) (m : Memory) (s : Shared) (p : Point) where
 
   unfoldable pub afterGiveUp : ℕ → Outcome
   afterGiveUp n =
-      record { step = Refused n; shared = withTaken s (withoutRun E (s .taken) w); point = pointOf (writing h noWrite)
-          (p .table) noText; store = none; bytes = [] }
+      record {
+        step = Refused n;
+        shared = withTaken s (withoutRun E (s .taken) w);
+        point = pointOf (writing h noWrite) (p .table) noText;
+        store = none;
+        bytes = [];
+      }
 
   pub give-up-leaves : (n : ℕ) → out (giveUp E h n) ≡ afterGiveUp n
   unfolding carriedOut readIn freed setAll giveUp afterGiveUp

@@ -166,4 +166,4 @@ lone-read E h p j b calls bytes steps enoughSteps = go (atCut h) (ap (λ (w : W.
         let t = after-tied E (h .words) (opens-enough h) (callsBefore h) (bytesBefore h) in
         let most = rank-most start _ t p (rw e at j) (rw e at b) in
         rw e (lone E isReading stepAnswers (rank E) reading-busy (rank-some E) (λ L. step-good {L = L}) p calls bytes steps start _ _ t (rw e at j)
-            (rw e at b) (omega arith))
+        (rw e at b) (omega arith))

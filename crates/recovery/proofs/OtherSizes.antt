@@ -72,7 +72,7 @@ module _ (E : Edition) (n : ℕ) (e : loneSteps E ≡ suc n) (l : low 400000 (ta
         q,
         subst (λ (k : ℕ). some-of finishes (events E (world E (nearlyFull E) (loneStart E)) (alone 1 k)) ≡ false) m
             (no-sooner finishes 400000 unfinished E 1 (loneStart E) n (nearlyFull E) (subst (λ (xs : List ℕ). low 400000 (take n (drop (length
-                (loneStart E)) xs)) ≡ true) (sym r) l)),
+            (loneStart E)) xs)) ≡ true) (sym r) l)),
       )
 
 lone-one : testOn one (nearlyFull one) (loneCalls one) (loneCases one) ≡ true

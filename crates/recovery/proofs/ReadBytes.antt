@@ -200,7 +200,7 @@ module _ (E : Edition) (w : W.World) (p : ℕ) (a : Range) (had : Asked w p a) w
       let r = beginningRead E (w .words) (w .shared) y o size in
       let asked = askedBy (r .reply) (record { offset = o; size = size }) a in
       put-asked n (w .words) (r .shared) (r .point) (asks p a (begunRead n o size (r .reply))) (ap (λ (s : Shared). s .joined) (begin-read-shared E
-          (w .words) (w .shared) y o size))
+      (w .words) (w .shared) y o size))
       (λ e. choose-false (eqb n p) asked a (ne-eqb n p (λ f. e (sym f))))
       (λ j e. subst (λ (b : Range). HasRange b (r .point)) (sym (choose-true (eqb n p) asked a (eq-eqb n p (sym e))))
       (begin-read-range E (w .words) (w .shared) y a (handed-has n q j e) o size))
@@ -208,7 +208,7 @@ module _ (E : Edition) (w : W.World) (p : ℕ) (a : Range) (had : Asked w p a) w
       let y = handed w n q in
       let o = stepping E (w .words) (w .shared) y in
       put-asked n (after E (w .words) (o .store)) (o .shared) (o .point) a (sym (ap (λ (s : Shared). s .joined) (step-map E (w .words) (w .shared) y)))
-          (λ e. refl)
+      (λ e. refl)
       (λ j e. step-range E (w .words) (w .shared) y a (handed-has n q j e))
   serve-asked (leave n q) = leave-asked (handed w n q)
 
@@ -276,7 +276,7 @@ pub read-bytes : (E : Edition) → ReadBytes E
 unfolding ReadBytes serve
 read-bytes E h p q = subst From (sym (same-start h))
     (step-right (world E first cs) (book (firstBook (openedFile E (h .words))) (events E first cs)) (after-tied E (h .words) (opens-enough h) cs
-        (bytesBefore h))
+    (bytesBefore h))
     p (lastAsked p noRange (events E first cs)) (calls-asked E p cs first noRange (λ j r. absurd (no-true r refl))) q)
   where
     cs : List Call

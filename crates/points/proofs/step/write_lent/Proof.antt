@@ -46,7 +46,7 @@ sound c =
     let a = start c .args in
     subst (Sound one (memory one (a .image .now)) (sharedOf (a .numbers) (a .taken .now)) (a .head)) (sym (c .settle .ensures))
     (planned-sound one (a .image .now) (sharedOf (a .numbers) (a .taken .now)) (pointOf (a .head) (a .table .now) (a .text .now)) (few-joined (start c))
-        (start c .pre))
+    (start c .pre))
 
 settle-requires : tie.Need-settle-requires
 settle-requires c κs = c .before .before .before .before .before .pre
