@@ -47,7 +47,7 @@ module _ (E : Edition) (words scratch : List ℕ) where
 
 -- what catching up makes of the log's start; the place of that start is edition one's (`startOf`, in the laws of Outcome)
 module _ (words scratch : List ℕ) (some : answered one words scratch ≢ 0) (st : Place)
-    (es : st ≡ record { block = firstIndex (memory one words) % 2 ^ 32; slot = 2; passed = 1 }) where
+    (es : st ≡ record { block = firstIndex (memory one words) % 2 ^ 32; slot = 2 }) where
   pub rows-opened :
       (table : List ℕ) (size : ℕ)
       → (answered one words scratch ≤ 1024

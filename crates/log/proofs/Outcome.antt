@@ -12,9 +12,9 @@ use Rattle.words.specs.BlockMap.{taken, mapOf, freeCount}
 use Rattle.words.specs.Edition.{Edition, one, fileEnd}
 use Rattle.words.specs.Logic.{listFrom}
 use Rattle.words.specs.Memory.{memory, blockCount}
-use Rattle.log.specs.CatchUp.{ahead, placeAfter, broken}
+use Rattle.log.specs.CatchUp.{Walk, ahead, broken}
 use Rattle.log.specs.Chain.{firstIndex, chain, log}
-use Rattle.log.specs.Opening.{badEntry, fileOf, openRefusal, refusedWith, takenAtOpening}
+use Rattle.log.specs.Opening.{badEntry, fileOf, openRefusal, refusedWith, nobodyJoined, takenAtOpening}
 use Rattle.log.specs.Opening.{sharedAtOpening, openedWith, opened, scratchMark, scratchAfter}
 use Rattle.log.specs.Parts.{startOf, Takable, Markable}
 use Rattle.log.specs.Replay.{Mapped, replayOn, emptyFile, replay, sharesBlock, dirtyEnd}
@@ -25,7 +25,7 @@ use Rattle.log.proofs.Chain.{inside-outside}
 use Rattle.log.proofs.Cover.{fresh}
 use Rattle.log.proofs.Opening.{Passed, refused-opened, refused-scratch, refused-cleared, is-7, is-8, is-9, is-0, done-opened, done-scratch}
 use Rattle.log.proofs.Sound.{Sound, sound-fresh, sound-replay}
-use Rattle.log.proofs.Start.{chain-inside, first-inside, start-entries, start-broken, log-count}
+use Rattle.log.proofs.Start.{chain-inside, first-inside, chain-few, start-entries, start-broken, log-count, chain-count}
 
 -- clearing leaves what stands behind
 cleared-rest : (scratch s : List ℕ) → s ≡ replicate 1024 0 ++ drop 1024 scratch → drop 1024 s ≡ drop 1024 scratch
@@ -58,8 +58,8 @@ module _ (E : Edition) {words scratch : List ℕ} (p : Passed E words scratch) w
 -- `startOf` is edition one's
 module _ {words scratch : List ℕ} (p : Passed one words scratch) where
   -- the walk begins at the log's start
-  pub at-start : (st : Place) → st ≡ record { block = firstIndex (memory one words) % 2 ^ 32; slot = 2; passed = 1 } → st ≡ startOf words
-  at-start st e = e ∙ ap (λ (b : ℕ). record { block = b; slot = 2; passed = 1 }) (mod-eq-of-lt (omega (arith, first-small one p)))
+  pub at-start : (st : Place) → st ≡ record { block = firstIndex (memory one words) % 2 ^ 32; slot = 2 } → st ≡ startOf words
+  at-start st e = e ∙ ap (λ (b : ℕ). record { block = b; slot = 2 }) (mod-eq-of-lt (omega (arith, first-small one p)))
 
   pub walk-bad :
       (st : Place) → st ≡ startOf words
@@ -67,12 +67,16 @@ module _ {words scratch : List ℕ} (p : Passed one words scratch) where
       ≡ badEntry one (blockCount one words) (log (memory one words))
   walk-bad st e = rw e (start-broken words (p .index) (p .ends))
 
-  -- the log's length from the place where the walk ended
+  -- the log's length and the chain's, from what the walk saw
   pub count-is :
-      (end : Place) → end ≡ placeAfter (startOf words) (ahead one (memory one words) (blockCount one words) (startOf words))
-      → (64 ≤ end .slot + 62 * end .passed) × (end .slot ≤ 64) × (end .passed ≤ 64)
-      × ((n : ℕ) → n + 64 ≡ end .slot + 62 * end .passed → n ≡ length (log (memory one words)))
-  count-is end e = let k = log-count words (p .index) (p .ends) in rw e (omega (arith, k .0), k .2, omega (arith, k .1), λ n h. omega (arith, k .0))
+      (w : Walk) → w ≡ ahead one (memory one words) (blockCount one words) (startOf words)
+      → (2 ≤ w .slot + 62 * w .entered) × (w .slot ≤ 64) × (w .entered ≤ 63) × ((n : ℕ) → n + 2 ≡ w .slot + 62 * w .entered → n ≡ length (log (memory one words)))
+      × (w .entered + 1 ≡ length (chain (memory one words)))
+  count-is w e =
+      let k = log-count words (p .index) (p .ends) in
+      let c = chain-count words (p .index) (p .ends) (p .log-blocks) in
+      let few = chain-few one words (p .index) (p .ends) .0 in
+      rw e (omega (arith, k .0), k .1, omega (arith, c, few), λ n h. omega (arith, k .0), omega (arith, c))
 
   -- the entries are legal, and taken in
   pub taken-in :
@@ -133,18 +137,18 @@ module _ (E : Edition) {words scratch table : List ℕ} {size : ℕ} (h : Held E
         none = is-0 E words scratch (h .passed) (h .legal) (sym met-is ∙ h8) (sym dirty-is ∙ h9)
 
         pub out-opened :
-            (map : List ℕ) (n free : ℕ) → map ≡ mapOf (takenAtOpening table (chain (memory E words))) → n ≡ length (log (memory E words))
-            → free ≡ freeCount map (blockCount E words)
+            (map : List ℕ) (n free links : ℕ) → map ≡ mapOf (takenAtOpening table (chain (memory E words))) → n ≡ length (log (memory E words))
+            → free ≡ freeCount map (blockCount E words) → links ≡ length (chain (memory E words))
             → opened E words scratch
             ≡ record {
               reply = Done;
               length = size;
               entries = n;
               free = free;
-              shared = record { blocks = blockCount E words; taken = map; joined = 0 };
+              shared = nobodyJoined (blockCount E words) map links;
             }
         unfolding openedWith sharedAtOpening
-        out-opened map n free ek en efr = done-opened E words scratch none ∙ (rw (en, efr, ek, table-is, size-is))
+        out-opened map n free links ek en efr el = done-opened E words scratch none ∙ (rw (en, efr, el, ek, table-is, size-is))
 
         pub out-scratch :
             (s out : List ℕ) → s ≡ replicate 1024 0 ++ drop 1024 scratch

@@ -36,7 +36,7 @@ early words room =
 
 -- the log place at the log's start
 abbrev pub startOf : List ℕ → Place
-startOf words = record { block = firstIndex (memory one words); slot = 2; passed = 1 }
+startOf words = record { block = firstIndex (memory one words); slot = 2 }
 
 -- whether taking the blocks listed, one after the other, meets one that is taken; 0 stands for no block
 unfoldable pub clash : List ℕ → List ℕ → Bool

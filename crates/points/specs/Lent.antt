@@ -7,12 +7,13 @@ use mathlib.Core.Option.{Option, none}
 use lib.ListN.{length, getD}
 use lib.Seq.{sets}
 use lib.Dec.{leb, ltb, eqb}
-use Rattle.words.specs.Edition.{Edition, one, blocksMax, fileBlocks, fileEnd}
+use Rattle.words.specs.Edition.{Edition, one, blocksMax, fileBlocks, fileEnd, chainMax}
 use Rattle.words.specs.Logic.{listFrom, first, _when_}
 use Rattle.words.specs.Word.{byteOf}
 use Rattle.words.specs.Memory.{Memory, Store, memory, blockAt, wordAt, after}
 use Rattle.log.specs.declared.Shared.{Shared}
 use Rattle.log.specs.declared.Place.{Place}
+use Rattle.log.specs.declared.Reply.{Reply}
 use Rattle.log.specs.declared.Reply.the-variants.{Done, Refused}
 use Rattle.log.specs.Entry.{legal}
 use Rattle.log.specs.Replay.{Mapped, fileByte}
@@ -29,25 +30,39 @@ use Rattle.points.specs.declared.Numbers.{Numbers}
 use Rattle.points.specs.declared.plan.Reads.{Reads}
 use Rattle.points.specs.declared.plan.Reads.the-variants.{NoEntry, OwnEntry, AllAhead}
 use Rattle.points.specs.declared.plan.Frees.{Frees}
-use Rattle.points.specs.declared.plan.Frees.the-variants.{NoBlock, Run, Replaced, Zeroed}
+use Rattle.points.specs.declared.plan.Frees.the-variants.{NoBlock, Held, Replaced, Zeroed}
+use Rattle.points.specs.declared.plan.Reports.{Reports}
+use Rattle.points.specs.declared.plan.Reports.the-variants.{NoReport, Standing, Linked}
 use Rattle.points.specs.declared.plan.Plan.{Plan}
 use Rattle.points.specs.declared.read_step.Ahead.{Ahead}
 use Rattle.points.specs.Record.{textMax, isReading, runFirst, runBlocks, runWords, pointOf, recordReasons, brokenAhead, fileAt}
-use Rattle.points.specs.Search.{sharedOf}
-use Rattle.points.specs.Plan.{Outcome, answered, storedAt}
+use Rattle.points.specs.Search.{sharedOf, Known, reportingPlace}
+use Rattle.points.specs.Plan.{Outcome, reported, answered, storedAt}
 use Rattle.points.specs.ReadSteps.{covered}
 use Rattle.points.specs.Stepping.{stepRefusal, stepping, bytesAfter, StepLeaves}
 use Rattle.points.specs.Reading.{seen}
 
 -- ---- answers: the record is the head that is answered, with the arrays as they are left
 
--- a beginning and a step change the map alone of the shared record
-abbrev pub begunOf : Numbers → LentBegun → List ℕ → List ℕ → List ℕ → Begun
-begunOf n left taken table text = record { reply = left .reply; shared = sharedOf n taken; point = pointOf (left .head) table text }
+-- a beginning that is done reports where the point stands
+abbrev pub begunShared : Reply → Head → Shared → Shared
+begunShared Done h s = reportingPlace h s
+begunShared (Refused n) h s = s
 
-abbrev pub steppedOf : Numbers → LentStepped → List ℕ → List ℕ → List ℕ → Stepped
-steppedOf n left taken table text =
-    record { step = left .step; shared = sharedOf n taken; point = pointOf (left .head) table text }
+abbrev pub begunOf : Numbers → LentBegun → List ℕ → List ℕ → List ℕ → List ℕ → Begun
+begunOf n left taken reports table text =
+    record { reply = left .reply; shared = begunShared (left .reply) (left .head) (sharedOf n taken reports); point = pointOf (left .head) table text }
+
+-- a step says what is to be reported
+abbrev pub steppedOf : Numbers → LentStepped → List ℕ → List ℕ → List ℕ → List ℕ → Stepped
+steppedOf n left taken reports table text =
+    record { step = left .step; shared = reported (left .reports) (left .head) (sharedOf n taken reports); point = pointOf (left .head) table text }
+
+-- where one log block more is reported, the chain has not 64
+abbrev pub Lengthens : Reports → ℕ → Type 0
+Lengthens NoReport chain = Unit {0}
+Lengthens Standing chain = Unit {0}
+Lengthens Linked chain = chain < chainMax
 
 -- the image after a store, if there is one, and which word of it was stored
 pub record Stores (words : List ℕ) (store : Option Store) (image : List ℕ) (word : ℕ) : Type 0 where
@@ -61,11 +76,12 @@ pub record WriteTells (words : List ℕ) (s : Shared) (p : Point) (answer : Step
   pub silent : stepping one words s p .bytes ≡ []
   pub place : word ≡ storedAt one (stepping one words s p .store)
 
--- what a step of a read leaves, by an outcome of which the shared record's map is no part: nothing is stored
+-- what a step of a read leaves, by an outcome of which the shared record's map is no part, and its reports none but for that: nothing is stored
 pub record ReadTells (outcome : Shared → Outcome) (n : Numbers) (lent : List ℕ) (left : LentStepped) (table text bytes : List ℕ) : Type 0 where
-  pub answers : (taken : List ℕ) → steppedOf n left taken table text ≡ answered (outcome (sharedOf n taken))
-  pub unstored : (taken : List ℕ) → outcome (sharedOf n taken) .store ≡ none
-  pub handed : (taken : List ℕ) → bytes ≡ bytesAfter (outcome (sharedOf n taken) .bytes) lent
+  pub answers : (taken reports : List ℕ) → Known n reports → steppedOf n left taken reports table text ≡ answered (outcome (sharedOf n taken reports))
+  pub unstored : (taken reports : List ℕ) → Known n reports → outcome (sharedOf n taken reports) .store ≡ none
+  pub handed : (taken reports : List ℕ) → Known n reports → bytes ≡ bytesAfter (outcome (sharedOf n taken reports) .bytes) lent
+  pub unlinked : Lengthens (left .reports) (n .chain)
   pub place : left .word ≡ 0
 
 -- what a step leaves, and which word of the image it stored
@@ -78,11 +94,12 @@ pub record StepTells (words : List ℕ) (s : Shared) (p : Point) (lent : List �
 -- the plan is that of this part of a step, for the records that these parts make
 abbrev pub Plans : (Edition → Memory → Shared → Point → Plan)
     → List ℕ → Numbers → List ℕ → Head → List ℕ → List ℕ → Plan → Type 0
-Plans part words n taken h table text r = r ≡ part one (memory one words) (sharedOf n taken) (pointOf h table text)
+Plans part words n taken h table text r = (reports : List ℕ) → r ≡ part one (memory one words) (sharedOf n taken reports) (pointOf h table text)
 
 -- no reason of a step holds, and it is a write's
 abbrev pub StepsOn : List ℕ → Numbers → List ℕ → Head → List ℕ → Type 0
-StepsOn words n taken h table = (stepRefusal one words (sharedOf n taken) h table ≡ 0) × (isReading (h .write .phase) ≡ false)
+StepsOn words n taken h table =
+    ((reports : List ℕ) → Known n reports → stepRefusal one words (sharedOf n taken reports) h table ≡ 0) × (isReading (h .write .phase) ≡ false)
 
 -- ---- what carrying out a plan asks for
 
@@ -95,14 +112,14 @@ Readable AllAhead E m blocks at entry = (blocks ≤ blocksMax) × (broken E bloc
 -- where blocks are replaced, the write ends inside the table
 abbrev pub InTable : Frees → Edition → Write → Type 0
 InTable NoBlock E w = Unit {0}
-InTable Run E w = Unit {0}
+InTable Held E w = Unit {0}
 InTable Replaced E w = runFirst E w + runBlocks E w ≤ fileBlocks
 InTable Zeroed E w = Unit {0}
 
 -- ---- what the last step of a read sees ahead
 
 abbrev pub aheadOf : Edition → ℕ → Head → Walk → Ahead
-aheadOf E blocks h w = record { broken = broken E blocks w; covered = covered E (h .write) (w .entries); place = placeAfter (h .place) w }
+aheadOf E blocks h w = record { broken = broken E blocks w; covered = covered E (h .write) (w .entries); place = placeAfter w }
 
 -- ---- the file as a point sees it, caught up privately
 

@@ -6,12 +6,13 @@ use mathlib.Core.Option.{Option, none, some}
 use lib.ListN.{take, drop}
 use Rattle.words.specs.Edition.{Edition}
 use Rattle.words.specs.Memory.{Memory, Store}
-use Rattle.words.specs.BlockMap.{setBlock, setRun, setAll}
+use Rattle.words.specs.BlockMap.{setBlock, setRun, setAll, setEach}
 use Rattle.log.specs.declared.Place.{Place}
 use Rattle.log.specs.declared.Shared.{Shared}
 use Rattle.log.specs.Replay.{Mapped, apply, replayOn}
 use Rattle.log.specs.CatchUp.{ahead}
 use Rattle.points.specs.declared.Write.{Write}
+use Rattle.points.specs.declared.Head.{Head}
 use Rattle.points.specs.declared.Point.{Point}
 use Rattle.points.specs.declared.StepAnswer.{StepAnswer}
 use Rattle.points.specs.declared.StepAnswer.the-variants.{Stored}
@@ -19,18 +20,21 @@ use Rattle.points.specs.declared.Stepped.{Stepped}
 use Rattle.points.specs.declared.plan.Reads.{Reads}
 use Rattle.points.specs.declared.plan.Reads.the-variants.{NoEntry, OwnEntry, AllAhead}
 use Rattle.points.specs.declared.plan.Frees.{Frees}
-use Rattle.points.specs.declared.plan.Frees.the-variants.{NoBlock, Run, Replaced, Zeroed}
+use Rattle.points.specs.declared.plan.Frees.the-variants.{NoBlock, Held, Replaced, Zeroed}
+use Rattle.points.specs.declared.plan.Reports.{Reports}
+use Rattle.points.specs.declared.plan.Reports.the-variants.{NoReport, Standing, Linked}
 use Rattle.points.specs.declared.plan.Kind.{Kind}
 use Rattle.points.specs.declared.plan.Kind.the-variants.{NoStore, Fill, Zero, Entry, Link}
 use Rattle.points.specs.declared.plan.Plan.{Plan}
-use Rattle.points.specs.Record.{noText, runFirst, runBlocks, fileAt, standing, pointOf}
-use Rattle.points.specs.Search.{withTaken}
+use Rattle.points.specs.Record.{noText, runFirst, runBlocks, held, fileAt, standing, pointOf}
+use Rattle.points.specs.Search.{withTaken, reportingPlace, lengthening}
 
 -- ---- two kinds of plan
 
--- a store of one word, and no more than the point's log place and write change: word `word` from the first word of block `block` on gets the value
-abbrev pub storing : Kind → ℕ → ℕ → ℕ → Place → Write → Plan
-storing kind block word value place write =
+-- a store of one word: word `word` from the first word of block `block` on gets the value; and no more changes than the point's log place and write, and
+-- what is reported
+abbrev pub storing : Kind → ℕ → ℕ → ℕ → Place → Write → Reports → Plan
+storing kind block word value place write reports =
     record {
       step = Stored;
       place = place;
@@ -39,6 +43,7 @@ storing kind block word value place write =
       frees = NoBlock;
       takes = 0;
       clears = false;
+      reports = reports;
       kind = kind;
       block = block;
       word = word;
@@ -46,8 +51,8 @@ storing kind block word value place write =
     }
 
 -- nothing is stored
-abbrev pub resting : StepAnswer → Place → Write → Reads → Frees → ℕ → Bool → Plan
-resting step place write reads frees takes clears =
+abbrev pub resting : StepAnswer → Place → Write → Reads → Frees → ℕ → Bool → Reports → Plan
+resting step place write reads frees takes clears reports =
     record {
       step = step;
       place = place;
@@ -56,6 +61,7 @@ resting step place write reads frees takes clears =
       frees = frees;
       takes = takes;
       clears = clears;
+      reports = reports;
       kind = NoStore;
       block = 0;
       word = 0;
@@ -70,20 +76,29 @@ readIn NoEntry E m blocks at entry f = f
 readIn OwnEntry E m blocks at entry f = apply E f entry
 readIn AllAhead E m blocks at entry f = replayOn E f (ahead E m blocks at .entries)
 
--- the map without the run of a write
+-- the map without the run of a write; without all that it holds
 unfoldable pub withoutRun : Edition → List ℕ → Write → List ℕ
 withoutRun E map w = setRun false map (w .run) (runBlocks E w)
+
+unfoldable pub withoutHeld : Edition → List ℕ → Write → List ℕ
+withoutHeld E map w = setEach false map (held E w)
 
 -- "blocks replaced": those mapped where the run goes
 abbrev pub replaced : Edition → Write → List ℕ → List ℕ
 replaced E w table = take (runBlocks E w) (drop (runFirst E w) table)
 
--- the map without what is freed: nothing, the run, the blocks replaced, the log block that was zeroed
+-- the map without what is freed: nothing, what the write holds, the blocks replaced, the log block that was zeroed
 unfoldable pub freed : Frees → Edition → List ℕ → Write → List ℕ → List ℕ
 freed NoBlock E map w table = map
-freed Run E map w table = withoutRun E map w
+freed Held E map w table = withoutHeld E map w
 freed Replaced E map w table = setAll false map (replaced E w table)
 freed Zeroed E map w table = setBlock false map (w .zeroing)
+
+-- what is reported of a point that has this head then: nothing, where it stands, and that the log block there is one more of the chain (document 02, K4)
+abbrev pub reported : Reports → Head → Shared → Shared
+reported NoReport h s = s
+reported Standing h s = reportingPlace h s
+reported Linked h s = lengthening (reportingPlace h s)
 
 -- the text, or none
 abbrev pub textAfter : Bool → List ℕ → List ℕ
@@ -133,10 +148,12 @@ unfoldable pub carriedOut : Edition → Memory → Shared → Point → Plan →
 carriedOut E m s p plan =
     let h = p .head in
     let f = readIn (plan .reads) E m (s .blocks) (h .place) (plan .value) (fileAt h (p .table)) in
+    let left = standing h (f .size) (plan .place) (plan .write) in
+    let map = setAll true (freed (plan .frees) E (s .taken) (h .write) (p .table)) (plan .takes ∷ []) in
     record {
       step = plan .step;
-      shared = withTaken s (setAll true (freed (plan .frees) E (s .taken) (h .write) (p .table)) (plan .takes ∷ []));
-      point = pointOf (standing h (f .size) (plan .place) (plan .write)) (f .table) (textAfter (plan .clears) (p .text));
+      shared = reported (plan .reports) left (withTaken s map);
+      point = pointOf left (f .table) (textAfter (plan .clears) (p .text));
       store = storeOf E (plan .kind) (plan .block) (plan .word) (plan .value);
       bytes = [];
     }

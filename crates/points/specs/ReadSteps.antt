@@ -1,4 +1,4 @@
--- A step of a read (document 02, K1): it copies a word, or it is the last, which catches up. It stores nothing.
+-- A step of a read (document 02, K1 and K4): it copies a word, or it is the last, which catches up. It stores nothing.
 use Prim.Native.Nat.{ℕ, _+_, _*_, _-_, _/_, max, min}
 use mathlib.Core.Bool.{Bool, true, false, _&&_, _||_}
 use mathlib.Core.List.{List, []}
@@ -18,6 +18,7 @@ use Rattle.points.specs.declared.Write.{Write}
 use Rattle.points.specs.declared.Point.{Point}
 use Rattle.points.specs.declared.StepAnswer.the-variants.{Moved, Refused, Copied, Bytes}
 use Rattle.points.specs.Record.{noWrite, noText, runFirst, runBlocks, rangeWords, fileAt, pointOf, writing, caughtUp}
+use Rattle.points.specs.Search.{reportingPlace}
 use Rattle.points.specs.Plan.{Outcome, untouched}
 use Rattle.points.specs.Calls.{readFrom}
 
@@ -56,16 +57,23 @@ covered E w entries = some-of (λ v. some-of (covers v) entries) (upFrom (runFir
 abbrev pub lengthened : Write → ℕ → ℕ → Bool
 lengthened w before now = ltb before now && ltb before (w .offset + w .size)
 
--- "it answers Moved and the copy begins again": what a beginning at that moment would leave
+-- "it answers Moved and the copy begins again": what a beginning at that moment would leave, which reports where the point stands
 unfoldable pub beginAgain : Shared → Point → Point → Outcome
-beginAgain s p c = record { step = Moved; shared = s; point = readFrom c (p .head .write .offset) (p .head .write .size); store = none; bytes = [] }
+beginAgain s p c =
+    record {
+      step = Moved;
+      shared = reportingPlace (c .head) s;
+      point = readFrom c (p .head .write .offset) (p .head .write .size);
+      store = none;
+      bytes = [];
+    }
 
--- "Otherwise it answers the bytes and the point is idle"
+-- "Otherwise it answers the bytes and the point is idle"; where it stands is reported
 unfoldable pub answerBytes : Shared → Point → Point → Outcome
 answerBytes s p c =
     record {
       step = Bytes (p .head .write .size);
-      shared = s;
+      shared = reportingPlace (c .head) s;
       point = pointOf (writing (c .head) noWrite) (c .table) noText;
       store = none;
       bytes = take (p .head .write .size) (p .text);

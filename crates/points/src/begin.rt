@@ -7,7 +7,7 @@ ghost use Rattle.words.specs.Edition.{one};
 ghost use Rattle.points.specs.Record.{pointOf};
 ghost use Rattle.points.specs.Calls.{newWrite, newRead, textOf, beginning, beginningRead};
 ghost use Rattle.points.specs.Start.{Settled, Started};
-ghost use Rattle.points.specs.Search.{sharedOf};
+ghost use Rattle.points.specs.Search.{sharedOf, Known};
 ghost use Rattle.points.specs.Lent.{begunOf};
 use crate::Begun;
 use crate::Head;
@@ -32,11 +32,7 @@ fn refused(reason: u32) -> Start
 {
     Start {
         reason,
-        place: Place {
-            block: 0,
-            slot: 0,
-            passed: 0,
-        },
+        place: Place { block: 0, slot: 0 },
         run: 0,
     }
 }
@@ -89,8 +85,8 @@ fn settle_write(
     offset: usize,
     size: usize,
 ) -> Start
-    ensures { λ r. ⌜ Started (now (image .entry)) (sharedOf numbers (now (taken .entry))) head (now (table .entry)) offset size
-        (r .reason) (r .place) (r .run) ⌝ }
+    ensures { λ r. ⌜ ((reports : List ℕ) → Known numbers reports → Started (now (image .entry)) (sharedOf numbers (now (taken .entry)) reports) head
+        (now (table .entry)) offset size (r .reason) (r .place) (r .run)) ⌝ }
 {
     let start = settle(image, numbers, head, table, offset, size);
     if start.reason != 0 {
@@ -161,8 +157,9 @@ pub fn begin_lent(
     offset: usize,
     bytes: &[u8],
 ) -> LentBegun
-    ensures { λ r. ⌜ begunOf numbers r (now (taken .exit)) (now (table .exit)) (now (text .exit)) ≡ beginning one (now (image .entry))
-        (sharedOf numbers (now (taken .entry))) (pointOf head (now (table .entry)) (now (text .entry))) offset (now (bytes .entry)) ⌝ }
+    ensures { λ r. ⌜ ((reports : List ℕ) → Known numbers reports → begunOf numbers r (now (taken .exit)) reports (now (table .exit)) (now (text .exit))
+        ≡ beginning one (now (image .entry)) (sharedOf numbers (now (taken .entry)) reports) (pointOf head (now (table .entry)) (now (text .entry)))
+        offset (now (bytes .entry))) ⌝ }
 {
     let start = settle_write(image, numbers, taken, head, table, offset, bytes.len());
     if start.reason != 0 {
@@ -198,8 +195,9 @@ pub fn begin_read_lent(
     offset: usize,
     size: usize,
 ) -> LentBegun
-    ensures { λ r. ⌜ ((taken : List ℕ) → begunOf numbers r taken (now (table .exit)) (now (text .exit)) ≡ beginningRead one (now (image .entry))
-        (sharedOf numbers taken) (pointOf head (now (table .entry)) (now (text .entry))) offset size) ⌝ }
+    ensures { λ r. ⌜ ((taken reports : List ℕ) → Known numbers reports → begunOf numbers r taken reports (now (table .exit)) (now (text .exit))
+        ≡ beginningRead one (now (image .entry)) (sharedOf numbers taken reports) (pointOf head (now (table .entry)) (now (text .entry)))
+        offset size) ⌝ }
 {
     let start = settle(image, numbers, head, table, offset, size);
     if start.reason != 0 {
@@ -244,7 +242,7 @@ pub fn begin(image: &[u64], shared: Shared, point: Point, offset: usize, text: &
     let head = left.head;
     Begun {
         reply,
-        shared: crate::shared::with_taken(shared, taken),
+        shared: crate::shared::begun(crate::shared::with_taken(shared, taken), reply, head),
         point: Point {
             head,
             table,
@@ -266,7 +264,7 @@ pub fn begin_read(image: &[u64], shared: Shared, point: Point, offset: usize, si
     let head = left.head;
     Begun {
         reply,
-        shared,
+        shared: crate::shared::begun(shared, reply, head),
         point: Point {
             head,
             table,

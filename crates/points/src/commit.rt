@@ -1,6 +1,7 @@
 // Committing: the entry is stored, or the log place moves on, or the chain is extended.
 ghost use mathlib.Core.Path.{_≡_};
-ghost use Prim.Native.Nat.{_+_, _<_};
+ghost use mathlib.Core.List.{List};
+ghost use Prim.Native.Nat.{ℕ, _+_, _<_};
 ghost use Rattle.words.specs.Edition.{one};
 ghost use Rattle.words.specs.Memory.{Memory, memory};
 ghost use Rattle.points.specs.Record.{firstEdge, lastEdge};
@@ -16,6 +17,7 @@ use crate::plan::Frees;
 use crate::plan::Kind;
 use crate::plan::Plan;
 use crate::plan::Reads;
+use crate::plan::Reports;
 
 // Whether the run's first block holds copied bytes.
 fn first_edge(write: Write) -> bool
@@ -83,6 +85,7 @@ fn move_on(image: &[u64], blocks: u32, head: Head) -> Plan
         Frees::NoBlock,
         0,
         false,
+        Reports::Standing,
     )
 }
 
@@ -119,6 +122,7 @@ fn commit(head: Head) -> Plan
         frees: Frees::Replaced,
         takes: 0,
         clears: true,
+        reports: Reports::NoReport,
         kind: Kind::Entry,
         block: head.place.block,
         word: head.place.slot,
@@ -126,8 +130,8 @@ fn commit(head: Head) -> Plan
     }
 }
 
-// The write ends by 20 or 21: its run becomes free, and the point is idle.
-fn give_up(head: Head, number: u32) -> Plan
+// The write ends by 20 or 21: what it holds becomes free, and the point is idle.
+pub(crate) fn give_up(head: Head, number: u32) -> Plan
     ensures { λ r. ⌜ r ≡ giveUp one head number ⌝ }
 {
     crate::plan::resting(
@@ -135,9 +139,10 @@ fn give_up(head: Head, number: u32) -> Plan
         head.place,
         crate::plan::no_write(),
         Reads::NoEntry,
-        Frees::Run,
+        Frees::Held,
         0,
         true,
+        Reports::NoReport,
     )
 }
 
@@ -155,14 +160,15 @@ fn extend(head: Head, b: u32) -> Plan
         Frees::NoBlock,
         b,
         false,
+        Reports::NoReport,
     )
 }
 
 // The log place is at slot 64 with no next index: the chain is extended, or the write ends by 20 or 21.
 fn at_end(numbers: Numbers, taken: &[u64; 16], head: Head) -> Plan
-    ensures { λ r. ⌜ ((m : Memory) → r ≡ atEnd one m head (sharedOf numbers (now (taken .entry)))) ⌝ }
+    ensures { λ r. ⌜ ((m : Memory) (reports : List ℕ) → r ≡ atEnd one m head (sharedOf numbers (now (taken .entry)) reports)) ⌝ }
 {
-    if 64 <= head.place.passed {
+    if 64 <= numbers.chain {
         return give_up(head, crate::LOG_FULL);
     }
     let b = words::map::search(taken, numbers.blocks, 1);
@@ -182,7 +188,8 @@ pub(crate) fn committing<'a>(
     table: &'a [u16; 256],
 ) -> Plan
     requires { ⌜ StepsOn (now image) numbers (now taken) head (now table) ⌝ }
-    ensures { λ r. ⌜ r ≡ committing one (memory one (now (image .entry))) head (sharedOf numbers (now (taken .entry))) ⌝ }
+    ensures { λ r. ⌜ ((reports : List ℕ) → r
+        ≡ committing one (memory one (now (image .entry))) head (sharedOf numbers (now (taken .entry)) reports)) ⌝ }
 {
     let slot = head.place.slot as usize;
     let part = words::image::block(image, head.place.block as usize);

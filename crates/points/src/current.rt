@@ -6,7 +6,7 @@ ghost use Prim.Native.Nat.{ℕ};
 ghost use lib.ListN.{getD};
 ghost use Rattle.words.specs.Edition.{one};
 ghost use Rattle.words.specs.Memory.{memory};
-ghost use Rattle.points.specs.Search.{sharedOf};
+ghost use Rattle.points.specs.Search.{sharedOf, Known};
 ghost use Rattle.points.specs.Lent.{atTail, Settles, partOf};
 use crate::Count;
 use crate::Head;
@@ -47,8 +47,8 @@ pub(crate) fn settle(
     table: &[u16; 256],
     past: bool,
 ) -> Current
-    ensures { λ r. ⌜ ((taken : List ℕ)
-        → Settles (now (image .entry)) (sharedOf numbers taken) head (now (table .entry)) past (r .reason) (r .tail)) ⌝ }
+    ensures { λ r. ⌜ ((taken reports : List ℕ) → Known numbers reports
+        → Settles (now (image .entry)) (sharedOf numbers taken reports) head (now (table .entry)) past (r .reason) (r .tail)) ⌝ }
 {
     let reason = crate::record::unfit_numbers(image, numbers, head, table);
     if reason != 0 {

@@ -2,8 +2,8 @@
 ghost use mathlib.Core.Path.{_≡_};
 ghost use Prim.Native.Nat.{_<_};
 ghost use Rattle.words.specs.Edition.{one};
-ghost use Rattle.words.specs.Memory.{memory};
-ghost use Rattle.points.specs.Stepping.{zeroOut, link, giveBack, extending};
+ghost use Rattle.words.specs.Memory.{Memory, memory};
+ghost use Rattle.points.specs.Stepping.{zeroOut, link, linking, giveBack, extending};
 use crate::Head;
 use crate::Phase;
 use crate::StepAnswer;
@@ -11,6 +11,7 @@ use crate::plan::Frees;
 use crate::plan::Kind;
 use crate::plan::Plan;
 use crate::plan::Reads;
+use crate::plan::Reports;
 
 // A word of the log block to come becomes 0.
 fn zero_out(head: Head) -> Plan
@@ -26,12 +27,19 @@ fn zero_out(head: Head) -> Plan
         write.zeroing,
         write.retries,
     );
-    crate::plan::storing(Kind::Zero, write.zeroing, position, 0, head.place, zeroed)
+    crate::plan::storing(
+        Kind::Zero,
+        write.zeroing,
+        position,
+        0,
+        head.place,
+        zeroed,
+        Reports::NoReport,
+    )
 }
 
 // The zeroed block is the next log block from now on.
 fn link(head: Head) -> Plan
-    requires { ⌜ head .place .passed < 64 ⌝ }
     ensures { λ r. ⌜ r ≡ link one head ⌝ }
 {
     let write = head.write;
@@ -41,8 +49,9 @@ fn link(head: Head) -> Plan
         head.place.block,
         0,
         zeroing as u64,
-        crate::plan::entering(head.place, zeroing),
+        crate::plan::entering(zeroing),
         crate::plan::to_commit(write, write.retries),
+        Reports::Linked,
     )
 }
 
@@ -60,19 +69,29 @@ fn give_back(head: Head) -> Plan
         Frees::Zeroed,
         0,
         false,
+        Reports::NoReport,
     )
 }
 
+// The zeroed block is linked, unless the chain has 64 log blocks: then the write ends.
+fn linking(chain: u32, head: Head) -> Plan
+    ensures { λ r. ⌜ ((m : Memory) → r ≡ linking one m head chain) ⌝ }
+{
+    if 64 <= chain {
+        return crate::commit::give_up(head, crate::LOG_FULL);
+    }
+    link(head)
+}
+
 // 64 steps zero the block; the one after looks at the next index.
-pub(crate) fn extending(image: &[u64], head: Head) -> Plan
-    requires { ⌜ head .place .passed < 64 ⌝ }
-    ensures { λ r. ⌜ r ≡ extending one (memory one (now (image .entry))) head ⌝ }
+pub(crate) fn extending(image: &[u64], chain: u32, head: Head) -> Plan
+    ensures { λ r. ⌜ r ≡ extending one (memory one (now (image .entry))) head chain ⌝ }
 {
     if head.write.position < 64 {
         return zero_out(head);
     }
     if log::links::next_index(image, head.place.block as u64) == 0 {
-        return link(head);
+        return linking(chain, head);
     }
     give_back(head)
 }

@@ -59,29 +59,22 @@ pub fn join(image: &[u64], shared: Shared, number: u32) -> Joined
         return Joined {
             reply: Reply::Refused(reason),
             shared,
-            point: idle_at(
-                0,
-                Place {
-                    block: 0,
-                    slot: 0,
-                    passed: 0,
-                },
-            ),
+            point: idle_at(0, Place { block: 0, slot: 0 }),
         };
     }
     let first = log::links::first_index(image) as u32;
+    let joined = crate::shared::with_joined(
+        shared,
+        crate::shared::with_point(shared.joined, number),
+    );
     Joined {
         reply: Reply::Done,
-        shared: crate::shared::with_joined(
-            shared,
-            crate::shared::with_point(shared.joined, number),
-        ),
+        shared: crate::shared::reporting(joined, number, first),
         point: idle_at(
             number,
             Place {
                 block: first,
                 slot: 2,
-                passed: 1,
             },
         ),
     }

@@ -5,7 +5,7 @@ ghost use Prim.Native.Nat.{ℕ, _<_};
 ghost use lib.ListN.{getD};
 ghost use Rattle.words.specs.Edition.{one};
 ghost use Rattle.points.specs.Reading.{locating, viewed};
-ghost use Rattle.points.specs.Search.{sharedOf};
+ghost use Rattle.points.specs.Search.{sharedOf, Known};
 ghost use Rattle.points.specs.Lent.{foundAt};
 use crate::Count;
 use crate::Head;
@@ -39,7 +39,8 @@ pub fn locate_lent(
     table: &[u16; 256],
     v: usize,
 ) -> Count
-    ensures { λ r. ⌜ ((taken : List ℕ) → r ≡ locating one (now (image .entry)) (sharedOf numbers taken) head (now (table .entry)) v) ⌝ }
+    ensures { λ r. ⌜ ((taken reports : List ℕ) → Known numbers reports
+        → r ≡ locating one (now (image .entry)) (sharedOf numbers taken reports) head (now (table .entry)) v) ⌝ }
 {
     let current = crate::current::settle(image, numbers, head, table, 256 <= v);
     if current.reason != 0 {

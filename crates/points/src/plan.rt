@@ -19,12 +19,19 @@ pub enum Reads {
     AllAhead,
 }
 
-// What becomes free: nothing, the run of the write, the blocks that the write replaces, the log block that was zeroed.
+// What becomes free: nothing, what the write holds, the blocks that the write replaces, the log block that was zeroed.
 pub enum Frees {
     NoBlock,
-    Run,
+    Held,
     Replaced,
     Zeroed,
+}
+
+// What is reported: nothing, the log block where the point stands then, that and one log block more in the chain.
+pub enum Reports {
+    NoReport,
+    Standing,
+    Linked,
 }
 
 // What is stored: nothing, a word of the run, a zero, an entry, a next index.
@@ -36,8 +43,8 @@ pub enum Kind {
     Link,
 }
 
-// The answer; the log place and the write that the point has then; what is read in, freed and taken, 0 for no block; whether the text is cleared; and
-// the store: word `word` from the first word of block `block` on gets `value`.
+// The answer; the log place and the write that the point has then; what is read in, freed and taken, 0 for no block; whether the text is cleared; what is
+// reported; and the store: word `word` from the first word of block `block` on gets `value`.
 pub struct Plan {
     pub step: StepAnswer,
     pub place: Place,
@@ -46,13 +53,14 @@ pub struct Plan {
     pub frees: Frees,
     pub takes: u32,
     pub clears: bool,
+    pub reports: Reports,
     pub kind: Kind,
     pub block: u32,
     pub word: u32,
     pub value: u64,
 }
 
-// A plan that stores a word, and changes no more than the point's log place and write.
+// A plan that stores a word, and changes no more than the point's log place and write, and what is reported.
 pub(crate) fn storing(
     kind: Kind,
     block: u32,
@@ -60,8 +68,9 @@ pub(crate) fn storing(
     value: u64,
     place: Place,
     write: Write,
+    reports: Reports,
 ) -> Plan
-    ensures { λ r. ⌜ r ≡ storing kind block word value place write ⌝ }
+    ensures { λ r. ⌜ r ≡ storing kind block word value place write reports ⌝ }
 {
     Plan {
         step: StepAnswer::Stored,
@@ -71,6 +80,7 @@ pub(crate) fn storing(
         frees: Frees::NoBlock,
         takes: 0,
         clears: false,
+        reports,
         kind,
         block,
         word,
@@ -87,8 +97,9 @@ pub(crate) fn resting(
     frees: Frees,
     takes: u32,
     clears: bool,
+    reports: Reports,
 ) -> Plan
-    ensures { λ r. ⌜ r ≡ resting step place write reads frees takes clears ⌝ }
+    ensures { λ r. ⌜ r ≡ resting step place write reads frees takes clears reports ⌝ }
 {
     Plan {
         step,
@@ -98,6 +109,7 @@ pub(crate) fn resting(
         frees,
         takes,
         clears,
+        reports,
         kind: Kind::NoStore,
         block: 0,
         word: 0,
@@ -117,6 +129,7 @@ pub(crate) fn refused(head: Head, number: u32) -> Plan
         Frees::NoBlock,
         0,
         false,
+        Reports::NoReport,
     )
 }
 
@@ -195,18 +208,12 @@ pub(crate) fn next_slot(at: Place) -> Place
     Place {
         block: at.block,
         slot: at.slot + 1,
-        passed: at.passed,
     }
 }
 
 // The log place at slot 2 of a log block that is entered.
-pub(crate) fn entering(at: Place, block: u32) -> Place
-    requires { ⌜ at .passed < 64 ⌝ }
-    ensures { λ r. ⌜ r ≡ entering at block ⌝ }
+pub(crate) fn entering(block: u32) -> Place
+    ensures { λ r. ⌜ r ≡ entering block ⌝ }
 {
-    Place {
-        block,
-        slot: 2,
-        passed: at.passed + 1,
-    }
+    Place { block, slot: 2 }
 }

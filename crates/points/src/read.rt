@@ -10,7 +10,7 @@ ghost use Rattle.words.specs.Word.{byteOf};
 ghost use Rattle.words.specs.Memory.{memory, byteIn};
 ghost use Rattle.log.specs.Replay.{mappedByte, fileByte};
 ghost use Rattle.points.specs.Reading.{ReadLeaves};
-ghost use Rattle.points.specs.Search.{sharedOf};
+ghost use Rattle.points.specs.Search.{sharedOf, Known};
 ghost use Rattle.points.specs.Lent.{unsized, FillsFrom};
 use crate::Count;
 use crate::Head;
@@ -175,7 +175,7 @@ pub fn read_lent(
     offset: usize,
     buffer: &mut [u8],
 ) -> Count
-    ensures { λ r. ⌜ ((taken : List ℕ) → ReadLeaves (now (image .entry)) (sharedOf numbers taken) head (now (table .entry)) offset
+    ensures { λ r. ⌜ ((taken reports : List ℕ) → Known numbers reports → ReadLeaves (now (image .entry)) (sharedOf numbers taken reports) head (now (table .entry)) offset
         (now (buffer .entry)) r (now (buffer .exit))) ⌝ }
 {
     let current = crate::current::settle(image, numbers, head, table, false);

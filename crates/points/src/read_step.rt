@@ -17,6 +17,7 @@ use crate::Numbers;
 use crate::Phase;
 use crate::StepAnswer;
 use crate::Write;
+use crate::plan::Reports;
 use log::Place;
 
 fn lesser(a: usize, b: usize) -> usize
@@ -131,6 +132,7 @@ fn finish(
             step: StepAnswer::Refused(log::LOG_BROKEN),
             head,
             word: 0,
+            reports: Reports::NoReport,
         };
     }
     let write = head.write;
@@ -143,6 +145,7 @@ fn finish(
             step: StepAnswer::Moved,
             head: crate::plan::head_of(head.number, length, place, again),
             word: 0,
+            reports: Reports::Standing,
         };
     }
     hand_over(text, bytes, write.size as usize);
@@ -152,6 +155,7 @@ fn finish(
         step: StepAnswer::Bytes(write.size),
         head: crate::plan::head_of(head.number, length, place, idle),
         word: 0,
+        reports: Reports::Standing,
     }
 }
 
@@ -175,6 +179,7 @@ pub(crate) fn step(
             step: StepAnswer::Refused(reason),
             head,
             word: 0,
+            reports: Reports::NoReport,
         };
     }
     let write = head.write;
@@ -185,6 +190,7 @@ pub(crate) fn step(
             step: StepAnswer::Copied,
             head: crate::plan::head_of(head.number, head.length, head.place, more),
             word: 0,
+            reports: Reports::NoReport,
         };
     }
     finish(image, numbers, head, table, text, bytes)

@@ -9,8 +9,8 @@ ghost use Rattle.words.specs.Logic.{between};
 ghost use Rattle.words.specs.Word.{bit};
 ghost use Rattle.points.specs.Record.{noText, phaseNumber, phaseOf, isIdle, isZeroing, isReading, isWriting, badShared, badText, pastEnd, inside};
 ghost use Rattle.points.specs.Record.{span, runFirst, rangeWords, placeFits, zeroingFits, writeFits};
-ghost use Rattle.points.specs.Record.{rangeFits, workFits, headFits, tableFits, fits, unfit};
-ghost use Rattle.points.specs.Search.{sharedOf};
+ghost use Rattle.points.specs.Record.{rangeFits, workFits, headFits, allBelow, fits, unfit};
+ghost use Rattle.points.specs.Search.{sharedOf, Known};
 use crate::Head;
 use crate::Numbers;
 use crate::Phase;
@@ -39,11 +39,15 @@ fn inside(blocks: u32, b: u32, n: u32) -> bool
     (1 <= b) & (b as u64 + n as u64 <= blocks as u64)
 }
 
-// 10. The shared record's block count is not 4 to 1,024, or 64 times it is not the image's length.
+// 10. The shared record's block count is not 4 to 1,024, 64 times it is not the image's length, its chain length is not 1 to 64, or a reported block is
+// not below the block count.
 pub fn bad_numbers(image: &[u64], numbers: Numbers) -> bool
-    ensures { λ r. ⌜ ((taken : List ℕ) → r ≡ badShared one (now (image .entry)) (sharedOf numbers taken)) ⌝ }
+    ensures { λ r. ⌜ ((taken reports : List ℕ) → Known numbers reports → r ≡ badShared one (now (image .entry)) (sharedOf numbers taken reports)) ⌝ }
 {
-    !between(4, numbers.blocks, 1024) | (64 * numbers.blocks as usize != image.len())
+    !between(4, numbers.blocks, 1024)
+        | (64 * numbers.blocks as usize != image.len())
+        | !between(1, numbers.chain, 64)
+        | !numbers.inside
 }
 
 // The same of a whole shared record.
@@ -193,7 +197,7 @@ pub(crate) fn lead(write: Write) -> u32
 fn place_fits(blocks: u32, place: Place) -> bool
     ensures { λ r. ⌜ r ≡ placeFits one blocks place ⌝ }
 {
-    inside(blocks, place.block, 1) & between(2, place.slot, 64) & between(1, place.passed, 64)
+    inside(blocks, place.block, 1) & between(2, place.slot, 64)
 }
 
 // Whether the block being zeroed lies inside, the position in it, and the log place is one to link it at.
@@ -203,7 +207,6 @@ fn zeroing_fits(blocks: u32, place: Place, write: Write) -> bool
     inside(blocks, write.zeroing, 1)
         & (write.position <= 64)
         & (place.slot == 64)
-        & (place.passed < 64)
 }
 
 // 16. The text, or the range to be read, has 0 or more than 1,024 bytes.
@@ -282,7 +285,7 @@ fn greater(a: u16, b: u16) -> u16
 // The greatest number of a table: the whole table is below what it is below. (A loop without branches, which becomes vectors.)
 fn greatest(table: &[u16]) -> u16
     requires { ⌜ 0 < length (now table) ⌝ }
-    ensures { λ r. ⌜ ((n : ℕ) → tableFits n (now (table .entry)) ≡ ltb r n) ⌝ }
+    ensures { λ r. ⌜ ((n : ℕ) → allBelow n (now (table .entry)) ≡ ltb r n) ⌝ }
 {
     let mut most = table[0];
     for i in 0..table.len() {
@@ -293,7 +296,7 @@ fn greatest(table: &[u16]) -> u16
 
 // Whether each entry of a record's table lies inside the image.
 pub fn table_fits(blocks: u32, table: &[u16; 256]) -> bool
-    ensures { λ r. ⌜ r ≡ tableFits blocks (now (table .entry)) ⌝ }
+    ensures { λ r. ⌜ r ≡ allBelow blocks (now (table .entry)) ⌝ }
 {
     (greatest(table) as u32) < blocks
 }
@@ -307,7 +310,8 @@ pub fn fits(blocks: u32, head: Head, table: &[u16; 256]) -> bool
 
 // The first of 10, 11 and 14 that holds, 0 for none.
 pub fn unfit_numbers(image: &[u64], numbers: Numbers, head: Head, table: &[u16; 256]) -> u32
-    ensures { λ r. ⌜ ((taken : List ℕ) → r ≡ unfit one (now (image .entry)) (sharedOf numbers taken) head (now (table .entry))) ⌝ }
+    ensures { λ r. ⌜ ((taken reports : List ℕ) → Known numbers reports
+        → r ≡ unfit one (now (image .entry)) (sharedOf numbers taken reports) head (now (table .entry))) ⌝ }
 {
     if bad_numbers(image, numbers) {
         return crate::SHARED_UNFIT;

@@ -1,4 +1,4 @@
-// Blocks that become free: the run of a write, the blocks that it replaces, a log block that was zeroed.
+// Blocks that become free: what a write holds, the blocks that it replaces, a log block that was zeroed.
 ghost use mathlib.Core.Path.{_≡_};
 ghost use mathlib.Core.Bool.{false};
 ghost use mathlib.Core.List.{[], _∷_};
@@ -7,7 +7,7 @@ ghost use lib.ListN.{take, drop};
 ghost use Rattle.words.specs.Edition.{one};
 ghost use Rattle.words.specs.BlockMap.{setAll};
 ghost use Rattle.points.specs.declared.plan.Frees.the-variants.{Replaced};
-ghost use Rattle.points.specs.Plan.{withoutRun, replaced, freed};
+ghost use Rattle.points.specs.Plan.{withoutRun, withoutHeld, replaced, freed};
 ghost use Rattle.points.specs.Lent.{InTable};
 use crate::Write;
 use crate::plan::Frees;
@@ -46,7 +46,7 @@ fn free_replaced(map: &mut [u64], table: &[u16; 256], write: Write)
 }
 
 // The run of the write becomes free.
-pub(crate) fn free_run(map: &mut [u64], write: Write)
+fn free_run(map: &mut [u64], write: Write)
     ensures { λ _. ⌜ now (map .exit) ≡ withoutRun one (now (map .entry)) write ⌝ }
 {
     words::map::free_run(
@@ -56,6 +56,20 @@ pub(crate) fn free_run(map: &mut [u64], write: Write)
     );
 }
 
+// What a write holds becomes free: its run, and the log block being zeroed. A read holds nothing.
+pub(crate) fn free_held(map: &mut [u64], write: Write)
+    ensures { λ _. ⌜ now (map .exit) ≡ withoutHeld one (now (map .entry)) write ⌝ }
+{
+    let phase = write.phase;
+    if !crate::record::is_writing(phase) {
+        return;
+    }
+    free_run(map, write);
+    if crate::record::is_zeroing(phase) {
+        words::map::free_block(map, write.zeroing as usize);
+    }
+}
+
 // The map is left as the plan says: what it frees becomes free.
 pub(crate) fn release(taken: &mut [u64; 16], frees: Frees, write: Write, table: &[u16; 256])
     requires { ⌜ InTable frees one write ⌝ }
@@ -63,7 +77,7 @@ pub(crate) fn release(taken: &mut [u64; 16], frees: Frees, write: Write, table: 
 {
     match frees {
         Frees::NoBlock => {}
-        Frees::Run => free_run(taken, write),
+        Frees::Held => free_held(taken, write),
         Frees::Replaced => free_replaced(taken, table, write),
         Frees::Zeroed => words::map::free_block(taken, write.zeroing as usize),
     }

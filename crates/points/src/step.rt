@@ -1,15 +1,16 @@
 // Stepping: a step first settles, with the image lent for reading only, which word gets which value, if any, then stores it.
 ghost use mathlib.Core.Path.{_≡_};
 ghost use mathlib.Core.Bool.{true, false};
-ghost use Prim.Native.Nat.{_<_};
+ghost use mathlib.Core.List.{List};
+ghost use Prim.Native.Nat.{ℕ, _<_};
 ghost use Rattle.words.specs.Edition.{one};
 ghost use Rattle.words.specs.Memory.{memory};
 ghost use Rattle.log.specs.declared.Shared.{Shared};
 ghost use Rattle.points.specs.Record.{runWords, isZeroing, isReading, pointOf};
-ghost use Rattle.points.specs.Search.{sharedOf};
+ghost use Rattle.points.specs.Search.{sharedOf, Known};
 ghost use Rattle.points.specs.Plan.{readIn, textAfter, stores, storeOf};
 ghost use Rattle.points.specs.Stepping.{fill, filling, writeOn, planned, StepLeaves};
-ghost use Rattle.points.specs.Lent.{Plans, Readable, StepsOn, TextFits, Stores, WriteTells, StepTells, steppedOf};
+ghost use Rattle.points.specs.Lent.{Plans, Readable, StepsOn, TextFits, Lengthens, Stores, WriteTells, StepTells, steppedOf};
 use crate::Head;
 use crate::LentStepped;
 use crate::Numbers;
@@ -18,6 +19,7 @@ use crate::Stepped;
 use crate::plan::Kind;
 use crate::plan::Plan;
 use crate::plan::Reads;
+use crate::plan::Reports;
 use log::Place;
 use log::Shared;
 
@@ -30,7 +32,15 @@ fn fill<'a>(image: &[u64], head: Head, table: &'a [u16; 256], text: &'a [u8; 102
     let phase = write.phase;
     let value = crate::fill::new_word(image, head, table, text, k);
     let filled = crate::plan::turned(write, phase, k + 1, write.zeroing, write.retries);
-    crate::plan::storing(Kind::Fill, write.run, k, value, head.place, filled)
+    crate::plan::storing(
+        Kind::Fill,
+        write.run,
+        k,
+        value,
+        head.place,
+        filled,
+        Reports::NoReport,
+    )
 }
 
 // The next word of the run is filled; where none is left, the step commits.
@@ -68,7 +78,7 @@ fn write_on<'a>(
     let write = head.write;
     let phase = write.phase;
     if crate::record::is_zeroing(phase) {
-        return crate::extend::extending(image, head);
+        return crate::extend::extending(image, numbers.chain, head);
     }
     filling(image, numbers, taken, head, table, text)
 }
@@ -83,8 +93,8 @@ fn settle<'a>(
     text: &'a [u8; 1024],
 ) -> Plan
     requires { ⌜ isReading (head .write .phase) ≡ false ⌝ }
-    ensures { λ r. ⌜ r
-        ≡ planned one (now (image .entry)) (sharedOf numbers (now (taken .entry))) (pointOf head (now (table .entry)) (now (text .entry))) ⌝ }
+    ensures { λ r. ⌜ ((reports : List ℕ) → Known numbers reports → r
+        ≡ planned one (now (image .entry)) (sharedOf numbers (now (taken .entry)) reports) (pointOf head (now (table .entry)) (now (text .entry)))) ⌝ }
 {
     let reason = crate::record::unfit_numbers(image, numbers, head, table);
     if reason != 0 {
@@ -163,8 +173,10 @@ fn write_lent(
     text: &mut [u8; 1024],
 ) -> LentStepped
     requires { ⌜ isReading (head .write .phase) ≡ false ⌝ }
-    ensures { λ r. ⌜ WriteTells (now (image .entry)) (sharedOf numbers (now (taken .entry))) (pointOf head (now (table .entry)) (now (text .entry)))
-        (steppedOf numbers r (now (taken .exit)) (now (table .exit)) (now (text .exit))) (now (image .exit)) (r .word) ⌝ }
+    ensures { λ r. ⌜ ((reports : List ℕ) → Known numbers reports
+        → WriteTells (now (image .entry)) (sharedOf numbers (now (taken .entry)) reports) (pointOf head (now (table .entry)) (now (text .entry)))
+        (steppedOf numbers r (now (taken .exit)) reports (now (table .exit)) (now (text .exit))) (now (image .exit)) (r .word))
+        × Lengthens (r .reports) (numbers .chain) ⌝ }
 {
     let plan = settle(image, numbers, taken, head, table, text);
     let frees = plan.frees;
@@ -185,10 +197,12 @@ fn write_lent(
     let word = store(image, kind, plan.block, plan.word, plan.value);
     let left = crate::plan::head_of(head.number, length, plan.place, plan.write);
     let answer = plan.step;
+    let reports = plan.reports;
     LentStepped {
         step: answer,
         head: left,
         word,
+        reports,
     }
 }
 
@@ -202,9 +216,10 @@ pub fn step_lent(
     text: &mut [u8; 1024],
     bytes: &mut [u8; 1024],
 ) -> LentStepped
-    ensures { λ r. ⌜ StepTells (now (image .entry)) (sharedOf numbers (now (taken .entry))) (pointOf head (now (table .entry)) (now (text .entry)))
-        (now (bytes .entry)) (steppedOf numbers r (now (taken .exit)) (now (table .exit)) (now (text .exit)))
-        (now (image .exit)) (now (bytes .exit)) (r .word) ⌝ }
+    ensures { λ r. ⌜ ((reports : List ℕ) → Known numbers reports
+        → StepTells (now (image .entry)) (sharedOf numbers (now (taken .entry)) reports) (pointOf head (now (table .entry)) (now (text .entry)))
+        (now (bytes .entry)) (steppedOf numbers r (now (taken .exit)) reports (now (table .exit)) (now (text .exit)))
+        (now (image .exit)) (now (bytes .exit)) (r .word)) × Lengthens (r .reports) (numbers .chain) ⌝ }
 {
     let write = head.write;
     let phase = write.phase;
@@ -234,9 +249,14 @@ pub fn step(image: &mut [u64], shared: Shared, point: Point, bytes: &mut [u8; 10
     );
     let answer = left.step;
     let head = left.head;
+    let reports = left.reports;
     Stepped {
         step: answer,
-        shared: crate::shared::with_taken(shared, taken),
+        shared: crate::shared::reported(
+            crate::shared::with_taken(shared, taken),
+            reports,
+            head,
+        ),
         point: Point { head, table, text },
     }
 }
