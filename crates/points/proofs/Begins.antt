@@ -25,10 +25,11 @@ use Rattle.points.specs.declared.Begun.{Begun}
 use Rattle.points.specs.declared.LentBegun.{LentBegun}
 use Rattle.points.specs.declared.Numbers.{Numbers}
 use Rattle.points.specs.Record.{noText, isIdle, badText, pastEnd, span, fileAt, caughtUp, unfit}
-use Rattle.points.specs.Search.{sharedOf, numbersOf, search, withTaken}
-use Rattle.points.specs.Lent.{begunOf}
+use Rattle.points.specs.Search.{sharedOf, numbersOf, Known, search, withTaken, reporting, reportingPlace}
+use Rattle.points.specs.Lent.{begunShared, begunOf}
 use Rattle.points.specs.Start.{Settled, Started}
 use Rattle.points.specs.Calls.{beginRefusal, beginning, beginReadRefusal, beginningRead, textOf, newWrite, newRead}
+use Rattle.points.proofs.Fits.{of-known}
 use Rattle.points.proofs.RecordFacts.{TextFits, text-facts, shared-facts}
 use Rattle.points.proofs.NotRefused.{write-refused, write-goes-on, begin-either, begin-shared, begin-text, begin-end, begin-sound}
 use Rattle.points.proofs.RecordReasons.{refused-so, unfit-before, fit-goes-on}
@@ -106,9 +107,10 @@ module _ (E : Edition) (words : List ℕ) (s : Shared) (h : Head) (table : List 
 -- what is settled: a reason; or none, with the place and the run. The contracts that these serve are edition one's
 module _ (words : List ℕ) (n : Numbers) (h : Head) (table : List ℕ) (offset size : ℕ) where
   pub settled-refused :
-      (r k : ℕ) (place : Place) → r ≡ k → (k ≡ 0 → ⊥) → ((taken : List ℕ) → k ≡ beginReadRefusal one words (sharedOf n taken) h table offset size)
+      (r k : ℕ) (place : Place) → r ≡ k → (k ≡ 0 → ⊥) → ((taken reports : List ℕ) → Known n reports
+      → k ≡ beginReadRefusal one words (sharedOf n taken reports) h table offset size)
       → Settled words n h table offset size r place
-  settled-refused r k place e ne x = record { refusal = λ t. e ∙ x t; tail = λ z. absurd (ne (sym e ∙ z)) }
+  settled-refused r k place e ne x = record { refusal = λ taken reports known. e ∙ x taken reports known; tail = λ z. absurd (ne (sym e ∙ z)) }
 
 -- a write's: a reason of either kind, then 19
 module _ (E : Edition) (words : List ℕ) (s : Shared) (p : Point) (offset size : ℕ) where
@@ -161,10 +163,10 @@ module _ (E : Edition) (words : List ℕ) (s : Shared) (p : Point) (offset : ℕ
 
   pub begin-done :
       Ready E words s p offset text → (place : Place) (run n size : ℕ) (table bytes : List ℕ) (head : Head) (t : Shared)
-      → place ≡ placeAfter (p .head .place) (ahead E (memory E words) (s .blocks) (p .head .place)) → run ≡ search s (span E offset (length text))
+      → place ≡ placeAfter (ahead E (memory E words) (s .blocks) (p .head .place)) → run ≡ search s (span E offset (length text))
       → record { table = table; size = size } ≡ replayOn E (fileAt (p .head) (p .table)) (ahead E (memory E words) (s .blocks) (p .head .place) .entries)
       → bytes ≡ textOf text → head ≡ record { number = p .head .number; length = size; place = place; write = newWrite offset (length text) run }
-      → n ≡ span E offset (length text) → t ≡ withTaken s (setRun true (s .taken) run n)
+      → n ≡ span E offset (length text) → t ≡ reportingPlace head (withTaken s (setRun true (s .taken) run n))
       → record { reply = Done; shared = t; point = record { head = head; table = table; text = bytes } } ≡ beginning E words s p offset text
   unfolding beginning caughtUp
   begin-done r place run n size table bytes head t ep er ef eb eh en et =
@@ -175,14 +177,16 @@ module _ (E : Edition) (words : List ℕ) (s : Shared) (p : Point) (offset : ℕ
       begun f =
           record {
             reply = Done;
-            shared = withTaken s (setRun true (s .taken) (search s (span E offset (length text))) (span E offset (length text)));
+            shared =
+                reporting (withTaken s (setRun true (s .taken) (search s (span E offset (length text))) (span E offset (length text))))
+                (p .head .number) (placeAfter (ahead E (memory E words) (s .blocks) (p .head .place)) .block);
             point =
                 record {
                   head =
                       record {
                         number = p .head .number;
                         length = f .size;
-                        place = placeAfter (p .head .place) (ahead E (memory E words) (s .blocks) (p .head .place));
+                        place = placeAfter (ahead E (memory E words) (s .blocks) (p .head .place));
                         write = newWrite offset (length text) (search s (span E offset (length text)));
                       };
                   table = f .table;
@@ -218,10 +222,10 @@ module _ (E : Edition) (words : List ℕ) (s : Shared) (p : Point) (offset size 
 
   pub begin-read-done :
       unread ≡ 0 → (place : Place) (length : ℕ) (table text : List ℕ) (head : Head)
-      → place ≡ placeAfter (p .head .place) (ahead E (memory E words) (s .blocks) (p .head .place))
+      → place ≡ placeAfter (ahead E (memory E words) (s .blocks) (p .head .place))
       → record { table = table; size = length } ≡ replayOn E (fileAt (p .head) (p .table)) (ahead E (memory E words) (s .blocks) (p .head .place) .entries)
       → text ≡ noText → head ≡ record { number = p .head .number; length = length; place = place; write = newRead offset size }
-      → record { reply = Done; shared = s; point = record { head = head; table = table; text = text } } ≡ beginningRead E words s p offset size
+      → record { reply = Done; shared = reportingPlace head s; point = record { head = head; table = table; text = text } } ≡ beginningRead E words s p offset size
   unfolding beginningRead caughtUp
   begin-read-done none place length table text head ep ef et eh = rw (eh, et, ep) (ap begun ef ∙ sym (chosen-zero unread _ _ none))
     where
@@ -229,14 +233,14 @@ module _ (E : Edition) (words : List ℕ) (s : Shared) (p : Point) (offset size 
       begun f =
           record {
             reply = Done;
-            shared = s;
+            shared = reporting s (p .head .number) (placeAfter (ahead E (memory E words) (s .blocks) (p .head .place)) .block);
             point =
                 record {
                   head =
                       record {
                         number = p .head .number;
                         length = f .size;
-                        place = placeAfter (p .head .place) (ahead E (memory E words) (s .blocks) (p .head .place));
+                        place = placeAfter (ahead E (memory E words) (s .blocks) (p .head .place));
                         write = newRead offset size;
                       };
                   table = f .table;
@@ -247,12 +251,14 @@ module _ (E : Edition) (words : List ℕ) (s : Shared) (p : Point) (offset size 
 -- a beginning on a whole shared record, by its numbers and its map
 pub whole-begin :
     (words : List ℕ) (s : Shared) (p : Point) (offset : ℕ) (text : List ℕ) (n : Numbers) (left : LentBegun) (taken table kept : List ℕ) (t : Shared)
-    → n ≡ numbersOf s → t ≡ withTaken s taken → begunOf n left taken table kept ≡ beginning one words (sharedOf n (s .taken)) p offset text
+    → n ≡ numbersOf s → t ≡ begunShared (left .reply) (left .head) (withTaken s taken)
+    → ((reports : List ℕ) → Known n reports → begunOf n left taken reports table kept ≡ beginning one words (sharedOf n (s .taken) reports) p offset text)
     → record { reply = left .reply; shared = t; point = record { head = left .head; table = table; text = kept } } ≡ beginning one words s p offset text
-whole-begin words s p offset text n left taken table kept t en et e = rw et (rw en at e)
+whole-begin words s p offset text n left taken table kept t en et e = rw et (rw en at (e (s .reports) (of-known s n en)))
 
 pub whole-begin-read :
-    (words : List ℕ) (s : Shared) (p : Point) (offset size : ℕ) (n : Numbers) (left : LentBegun) (table kept : List ℕ)
-    → n ≡ numbersOf s → begunOf n left (s .taken) table kept ≡ beginningRead one words (sharedOf n (s .taken)) p offset size
-    → record { reply = left .reply; shared = s; point = record { head = left .head; table = table; text = kept } } ≡ beginningRead one words s p offset size
-whole-begin-read words s p offset size n left table kept en e = rw en at e
+    (words : List ℕ) (s : Shared) (p : Point) (offset size : ℕ) (n : Numbers) (left : LentBegun) (table kept : List ℕ) (t : Shared)
+    → n ≡ numbersOf s → t ≡ begunShared (left .reply) (left .head) s
+    → ((taken reports : List ℕ) → Known n reports → begunOf n left taken reports table kept ≡ beginningRead one words (sharedOf n taken reports) p offset size)
+    → record { reply = left .reply; shared = t; point = record { head = left .head; table = table; text = kept } } ≡ beginningRead one words s p offset size
+whole-begin-read words s p offset size n left table kept t en et e = rw et (rw en at (e (s .taken) (s .reports) (of-known s n en)))

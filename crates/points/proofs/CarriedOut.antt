@@ -17,13 +17,15 @@ use Rattle.points.specs.declared.Write.{Write}
 use Rattle.points.specs.declared.Head.{Head}
 use Rattle.points.specs.declared.Point.{Point}
 use Rattle.points.specs.declared.StepAnswer.the-variants.{Stored, Moved, Extending, Committed, Refused}
+use Rattle.points.specs.declared.plan.Reports.{Reports}
+use Rattle.points.specs.declared.plan.Reports.the-variants.{NoReport, Standing, Linked}
 use Rattle.points.specs.declared.plan.Plan.{Plan}
 use Rattle.points.specs.Record.{noWrite, noText, isReading, fileAt, pointOf, standing, writing, withHead, caughtUp}
-use Rattle.points.specs.Search.{withTaken}
+use Rattle.points.specs.Search.{withTaken, reporting, reportingPlace, lengthening}
 use Rattle.points.specs.Fill.{newWord}
-use Rattle.points.specs.Plan.{Outcome, untouched, carriedOut, readIn, freed, withoutRun, replaced, wordFrom}
+use Rattle.points.specs.Plan.{Outcome, untouched, carriedOut, readIn, reported, freed, withoutHeld, replaced, wordFrom}
 use Rattle.points.specs.Stepping.{turned, toCommit, retried, filled, refillAfter, nextSlot, entering, entryFor}
-use Rattle.points.specs.Stepping.{refused, commit, giveUp, extend, zeroOut, link, giveBack, moveOn, fill, stepping}
+use Rattle.points.specs.Stepping.{refused, commit, giveUp, extend, zeroOut, link, giveBack, moveOn, fill, planned, stepping}
 use Rattle.points.proofs.StepCases.{go-on}
 use Rattle.points.proofs.ReadCases.{write-kind, step-stays}
 
@@ -85,7 +87,7 @@ module _ (E : Edition) (m : Memory) (s : Shared) (p : Point) where
   afterGiveUp n =
       record {
         step = Refused n;
-        shared = withTaken s (withoutRun E (s .taken) w);
+        shared = withTaken s (withoutHeld E (s .taken) w);
         point = pointOf (writing h noWrite) (p .table) noText;
         store = none;
         bytes = [];
@@ -103,7 +105,13 @@ module _ (E : Edition) (m : Memory) (s : Shared) (p : Point) where
   abbrev pub afterMove : Outcome
   afterMove =
       let c = caughtUp E walked p in
-      record { step = Moved; shared = s; point = withHead c (writing (c .head) (refillAfter E (walked .entries) w)); store = none; bytes = [] }
+      record {
+        step = Moved;
+        shared = reportingPlace (c .head) s;
+        point = withHead c (writing (c .head) (refillAfter E (walked .entries) w));
+        store = none;
+        bytes = [];
+      }
 
   pub move-leaves : broken E (s .blocks) walked ≡ false → out (moveOn E m h (s .blocks)) ≡ afterMove
   unfolding carriedOut readIn freed setAll caughtUp
@@ -144,8 +152,8 @@ module _ (E : Edition) (m : Memory) (s : Shared) (p : Point) where
   afterLink =
       record {
         step = Stored;
-        shared = s;
-        point = withHead p (standing h (h .length) (entering (h .place) (w .zeroing)) (toCommit E w (w .retries)));
+        shared = lengthening (reporting s (h .number) (w .zeroing));
+        point = withHead p (standing h (h .length) (entering (w .zeroing)) (toCommit E w (w .retries)));
         store = some (record { block = h .place .block; word = 0; value = w .zeroing });
         bytes = [];
       }
@@ -168,11 +176,16 @@ module _ (E : Edition) (m : Memory) (s : Shared) (p : Point) where
   unfolding carriedOut readIn freed setAll giveBack afterGiveBack
   give-back-leaves = refl
 
--- a step changes the map alone of the shared record, a read's step not even that
-pub step-map : (E : Edition) (words : List ℕ) (s : Shared) (p : Point) → withTaken s (stepping E words s p .shared .taken) ≡ stepping E words s p .shared
+-- nobody joins or leaves by a step
+reported-points : (r : Reports) (h : Head) (s : Shared) → reported r h s .joined ≡ s .joined
+reported-points NoReport h s = refl
+reported-points Standing h s = refl
+reported-points Linked h s = refl
+
+pub step-points : (E : Edition) (words : List ℕ) (s : Shared) (p : Point) → stepping E words s p .shared .joined ≡ s .joined
 unfolding carriedOut
-step-map E words s p = go (isReading (p .head .write .phase)) refl
+step-points E words s p = go (isReading (p .head .write .phase)) refl
   where
-    go : (b : Bool) → isReading (p .head .write .phase) ≡ b → withTaken s (stepping E words s p .shared .taken) ≡ stepping E words s p .shared
-    go true e = rw (step-stays E words s p e .shared)
-    go false e = rw (write-kind E words s p e)
+    go : (b : Bool) → isReading (p .head .write .phase) ≡ b → stepping E words s p .shared .joined ≡ s .joined
+    go true e = step-stays E words s p e .joined
+    go false e = rw (write-kind E words s p e) (reported-points (planned E words s p .reports) _ _)

@@ -14,7 +14,6 @@ use Rattle.words.proofs.Logic.{and-left, and-right}
 use Rattle.words.proofs.Tests.{no-reason, passes}
 use Rattle.log.specs.declared.Shared.{Shared}
 use Rattle.log.specs.declared.Lookahead.{Lookahead}
-use Rattle.log.specs.declared.Place.{Place}
 use Rattle.log.specs.Replay.{Mapped, replayOn}
 use Rattle.log.specs.CatchUp.{Walk, ahead, broken}
 use Rattle.log.specs.Look.{lookaheadOf}
@@ -39,10 +38,10 @@ pub refused-as :
 refused-as r n t e f = record { refusal = e .0 ∙ f; file = λ z. never (sym (e .1) ∙ z) }
 
 -- what the walk saw
-pub look-broken : (E : Edition) (seen : Lookahead) (blocks x y : ℕ) (p : Place) (w : Walk) → seen ≡ lookaheadOf E blocks x y p w
+pub look-broken : (E : Edition) (seen : Lookahead) (blocks x y : ℕ) (w : Walk) → seen ≡ lookaheadOf E blocks x y w
     → seen .broken ≡ broken E blocks w
 unfolding lookaheadOf
-look-broken E seen blocks x y p w e = ap (λ (s : Lookahead). s .broken) e
+look-broken E seen blocks x y w e = ap (λ (s : Lookahead). s .broken) e
 
 module _ (E : Edition) (I : List ℕ) (s : Shared) (h : Head) (table : List ℕ) (past : Bool) where
   abbrev aheadBroken : Bool

@@ -1,5 +1,5 @@
 -- Small cases of the definitions, computed, at the borders where a definition that is off by one would differ.
--- When a record fits; what the search finds; an entry's used bytes; the retry count; what leaving frees; what is filled again.
+-- When a record fits, and a shared record; what the search finds; an entry's used bytes; the retry count; what leaving frees; what is filled again.
 use Prim.Native.Nat.{ℕ}
 use mathlib.Core.Path.{_≡_, refl}
 use mathlib.Core.List.{List, [], _∷_, _++_, map}
@@ -9,20 +9,21 @@ use Rattle.words.specs.Logic.{one-if}
 use Rattle.log.specs.declared.Shared.{Shared}
 use Rattle.log.specs.declared.Place.{Place}
 use Rattle.log.specs.Entry.{entryOf}
+use Rattle.log.specs.Opening.{noReports}
 use Rattle.points.specs.Computing.{computing}
 use Rattle.points.specs.declared.Phase.{Phase}
 use Rattle.points.specs.declared.Phase.the-variants.{Idle, Filling, RefillFirst, RefillLast, RefillBoth, Zeroing}
 use Rattle.points.specs.declared.Write.{Write}
 use Rattle.points.specs.declared.Head.{Head}
-use Rattle.points.specs.Record.{noTable, phaseNumber, fits}
+use Rattle.points.specs.Record.{noTable, phaseNumber, badShared, fits}
 use Rattle.points.specs.Search.{search}
-use Rattle.points.specs.Calls.{withoutHeld}
+use Rattle.points.specs.Plan.{withoutHeld}
 use Rattle.points.specs.Stepping.{retried, refillAfter, entryFor}
 
 -- ---- when a record fits, in an image of 8 blocks
 
-abbrev place : ℕ → ℕ → ℕ → Place
-place block slot passed = record { block = block; slot = slot; passed = passed }
+abbrev place : ℕ → ℕ → Place
+place block slot = record { block = block; slot = slot }
 
 abbrev write : ℕ → ℕ → ℕ → Phase → ℕ → ℕ → Write
 write offset size run phase position zeroing =
@@ -39,7 +40,7 @@ abbrev three : Phase → ℕ → ℕ → Write
 three phase position zeroing = write 500 600 4 phase position zeroing
 
 abbrev atSlot : ℕ → Write → Head
-atSlot slot w = head 0 (place 1 slot 63) w
+atSlot slot w = head 0 (place 1 slot) w
 
 -- filling and filling again: the position is at most the run's words, the block being zeroed is not looked at
 phases-fit : map (λ ph. fit (atSlot 2 (three ph 192 99))) (Filling ∷ RefillFirst ∷ RefillLast ∷ RefillBoth ∷ []) ≡ 1 ∷ 1 ∷ 1 ∷ 1 ∷ []
@@ -50,18 +51,17 @@ phases-past : map (λ ph. fit (atSlot 2 (three ph 193 99))) (Filling ∷ RefillF
 unfolding computing
 phases-past = refl
 
--- zeroing: position 64, slot 64, under 64 passed, a block from 1 to 7
+-- zeroing: position 64, slot 64, a block from 1 to 7
 zeroing-fits : map fit (atSlot 64 (three Zeroing 64 7) ∷ atSlot 64 (three Zeroing 65 7) ∷ atSlot 63 (three Zeroing 64 7)
-    ∷ head 0 (place 1 64 64) (three Zeroing 64 7) ∷ atSlot 64 (three Zeroing 64 8) ∷ atSlot 64 (three Zeroing 64 0) ∷ [])
-    ≡ 1 ∷ 0 ∷ 0 ∷ 0 ∷ 0 ∷ 0 ∷ []
+    ∷ atSlot 64 (three Zeroing 64 8) ∷ atSlot 64 (three Zeroing 64 0) ∷ [])
+    ≡ 1 ∷ 0 ∷ 0 ∷ 0 ∷ 0 ∷ []
 unfolding computing
 zeroing-fits = refl
 
 -- idle: the write fields are not looked at, place and length are
-idle-fits : map fit (head 131072 (place 7 64 64) (write 0 0 99 Idle 999 99) ∷ head 131073 (place 7 64 64) (three Idle 0 0)
-    ∷ head 0 (place 8 2 1) (three Idle 0 0) ∷ head 0 (place 0 2 1) (three Idle 0 0)
-    ∷ head 0 (place 1 65 1) (three Idle 0 0) ∷ head 0 (place 1 1 1) (three Idle 0 0)
-    ∷ head 0 (place 1 2 65) (three Idle 0 0) ∷ head 0 (place 1 2 0) (three Idle 0 0) ∷ []) ≡ 1 ∷ 0 ∷ 0 ∷ 0 ∷ 0 ∷ 0 ∷ 0 ∷ 0 ∷ []
+idle-fits : map fit (head 131072 (place 7 64) (write 0 0 99 Idle 999 99) ∷ head 131073 (place 7 64) (three Idle 0 0)
+    ∷ head 0 (place 8 2) (three Idle 0 0) ∷ head 0 (place 0 2) (three Idle 0 0)
+    ∷ head 0 (place 1 65) (three Idle 0 0) ∷ head 0 (place 1 1) (three Idle 0 0) ∷ []) ≡ 1 ∷ 0 ∷ 0 ∷ 0 ∷ 0 ∷ 0 ∷ []
 unfolding computing
 idle-fits = refl
 
@@ -74,15 +74,29 @@ unfolding computing
 write-fits = refl
 
 -- each table entry inside the image
-table-fits : map (λ b. one-if (fits one 8 (head 0 (place 1 2 1) (three Idle 0 0)) (replicate 255 0 ++ (b ∷ [])))) (7 ∷ 8 ∷ []) ≡ 1 ∷ 0 ∷ []
+table-fits : map (λ b. one-if (fits one 8 (head 0 (place 1 2) (three Idle 0 0)) (replicate 255 0 ++ (b ∷ [])))) (7 ∷ 8 ∷ []) ≡ 1 ∷ 0 ∷ []
 unfolding computing
 table-fits = refl
+
+-- ---- when a shared record fits, in the same image: the chain's length, and each of 32 reported blocks, whoever is joined
+
+abbrev told : ℕ → List ℕ → ℕ
+told chain reports =
+    one-if (badShared one (replicate 512 0) (record { blocks = 8; taken = replicate 16 0; joined = 0; chain = chain; reports = reports }))
+
+chain-fits : map (λ n. told n noReports) (0 ∷ 1 ∷ 64 ∷ 65 ∷ []) ≡ 1 ∷ 0 ∷ 0 ∷ 1 ∷ []
+unfolding computing
+chain-fits = refl
+
+reports-fit : map (λ b. told 1 (b ∷ replicate 31 0)) (7 ∷ 8 ∷ []) ++ map (λ b. told 1 (replicate 31 7 ++ (b ∷ []))) (7 ∷ 8 ∷ []) ≡ 0 ∷ 1 ∷ 0 ∷ 1 ∷ []
+unfolding computing
+reports-fit = refl
 
 -- ---- the search
 
 -- 8 blocks; the map's word has a bit for each taken block
 abbrev shared : ℕ → Shared
-shared bits = record { blocks = 8; taken = bits ∷ replicate 15 0; joined = 0 }
+shared bits = record { blocks = 8; taken = bits ∷ replicate 15 0; joined = 0; chain = 1; reports = noReports }
 
 -- blocks 0 and 1 taken: the first blocks of the one stretch, 2 to 7; seven are not there. Block 0 is in no stretch, taken or not
 search-first : map (search (shared 3)) (1 ∷ 2 ∷ 3 ∷ 6 ∷ 7 ∷ []) ++ map (search (shared 0)) (1 ∷ 7 ∷ 8 ∷ []) ++ (search (shared 2) 1 ∷ [])
@@ -99,7 +113,7 @@ search-taken = refl
 -- ---- the entry of a write
 
 -- used bytes: from the last block's start to the end, 1 to 512
-used-bytes : map (λ w. entryFor one (head 0 (place 1 2 1) w))
+used-bytes : map (λ w. entryFor one (head 0 (place 1 2) w))
     (write 510 4 2 Filling 0 0 ∷ write 0 512 2 Filling 0 0 ∷ write 512 1 3 Filling 0 0 ∷ write 511 514 3 Filling 0 0 ∷ [])
     ≡ entryOf one 0 2 2 2 1 ∷ entryOf one 0 2 1 512 1 ∷ entryOf one 1 3 1 1 1 ∷ entryOf one 0 3 3 1 1 ∷ []
 unfolding computing

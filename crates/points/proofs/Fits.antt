@@ -23,8 +23,10 @@ use Rattle.log.specs.declared.Shared.{Shared}
 use Rattle.points.specs.declared.Phase.the-variants.{Idle}
 use Rattle.points.specs.declared.Write.{Write}
 use Rattle.points.specs.declared.Head.{Head}
+use Rattle.points.specs.declared.Numbers.{Numbers}
 use Rattle.points.specs.Record.{phaseOf, isIdle, isZeroing, span, rangeWords, badShared, badText, pastEnd}
-use Rattle.points.specs.Record.{inside, placeFits, zeroingFits, writeFits, rangeFits, workFits, headFits, tableFits}
+use Rattle.points.specs.Record.{inside, placeFits, zeroingFits, writeFits, rangeFits, workFits, headFits, allBelow}
+use Rattle.points.specs.Search.{Known, numbersOf}
 
 -- ---- several tests, made from the first on
 
@@ -50,24 +52,42 @@ ors-any a (b ∷ bs) = ors-any (a || b) bs ∙ or-assoc a b (any bs)
 
 pub shared-tests :
     (E : Edition) (words : List ℕ) (s : Shared)
-    → not (between 4 (s .blocks) 1024) || not (eqb (E .blockWords * s .blocks) (length words)) ≡ badShared E words s
+    → ((not (between 4 (s .blocks) 1024) || not (eqb (E .blockWords * s .blocks) (length words))) || not (between 1 (s .chain) chainMax))
+    || not (allBelow (s .blocks) (s .reports))
+    ≡ badShared E words s
 unfolding badShared
-shared-tests E words s = ors-any (not (between 4 (s .blocks) 1024)) (not (eqb (E .blockWords * s .blocks) (length words)) ∷ [])
+shared-tests E words s =
+    ors-any (not (between 4 (s .blocks) 1024))
+    (not (eqb (E .blockWords * s .blocks) (length words)) ∷ not (between 1 (s .chain) chainMax) ∷ not (allBelow (s .blocks) (s .reports)) ∷ [])
+
+-- reports that are known by numbers: there always are some
+abbrev pub anyReports : Numbers → List ℕ
+anyReports n = elim (n .inside) [ true ↦ [] | false ↦ n .blocks ∷ [] ]
+
+pub any-known : (n : Numbers) → Known n (anyReports n)
+unfolding allBelow
+any-known n = go (n .inside)
+  where
+    go : (b : Bool) → b ≡ allBelow (n .blocks) (elim b [ true ↦ [] | false ↦ n .blocks ∷ [] ])
+    go true = refl
+    go false = rw (le-ltb (n .blocks) (n .blocks) (omega arith))
+
+-- and those of a shared record are, by its own
+pub of-known : (s : Shared) (n : Numbers) → n ≡ numbersOf s → Known n (s .reports)
+of-known s n e = rw e
 
 -- ---- the head
 
 module _ (E : Edition) (blocks : ℕ) (p : Place) where
-  pub place-tests : (inside blocks (p .block) 1 && between 2 (p .slot) (E .blockWords)) && between 1 (p .passed) chainMax ≡ placeFits E blocks p
+  pub place-tests : inside blocks (p .block) 1 && between 2 (p .slot) (E .blockWords) ≡ placeFits E blocks p
   unfolding placeFits
-  place-tests = ands-every (inside blocks (p .block) 1) (between 2 (p .slot) (E .blockWords) ∷ between 1 (p .passed) chainMax ∷ [])
+  place-tests = ands-every (inside blocks (p .block) 1) (between 2 (p .slot) (E .blockWords) ∷ [])
 
   module _ (w : Write) where
     pub zeroing-tests :
-        ((inside blocks (w .zeroing) 1 && leb (w .position) (E .blockWords)) && eqb (p .slot) (E .blockWords)) && ltb (p .passed) chainMax
-        ≡ zeroingFits E blocks p w
+        (inside blocks (w .zeroing) 1 && leb (w .position) (E .blockWords)) && eqb (p .slot) (E .blockWords) ≡ zeroingFits E blocks p w
     unfolding zeroingFits
-    zeroing-tests =
-        ands-every (inside blocks (w .zeroing) 1) (leb (w .position) (E .blockWords) ∷ eqb (p .slot) (E .blockWords) ∷ ltb (p .passed) chainMax ∷ [])
+    zeroing-tests = ands-every (inside blocks (w .zeroing) 1) (leb (w .position) (E .blockWords) ∷ eqb (p .slot) (E .blockWords) ∷ [])
 
     abbrev pub runTests : Bool
     runTests = (not (badText (w .size)) && not (pastEnd E (w .offset) (w .size))) && inside blocks (w .run) (span E (w .offset) (w .size))
@@ -143,12 +163,12 @@ phase-none (suc (suc (suc (suc (suc (suc (suc n))))))) a b c d e f = refl
 module _ (blocks : ℕ) (table : List ℕ) where
   pub table-next :
       (i : ℕ) (ok : Bool) → i < length table
-      → ok && tableFits blocks (drop i table) ≡ (ok && ltb (getD table i 0) blocks) && tableFits blocks (drop (i + 1) table)
-  unfolding tableFits
+      → ok && allBelow blocks (drop i table) ≡ (ok && ltb (getD table i 0) blocks) && allBelow blocks (drop (i + 1) table)
+  unfolding allBelow
   table-next i ok h = rw (add-one, drop-cons table i 0) (sym (and-assoc ok (ltb (getD table i 0) blocks) (all-of (λ b. ltb b blocks) (drop (suc i) table))))
 
-  pub table-end : (ok : Bool) → ok && tableFits blocks (drop (length table) table) ≡ ok
-  unfolding tableFits
+  pub table-end : (ok : Bool) → ok && allBelow blocks (drop (length table) table) ≡ ok
+  unfolding allBelow
   table-end ok = rw drop-length (and-true ok)
 
 -- a number joins the greatest so far; the first may stand for none
@@ -161,8 +181,8 @@ below-both a b n = go (decLt a n) (decLt b n)
     go (no l) d = let l : n ≤ a = omega arith in rw (le-ltb a n l) (le-ltb (max a b) n (omega arith))
 
 pub table-first : (blocks : ℕ) (table : List ℕ) → 0 < length table
-    → tableFits blocks table ≡ ltb (getD table 0 0) blocks && tableFits blocks (drop 0 table)
-unfolding tableFits
+    → allBelow blocks table ≡ ltb (getD table 0 0) blocks && allBelow blocks (drop 0 table)
+unfolding allBelow
 table-first blocks [] h = absurd (omega arith)
 table-first blocks (x ∷ xs) h = twice (ltb x blocks)
   where

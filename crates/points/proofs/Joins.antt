@@ -17,7 +17,7 @@ use Rattle.log.specs.declared.Reply.the-variants.{Done, Refused}
 use Rattle.log.specs.Chain.{firstIndex}
 use Rattle.points.specs.declared.Point.{Point}
 use Rattle.points.specs.Record.{newPoint, noPoint}
-use Rattle.points.specs.Search.{withJoined}
+use Rattle.points.specs.Search.{withJoined, reporting}
 use Rattle.points.specs.Calls.{badFirst, joinRefusal, joining}
 use Rattle.points.proofs.NotRefused.{join-number, join-first}
 use Rattle.points.proofs.RecordReasons.{refused-so}
@@ -43,11 +43,10 @@ module _ (E : Edition) (words : List ℕ) (s : Shared) (number : ℕ) where
 
   module _ (none : joinRefusal E words s number ≡ 0) where
     pub join-done :
-        (j f : ℕ) (t : Shared) (p : Point) → j ≡ withBit true (s .joined) number → t ≡ withJoined s j → f ≡ firstIndex (memory E words)
-        → p ≡ newPoint number f
-        → record { reply = Done; shared = t; point = p } ≡ joining E words s number
+        (j f : ℕ) (t u : Shared) (p : Point) → j ≡ withBit true (s .joined) number → t ≡ withJoined s j → f ≡ firstIndex (memory E words)
+        → u ≡ reporting t number f → p ≡ newPoint number f → record { reply = Done; shared = u; point = p } ≡ joining E words s number
     unfolding joining
-    join-done j f t p ej et ef ep = rw (ep, et, ej, ef) (sym (chosen-zero (joinRefusal E words s number) _ _ none))
+    join-done j f t u p ej et ef eu ep = rw (ep, eu, et, ej, ef) (sym (chosen-zero (joinRefusal E words s number) _ _ none))
 
     pub join-small : number < 32
     join-small = omega (arith, ltb-false 31 number (join-number E words s number none))

@@ -17,9 +17,9 @@ use Rattle.log.specs.declared.Reply.the-variants.{Done, Refused}
 use Rattle.points.specs.declared.Write.{Write}
 use Rattle.points.specs.declared.Point.{Point}
 use Rattle.points.specs.Record.{isWriting, isZeroing, runBlocks, held, unfit}
-use Rattle.points.specs.Search.{withJoined, withTaken}
-use Rattle.points.specs.Calls.{withoutHeld, leaving}
-use Rattle.points.specs.Plan.{withoutRun}
+use Rattle.points.specs.Search.{withJoined, withTaken, reporting}
+use Rattle.points.specs.Calls.{leaving}
+use Rattle.points.specs.Plan.{withoutRun, withoutHeld}
 use Rattle.points.proofs.Fits.{no-bit}
 use Rattle.points.proofs.RecordReasons.{refused-so}
 
@@ -60,8 +60,9 @@ module _ (E : Edition) (words : List ℕ) (s : Shared) (p : Point) where
   leave-refused r e h = rw e (sym (refused-so (unfit E words s (p .head) (p .table)) _ (λ n. record { reply = Refused n; shared = s }) (λ z. h (e ∙ z))))
 
   pub leave-done :
-      unfit E words s (p .head) (p .table) ≡ 0 → (map : List ℕ) (j : ℕ) (t u : Shared) → map ≡ withoutHeld E (s .taken) (p .head .write)
+      unfit E words s (p .head) (p .table) ≡ 0 → (map : List ℕ) (j : ℕ) (t u v : Shared) → map ≡ withoutHeld E (s .taken) (p .head .write)
       → t ≡ withTaken s map
-      → j ≡ withBit false (s .joined) (p .head .number) → u ≡ withJoined t j → record { reply = Done; shared = u } ≡ leaving E words s p
+      → j ≡ withBit false (s .joined) (p .head .number) → u ≡ withJoined t j → v ≡ reporting u (p .head .number) 0
+      → record { reply = Done; shared = v } ≡ leaving E words s p
   unfolding leaving
-  leave-done e map j t u em et ej eu = rw (eu, et, em, ej) (sym (chosen-zero (unfit E words s (p .head) (p .table)) _ _ e))
+  leave-done e map j t u v em et ej eu ev = rw (ev, eu, et, em, ej) (sym (chosen-zero (unfit E words s (p .head) (p .table)) _ _ e))

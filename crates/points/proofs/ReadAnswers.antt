@@ -54,8 +54,8 @@ module _ (b x : ℕ) (is : b ≡ x) where
       some (suc n) ne = refl
 
 -- a shared record is that of its numbers and its map
-pub of-numbers : (s : Shared) (n : Numbers) → n ≡ numbersOf s → sharedOf n (s .taken) ≡ s
-of-numbers s n e = ap (λ (k : Numbers). sharedOf k (s .taken)) e
+pub of-numbers : (s : Shared) (n : Numbers) → n ≡ numbersOf s → sharedOf n (s .taken) (s .reports) ≡ s
+of-numbers s n e = ap (λ (k : Numbers). sharedOf k (s .taken) (s .reports)) e
 
 -- the part of an answer that is 0 exactly where it is refused
 view-answer : (m : Memory) (r n b : ℕ) → b ≡ answer r n .count → (r ≡ 0 → n ≢ 0)

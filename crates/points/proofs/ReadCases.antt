@@ -96,15 +96,15 @@ module _ (E : Edition) (m : Memory) (s : Shared) (p : Point) where
       go false false true e f g = subst P (sym (finish-on e ∙ again-on f g)) (each .begins-again e g)
       go false false false e f g = subst P (sym (finish-on e ∙ bytes-on f g)) (each .answers e g)
 
-  -- it stores nothing, and leaves the shared record alone
+  -- it stores nothing, and nobody joins or leaves by it
   pub record Stays (o : Outcome) : Type 0 where
-    pub shared : o .shared ≡ s
+    pub joined : o .shared .joined ≡ s .joined
     pub store : o .store ≡ none
 
   pub read-stays : Stays (readOn E m s p)
   unfolding copyWord beginAgain answerBytes
   read-stays =
-      let same : (o : Outcome) → o .shared ≡ s → o .store ≡ none → Stays o = λ o e f. record { shared = e; store = f } in
+      let same : (o : Outcome) → o .shared .joined ≡ s .joined → o .store ≡ none → Stays o = λ o e f. record { joined = e; store = f } in
       each-read Stays (record {
         copies = λ e. same _ refl refl;
         stops = λ e. same _ refl refl;
@@ -119,4 +119,4 @@ step-stays E words s p r = go (stepRefusal E words s (p .head) (p .table)) refl
   where
     go : (k : ℕ) → stepRefusal E words s (p .head) (p .table) ≡ k → Stays E (memory E words) s p (stepping E words s p)
     go zero e = subst (Stays E (memory E words) s p) (sym (read-goes E words s p r e)) (read-stays E (memory E words) s p)
-    go (suc k) e = subst (Stays E (memory E words) s p) (sym (read-refused E words s p r k e)) (record { shared = refl; store = refl })
+    go (suc k) e = subst (Stays E (memory E words) s p) (sym (read-refused E words s p r k e)) (record { joined = refl; store = refl })

@@ -19,7 +19,7 @@ use Rattle.log.specs.declared.Shared.{Shared}
 use Rattle.points.specs.declared.Write.{Write}
 use Rattle.points.specs.declared.Head.{Head}
 use Rattle.points.specs.Record.{isIdle, isZeroing, isReading, isWriting, span, rangeWords, badShared, badText, pastEnd, inside}
-use Rattle.points.specs.Record.{placeFits, zeroingFits, writeFits, rangeFits, workFits, headFits, tableFits, fits}
+use Rattle.points.specs.Record.{placeFits, zeroingFits, writeFits, rangeFits, workFits, headFits, allBelow, fits}
 
 -- ---- a test as its facts
 
@@ -35,26 +35,32 @@ pub record SharedFits (E : Edition) (words : List ℕ) (s : Shared) : Type 0 whe
   pub some-blocks : 4 ≤ s .blocks
   pub few-blocks : s .blocks ≤ 1024
   pub whole : E .blockWords * s .blocks ≡ length words
+  pub some-chain : 1 ≤ s .chain
+  pub few-chain : s .chain ≤ chainMax
+  pub reported : allBelow (s .blocks) (s .reports) ≡ true
 
 pub shared-facts : (E : Edition) (words : List ℕ) (s : Shared) → badShared E words s ≡ false → SharedFits E words s
 unfolding badShared
 shared-facts E words s e =
     let f = any-none _ e in
     let b = between-facts 4 (s .blocks) 1024 (not-false _ (f .0)) in
+    let c = between-facts 1 (s .chain) 64 (not-false _ (f .1 .1 .0)) in
     record {
       some-blocks = b .0;
       few-blocks = b .1;
       whole = eqb-true (E .blockWords * s .blocks) (length words) (not-false _ (f .1 .0));
+      some-chain = c .0;
+      few-chain = c .1;
+      reported = not-false _ (f .1 .1 .1 .0);
     }
 
 -- and back
-pub shared-fits :
-    (E : Edition) (words : List ℕ) (s : Shared) → 4 ≤ s .blocks → s .blocks ≤ 1024 → E .blockWords * s .blocks ≡ length words
-    → badShared E words s ≡ false
+pub shared-fits : (E : Edition) (words : List ℕ) (s : Shared) → SharedFits E words s → badShared E words s ≡ false
 unfolding badShared
-shared-fits E words s some few whole = none-any _ (
-  not-of _ (and-both _ _ (le-leb 4 (s .blocks) some) (le-leb (s .blocks) 1024 few)),
-  (not-of _ (eq-eqb (E .blockWords * s .blocks) (length words) whole), tt),
+shared-fits E words s f = none-any _ (
+  not-of _ (and-both _ _ (le-leb 4 (s .blocks) (f .some-blocks)) (le-leb (s .blocks) 1024 (f .few-blocks))),
+  (not-of _ (eq-eqb (E .blockWords * s .blocks) (length words) (f .whole)),
+  (not-of _ (and-both _ _ (le-leb 1 (s .chain) (f .some-chain)) (le-leb (s .chain) 64 (f .few-chain))), (not-of _ (f .reported), tt))),
 )
 
 -- ---- 16 and 17
@@ -76,8 +82,6 @@ pub record PlaceFits (E : Edition) (blocks : ℕ) (p : Place) : Type 0 where
   pub block-inside : p .block < blocks
   pub slot-low : 2 ≤ p .slot
   pub slot-high : p .slot ≤ E .blockWords
-  pub passed-low : 1 ≤ p .passed
-  pub passed-high : p .passed ≤ chainMax
 
 pub place-facts : (E : Edition) (blocks : ℕ) (p : Place) → placeFits E blocks p ≡ true → PlaceFits E blocks p
 unfolding placeFits
@@ -85,15 +89,13 @@ place-facts E blocks p e =
     let f = every-all _ e in
     let i = inside-facts blocks (p .block) 1 (f .0) in
     let s = between-facts 2 (p .slot) (E .blockWords) (f .1 .0) in
-    let q = between-facts 1 (p .passed) chainMax (f .1 .1 .0) in
-    record { block-some = i .0; block-inside = omega (arith, i .1); slot-low = s .0; slot-high = s .1; passed-low = q .0; passed-high = q .1 }
+    record { block-some = i .0; block-inside = omega (arith, i .1); slot-low = s .0; slot-high = s .1 }
 
 pub record ZeroingFits (E : Edition) (blocks : ℕ) (p : Place) (w : Write) : Type 0 where
   pub zeroing-some : 1 ≤ w .zeroing
   pub zeroing-inside : w .zeroing < blocks
   pub zeroing-position : w .position ≤ E .blockWords
   pub slot-last : p .slot ≡ E .blockWords
-  pub passed-few : p .passed < chainMax
 
 pub zeroing-facts : (E : Edition) (blocks : ℕ) (p : Place) (w : Write) → zeroingFits E blocks p w ≡ true → ZeroingFits E blocks p w
 unfolding zeroingFits
@@ -105,7 +107,6 @@ zeroing-facts E blocks p w e =
       zeroing-inside = omega (arith, i .1);
       zeroing-position = leb-true (w .position) (E .blockWords) (f .1 .0);
       slot-last = eqb-true (p .slot) (E .blockWords) (f .1 .1 .0);
-      passed-few = ltb-true (p .passed) chainMax (f .1 .1 .1 .0);
     }
 
 pub record RunFits (E : Edition) (blocks : ℕ) (w : Write) : Type 0 where
@@ -169,13 +170,13 @@ module _ (E : Edition) (blocks : ℕ) (h : Head) (table : List ℕ) (e : fits E 
   fits-range i = range-facts E (h .write)
       (sym (choose-true (isReading (h .write .phase)) (rangeFits E (h .write)) _ i) ∙ fits-work (reading-busy (h .write .phase) i))
 
-  pub fits-table : tableFits blocks table ≡ true
+  pub fits-table : allBelow blocks table ≡ true
   unfolding fits
   fits-table = every-all _ e .1 .0
 
 -- each entry of a table that fits
-pub table-inside : (blocks : ℕ) (table : List ℕ) → 1 ≤ blocks → tableFits blocks table ≡ true → (v : ℕ) → getD table v 0 < blocks
-unfolding tableFits
+pub table-inside : (blocks : ℕ) (table : List ℕ) → 1 ≤ blocks → allBelow blocks table ≡ true → (v : ℕ) → getD table v 0 < blocks
+unfolding allBelow
 table-inside blocks [] l e v = omega arith
 table-inside blocks (x ∷ xs) l e zero = ltb-true x blocks (and-left (ltb x blocks) (all-of (λ b. ltb b blocks) xs) e)
 table-inside blocks (x ∷ xs) l e (suc v) = table-inside blocks xs l (and-right (ltb x blocks) (all-of (λ b. ltb b blocks) xs) e) v

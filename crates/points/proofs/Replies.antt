@@ -1,4 +1,4 @@
--- A call that goes by its refusal's number replies that number: joining, beginning and leaving. What a beginning leaves of the shared record. And what a
+-- A call that goes by its refusal's number replies that number: joining, beginning and leaving. Nobody joins or leaves by a beginning. And what a
 -- step of a write answers is its plan's. Assumes nothing.
 use mathlib.Core.Path.{_≡_, refl, ap}
 use mathlib.Core.Bool.{false}
@@ -14,7 +14,6 @@ use Rattle.points.specs.declared.Joined.{Joined}
 use Rattle.points.specs.declared.Begun.{Begun}
 use Rattle.points.specs.declared.Left.{Left}
 use Rattle.points.specs.Record.{isReading, unfit}
-use Rattle.points.specs.Search.{withTaken}
 use Rattle.points.specs.Calls.{joining, joinRefusal, beginning, beginRefusal, beginningRead, beginReadRefusal, leaving}
 use Rattle.points.specs.Plan.{Outcome, carriedOut}
 use Rattle.points.specs.Stepping.{planned, stepping}
@@ -43,16 +42,16 @@ module _ (E : Edition) (I : List ℕ) (s : Shared) where
     unfolding beginningRead
     begin-read-replies o size = replies (λ (b : Begun). b .reply) (beginReadRefusal E I s (p .head) (p .table) o size) _ _ refl (λ k. refl)
 
-    -- a write's changes the map alone of the shared record, a read's nothing
-    pub begin-map : (o : ℕ) (text : List ℕ) → withTaken s (beginning E I s p o text .shared .taken) ≡ beginning E I s p o text .shared
+    -- nobody joins or leaves by it
+    pub begin-points : (o : ℕ) (text : List ℕ) → beginning E I s p o text .shared .joined ≡ s .joined
     unfolding beginning
-    begin-map o text =
-        chosen-either (λ (b : Begun). withTaken s (b .shared .taken) ≡ b .shared) (beginRefusal E I s (p .head) (p .table) o (length text)) refl (λ k. refl)
+    begin-points o text =
+        chosen-either (λ (b : Begun). b .shared .joined ≡ s .joined) (beginRefusal E I s (p .head) (p .table) o (length text)) refl (λ k. refl)
 
-    pub begin-read-shared : (o size : ℕ) → beginningRead E I s p o size .shared ≡ s
+    pub begin-read-points : (o size : ℕ) → beginningRead E I s p o size .shared .joined ≡ s .joined
     unfolding beginningRead
-    begin-read-shared o size =
-        chosen-either (λ (b : Begun). b .shared ≡ s) (beginReadRefusal E I s (p .head) (p .table) o size) refl (λ k. refl)
+    begin-read-points o size =
+        chosen-either (λ (b : Begun). b .shared .joined ≡ s .joined) (beginReadRefusal E I s (p .head) (p .table) o size) refl (λ k. refl)
 
     pub step-answers : isReading (p .head .write .phase) ≡ false → stepping E I s p .step ≡ planned E I s p .step
     unfolding carriedOut

@@ -5,7 +5,7 @@ use mathlib.Core.Path.{_≡_, refl, sym, ap, _∙_}
 use mathlib.Core.Bool.{true, false, _&&_}
 use mathlib.Core.List.{List, [], _∷_}
 use borrow.Author.Tests.{lt-ltb, le-ltb, le-leb, lt-leb, eq-eqb, ne-eqb, not-false}
-use Rattle.words.specs.Edition.{Edition, chainMax}
+use Rattle.words.specs.Edition.{Edition, one, chainMax}
 use Rattle.words.specs.Logic.{isZero, first, _when_}
 use Rattle.words.specs.Memory.{Memory, memory, wordAt}
 use Rattle.words.proofs.Logic.{and-both}
@@ -18,16 +18,20 @@ use Rattle.log.specs.CatchUp.{ahead}
 use Rattle.log.specs.Look.{lookaheadOf}
 use Rattle.points.specs.declared.Head.{Head}
 use Rattle.points.specs.declared.Point.{Point}
+use Rattle.points.specs.declared.Numbers.{Numbers}
 use Rattle.points.specs.declared.StepAnswer.the-variants.{Moved}
 use Rattle.points.specs.declared.plan.Reads.the-variants.{AllAhead}
 use Rattle.points.specs.declared.plan.Frees.the-variants.{NoBlock}
+use Rattle.points.specs.declared.plan.Reports.the-variants.{Standing}
 use Rattle.points.specs.Record.{runFirst, runBlocks, firstEdge, lastEdge, runWords, isIdle}
 use Rattle.points.specs.Record.{isZeroing, isReading, isWriting, isJoined, fits, unfit, pointOf}
 use Rattle.points.specs.Fill.{nextWord}
-use Rattle.points.specs.Search.{search}
+use Rattle.points.specs.Search.{sharedOf, search}
 use Rattle.points.specs.Plan.{resting}
 use Rattle.points.specs.Stepping.{refill, refillAfter, refused, commit, giveUp, extend, moveOn}
 use Rattle.points.specs.Stepping.{atEnd, committing, fill, filling, writeOn, stepRefusal, planned}
+use Rattle.points.specs.Lent.{StepsOn}
+use Rattle.points.proofs.Fits.{anyReports, any-known}
 use Rattle.points.proofs.Phases.{is-writing}
 use Rattle.points.proofs.RecordFacts.{SharedFits, PlaceFits, RunFits, ZeroingFits, shared-facts, fits-place}
 use Rattle.points.proofs.RecordFacts.{fits-write, run-facts, write-zeroing-facts, write-position, span-few}
@@ -36,6 +40,11 @@ use Rattle.points.proofs.NotRefused.{step-shared, step-fits, step-joine
 use Rattle.points.proofs.StepCases.{empty, ended, fill-on, commit-on, store-on, end-on, move-on, endReasons, extend-on, give-on, stop-on, go-on}
 
 -- ---- what is known
+
+-- what holds of a step whatever reports are known, holds with some
+pub of-any : (words : List ℕ) (n : Numbers) (taken : List ℕ) (h : Head) (table : List ℕ) → StepsOn words n taken h table
+    → (stepRefusal one words (sharedOf n taken (anyReports n)) h table ≡ 0) × (isReading (h .write .phase) ≡ false)
+of-any words n taken h table on = (on .0 (anyReports n) (any-known n), on .1)
 
 pub record Ready (E : Edition) (words : List ℕ) (s : Shared) (h : Head) (table : List ℕ) : Type 0 where
   pub shared : SharedFits E words s
@@ -137,12 +146,12 @@ module _ (E : Edition) (m : Memory) (s : Shared) (h : Head) where
         let g : ended E m h ≡ false = rw (eq-eqb (h .place .slot) (E .blockWords) slot) (not-zero _ n) in
         move-on E m h s full g
 
-  pub end-full : chainMax ≤ h .place .passed → atEnd E m h s ≡ giveUp E h 20
-  end-full l = give-on E m h s 19 (first-settled 20 _ (21 when isZero (search s 1) ∷ []) (le-leb chainMax (h .place .passed) l))
+  pub end-full : chainMax ≤ s .chain → atEnd E m h s ≡ giveUp E h 20
+  end-full l = give-on E m h s 19 (first-settled 20 _ (21 when isZero (search s 1) ∷ []) (le-leb chainMax (s .chain) l))
 
-  module _ (l : h .place .passed < chainMax) where
+  module _ (l : s .chain < chainMax) where
     end-not-full : first (endReasons E m h s) ≡ first (21 when isZero (search s 1) ∷ [])
-    end-not-full = first-goes-on 20 _ (21 when isZero (search s 1) ∷ []) (lt-leb chainMax (h .place .passed) l)
+    end-not-full = first-goes-on 20 _ (21 when isZero (search s 1) ∷ []) (lt-leb chainMax (s .chain) l)
 
     pub end-none : search s 1 ≡ 0 → atEnd E m h s ≡ giveUp E h 21
     end-none e = give-on E m h s 20 (end-not-full ∙ first-settled 21 _ [] (is-zero (search s 1) e))
@@ -153,7 +162,7 @@ module _ (E : Edition) (m : Memory) (s : Shared) (h : Head) where
 -- ---- moving on, by what the walk saw
 
 module _ (E : Edition) (m : Memory) (h : Head) (blocks : ℕ) (seen : Lookahead)
-    (e : seen ≡ lookaheadOf E blocks (runFirst E (h .write)) (runFirst E (h .write) + runBlocks E (h .write) - 1) (h .place)
+    (e : seen ≡ lookaheadOf E blocks (runFirst E (h .write)) (runFirst E (h .write) + runBlocks E (h .write) - 1)
     (ahead E m blocks (h .place))) where
   pub move-stops : seen .broken ≡ true → moveOn E m h blocks ≡ refused E h 18
   unfolding lookaheadOf
@@ -161,6 +170,6 @@ module _ (E : Edition) (m : Memory) (h : Head) (blocks : ℕ) (seen : Lookahead)
 
   pub move-goes : seen .broken ≡ false → moveOn E m h blocks
       ≡ resting Moved (seen .place)
-      (refill (firstEdge E (h .write) && seen .first) (lastEdge E (h .write) && seen .last) E (h .write)) AllAhead NoBlock 0 false
+      (refill (firstEdge E (h .write) && seen .first) (lastEdge E (h .write) && seen .last) E (h .write)) AllAhead NoBlock 0 false Standing
   unfolding lookaheadOf refillAfter
   move-goes b = go-on E m h blocks (sym (ap (λ (x : Lookahead). x .broken) e) ∙ b) ∙ rw e

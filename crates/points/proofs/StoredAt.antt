@@ -45,7 +45,7 @@ module _ (E : Edition) (words : List ℕ) (s : Shared) (p : Point) where
             fills = λ k _. f .run .run-some;
             commits = λ _. f .place .block-some;
             zeroes = λ z _. ready-zeroing E words s (p .head) (p .table) (e, w) z .zeroing-some;
-            links = λ _. f .place .block-some;
+            links = λ _ _. f .place .block-some;
             gives-back = nothing;
             extends = λ b. nothing;
             gives-up = λ k u. nothing;

@@ -26,13 +26,17 @@ begin-lent-requires c κs = search needs
 with-taken-requires : tie.Need-with-taken-requires
 with-taken-requires c κs = search needs
 
+begun-requires : tie.Need-begun-requires
+begun-requires c κs = search needs
+
 returns : tie.Need-returns
 returns c =
-    let b = begun c in
+    let t = c .before in
+    let b = begun t in
     let n = numbered (copied (lent b)) in
     let a = n .before .before .before .args in
-    whole-begin (a .image .now) (a .shared) (a .point) (a .offset) (a .text .now) (n .numbers .result) (b .begin-lent .result) _ _ _ (c .with-taken .result)
-    (n .numbers .ensures) (c .with-taken .ensures) (b .begin-lent .ensures)
+    whole-begin (a .image .now) (a .shared) (a .point) (a .offset) (a .text .now) (n .numbers .result) (b .begin-lent .result) _ _ _ (c .begun .result)
+    (n .numbers .ensures) (rw (t .with-taken .ensures) at (c .begun .ensures)) (b .begin-lent .ensures)
 
 pub begin-spec : {M : Type 1} → statement M
-begin-spec = tie.close (tie.spec numbers-requires begin-lent-requires with-taken-requires returns)
+begin-spec = tie.close (tie.spec numbers-requires begin-lent-requires with-taken-requires begun-requires returns)

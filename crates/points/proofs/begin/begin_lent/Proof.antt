@@ -1,11 +1,14 @@
 -- `points::begin::begin_lent` meets its contract: one law for the refusal, one for the beginning; what has passed the reasons gives every bound.
 -- Assumes nothing.
 use native.Mathlib.Omega.{arith}
+use Prim.Native.Nat.{ℕ}
+use mathlib.Core.List.{List}
 use mathlib.Core.Path.{sym, ap, _∙_}
 use borrow.Author.Needs.{needs}
 use Rattle.words.specs.Edition.{one}
 use Rattle.points.specs.Record.{pointOf}
-use Rattle.points.specs.Search.{sharedOf}
+use Rattle.points.specs.Search.{sharedOf, Known, reportingPlace}
+use Rattle.points.proofs.Fits.{anyReports, any-known}
 use Rattle.points.proofs.Begins.{Ready, ready, begin-refused, begin-done}
 use Rattle.points.proofs.begin.begin_lent.Statement.{statement}
 use Rattle.points.proofs.begin.begin_lent.Tie as tie
@@ -27,35 +30,35 @@ abbrev start : tie.After-settle-write → tie.Start
 start c = c .before .before .before .before .before
 
 passed :
-    (c : tie.Else1) → let a = start (settled c) .args in
-    Ready one (a .image .now) (sharedOf (a .numbers) (a .taken .now)) (pointOf (a .head) (a .table .now) (a .text .now)) (a .offset) (a .bytes .now)
-passed c =
+    (c : tie.Else1) → let a = start (settled c) .args in (reports : List ℕ) → Known (a .numbers) reports
+    → Ready one (a .image .now) (sharedOf (a .numbers) (a .taken .now) reports) (pointOf (a .head) (a .table .now) (a .text .now)) (a .offset) (a .bytes .now)
+passed c reports known =
     let a = start (settled c) .args in
     let q = settled c .settle-write in
-    ready one (a .image .now) (sharedOf (a .numbers) (a .taken .now)) (pointOf (a .head) (a .table .now) (a .text .now)) (a .offset) (a .bytes .now)
-    (sym (q .ensures .refusal) ∙ c .if1 .left)
+    ready one (a .image .now) (sharedOf (a .numbers) (a .taken .now) reports) (pointOf (a .head) (a .table .now) (a .text .now)) (a .offset) (a .bytes .now)
+    (sym (q .ensures reports known .refusal) ∙ c .if1 .left)
 
 settle-write-requires : tie.Need-settle-write-requires
 settle-write-requires c κs = search needs
 
 returns : tie.Need-returns
-returns c =
+returns c reports known =
     let q = c .before .before in
     let a = start q .args in
-    begin-refused one (a .image .now) (sharedOf (a .numbers) (a .taken .now)) (pointOf (a .head) (a .table .now) (a .text .now)) (a .offset) (a .bytes .now)
-    (q .settle-write .result .reason) (q .settle-write .ensures .refusal) (c .if1 .taken)
+    begin-refused one (a .image .now) (sharedOf (a .numbers) (a .taken .now) reports) (pointOf (a .head) (a .table .now) (a .text .now)) (a .offset) (a .bytes .now)
+    (q .settle-write .result .reason) (q .settle-write .ensures reports known .refusal) (c .if1 .taken)
 
 catch-up-requires : tie.Need-catch-up-requires
 catch-up-requires c κs = search needs
 
 put-text-requires : tie.Need-put-text-requires
-put-text-requires c κs = passed (c .before .before .before) .fits .few-text
+put-text-requires c κs = passed (c .before .before .before) (anyReports _) (any-known _) .fits .few-text
 
 cast-at : tie.Need-cast-at
-cast-at c = let r = passed (c .before .before .before .before) in record { fits = omega (arith, r .fits .ends-inside) }
+cast-at c = let r = passed (c .before .before .before .before) (anyReports _) (any-known _) in record { fits = omega (arith, r .fits .ends-inside) }
 
 cast-size : tie.Need-cast-size
-cast-size c = let r = passed (c .before .before .before .before) in record { fits = omega (arith, r .fits .few-text) }
+cast-size c = let r = passed (c .before .before .before .before) (anyReports _) (any-known _) in record { fits = omega (arith, r .fits .few-text) }
 
 span-requires : tie.Need-span-requires
 span-requires c κs = search needs
@@ -76,18 +79,18 @@ head-of-requires : tie.Need-head-of-requires
 head-of-requires c κs = search needs
 
 returns-2 : tie.Need-returns-2
-returns-2 c =
+returns-2 c reports known =
     let taken = c .before .before in
     let s = spanned taken in
     let e = not-refused (caught s) in
     let q = settled e .settle-write in
     let z = e .if1 .left in
-    let r = passed e in
+    let r = passed e reports known in
     let a = start (settled e) .args in
-    begin-done one (a .image .now) (sharedOf (a .numbers) (a .taken .now)) (pointOf (a .head) (a .table .now) (a .text .now)) (a .offset) (a .bytes .now) r
-    _ _ _ _ _ _ _ _ (q .ensures .tail z) (q .ensures .found z) (caught s .catch-up .ensures (r .few) (r .sound))
+    begin-done one (a .image .now) (sharedOf (a .numbers) (a .taken .now) reports) (pointOf (a .head) (a .table .now) (a .text .now)) (a .offset) (a .bytes .now) r
+    _ _ _ _ _ _ _ _ (q .ensures reports known .tail z) (q .ensures reports known .found z) (caught s .catch-up .ensures (r .few) (r .sound))
     (s .before .put-text .ensures) (rw (c .before .new-write .ensures) at (c .head-of .ensures))
-    (s .span .ensures) (ap (sharedOf (a .numbers)) (taken .take-run .ensures))
+    (s .span .ensures) (ap (λ (map : List ℕ). reportingPlace (c .head-of .result) (sharedOf (a .numbers) map reports)) (taken .take-run .ensures))
 
 pub begin-lent-spec : {M : Type 1} → statement M
 begin-lent-spec =

@@ -12,7 +12,7 @@ use Rattle.log.specs.declared.Lookahead.{Lookahead}
 use Rattle.log.specs.CatchUp.{ahead, broken}
 use Rattle.log.specs.Look.{lookaheadOf}
 use Rattle.points.specs.Record.{isIdle, badText, pastEnd, unfit}
-use Rattle.points.specs.Search.{sharedOf}
+use Rattle.points.specs.Search.{sharedOf, Known}
 use Rattle.points.proofs.Begins.{settled-refused, begin-unfit, begin-15, begin-16, begin-17, begin-18, begin-0}
 use Rattle.points.proofs.begin.settle.Statement.{statement}
 use Rattle.points.proofs.begin.settle.Tie as tie
@@ -33,8 +33,9 @@ sized c = c .before .before
 abbrev inside : tie.Else5 → tie.Else4
 inside c = c .before .before
 
-not-14 : (c : tie.Else1) → let a = start c .args in (taken : List ℕ) → unfit one (a .image .now) (sharedOf (a .numbers) taken) (a .head) (a .table .now) ≡ 0
-not-14 c taken = sym (c .before .unfit-numbers .ensures taken) ∙ c .if1 .left
+not-14 : (c : tie.Else1) → let a = start c .args in (taken reports : List ℕ) → Known (a .numbers) reports
+    → unfit one (a .image .now) (sharedOf (a .numbers) taken reports) (a .head) (a .table .now) ≡ 0
+not-14 c taken reports known = sym (c .before .unfit-numbers .ensures taken reports known) ∙ c .if1 .left
 
 not-15 : (c : tie.Else2) → isIdle (start (fit c) .args .head .write .phase) ≡ true
 not-15 c = sym (c .before .is-idle .ensures) ∙ not-false _ (c .if2 .left)
@@ -62,8 +63,8 @@ returns c =
     let a = c .before .before .before .before .args in
     let u = c .before .before .unfit-numbers in
     settled-refused (a .image .now) (a .numbers) (a .head) (a .table .now) (a .offset) (a .size) _ (u .result) _ (c .refused .ensures) (c .before .if1 .taken)
-    (λ taken. begin-unfit one (a .image .now) (sharedOf (a .numbers) taken) (a .head) (a .table .now) (a .offset) (a .size)
-    (u .result) (u .ensures taken) (c .before .if1 .taken))
+    (λ taken reports known. begin-unfit one (a .image .now) (sharedOf (a .numbers) taken reports) (a .head) (a .table .now) (a .offset) (a .size)
+    (u .result) (u .ensures taken reports known) (c .before .if1 .taken))
 
 is-idle-requires : tie.Need-is-idle-requires
 is-idle-requires c κs = search needs
@@ -76,7 +77,7 @@ returns-2 c =
     let e = c .before .before .before .before in
     let a = start e .args in
     settled-refused (a .image .now) (a .numbers) (a .head) (a .table .now) (a .offset) (a .size) _ 15 _ (c .refused2 .ensures) (λ z. omega arith)
-    (λ taken. begin-15 one (a .image .now) (sharedOf (a .numbers) taken) (a .head) (a .table .now) (a .offset) (a .size) (not-14 e taken)
+    (λ taken reports known. begin-15 one (a .image .now) (sharedOf (a .numbers) taken reports) (a .head) (a .table .now) (a .offset) (a .size) (not-14 e taken reports known)
     (sym (c .before .before .is-idle .ensures) ∙ not-true _ (c .before .if2 .taken)))
 
 bad-text-requires : tie.Need-bad-text-requires
@@ -90,8 +91,8 @@ returns-3 c =
     let e = c .before .before .before in
     let a = start (fit e) .args in
     settled-refused (a .image .now) (a .numbers) (a .head) (a .table .now) (a .offset) (a .size) _ 16 _ (c .refused3 .ensures) (λ z. omega arith)
-    (λ taken. begin-16 one (a .image .now) (sharedOf (a .numbers) taken) (a .head) (a .table .now) (a .offset) (a .size)
-    (not-14 (fit e) taken) (not-15 e)
+    (λ taken reports known. begin-16 one (a .image .now) (sharedOf (a .numbers) taken reports) (a .head) (a .table .now) (a .offset) (a .size)
+    (not-14 (fit e) taken reports known) (not-15 e)
     (sym (c .before .before .bad-text .ensures) ∙ c .before .if3 .taken))
 
 past-end-requires : tie.Need-past-end-requires
@@ -105,8 +106,8 @@ returns-4 c =
     let e = c .before .before .before in
     let a = start (fit (idle e)) .args in
     settled-refused (a .image .now) (a .numbers) (a .head) (a .table .now) (a .offset) (a .size) _ 17 _ (c .refused4 .ensures) (λ z. omega arith)
-    (λ taken. begin-17 one (a .image .now) (sharedOf (a .numbers) taken) (a .head) (a .table .now) (a .offset) (a .size)
-    (not-14 (fit (idle e)) taken) (not-15 (idle e)) (not-16 e)
+    (λ taken reports known. begin-17 one (a .image .now) (sharedOf (a .numbers) taken reports) (a .head) (a .table .now) (a .offset) (a .size)
+    (not-14 (fit (idle e)) taken reports known) (not-15 (idle e)) (not-16 e)
     (sym (c .before .before .past-end .ensures) ∙ c .before .if4 .taken))
 
 look-requires : tie.Need-look-requires
@@ -121,8 +122,8 @@ returns-5 c =
     let e = c .before .before .before in
     let a = start (fit (idle (sized e))) .args in
     settled-refused (a .image .now) (a .numbers) (a .head) (a .table .now) (a .offset) (a .size) _ 18 _ (c .refused5 .ensures) (λ z. omega arith)
-    (λ taken. begin-18 one (a .image .now) (sharedOf (a .numbers) taken) (a .head) (a .table .now) (a .offset) (a .size)
-    (not-14 (fit (idle (sized e))) taken) (not-15 (idle (sized e))) (not-16 (sized e)) (not-17 e)
+    (λ taken reports known. begin-18 one (a .image .now) (sharedOf (a .numbers) taken reports) (a .head) (a .table .now) (a .offset) (a .size)
+    (not-14 (fit (idle (sized e))) taken reports known) (not-15 (idle (sized e))) (not-16 (sized e)) (not-17 e)
     (ap (λ (k : Lookahead). k .broken) (sym (c .before .before .look .ensures)) ∙ c .before .if5 .taken))
 
 returns-6 : tie.Need-returns-6
@@ -132,9 +133,9 @@ returns-6 c =
     let e = inside last in
     let a = start (fit (idle (sized e))) .args in
     record {
-      refusal = λ taken.
-          begin-0 one (a .image .now) (sharedOf (a .numbers) taken) (a .head) (a .table .now) (a .offset) (a .size)
-          (not-14 (fit (idle (sized e))) taken) (not-15 (idle (sized e))) (not-16 (sized e)) (not-17 e) (not-18 last);
+      refusal = λ taken reports known.
+          begin-0 one (a .image .now) (sharedOf (a .numbers) taken reports) (a .head) (a .table .now) (a .offset) (a .size)
+          (not-14 (fit (idle (sized e))) taken reports known) (not-15 (idle (sized e))) (not-16 (sized e)) (not-17 e) (not-18 last);
       tail = λ z. ap (λ (k : Lookahead). k .place) (last .before .look .ensures);
     }
 

@@ -7,7 +7,8 @@ use Prim.Native.Nat.{ℕ}
 use mathlib.Core.List.{List}
 use lib.ListN.{getD}
 use Rattle.points.specs.Search.{sharedOf}
-use Rattle.points.proofs.StepFacts.{ready, run-below, slot-empty, slot-taken, chain-ends, chain-goes-on}
+use Rattle.points.proofs.Fits.{anyReports}
+use Rattle.points.proofs.StepFacts.{of-any, ready, run-below, slot-empty, slot-taken, chain-ends, chain-goes-on}
 use Rattle.points.proofs.Leaves.{joined-small}
 use borrow.Author.Needs.{needs}
 use Rattle.points.proofs.commit.committing.Statement.{statement}
@@ -34,13 +35,15 @@ commit-requires c κs =
     let entered = start (c .before .before .before) in
     let if1 = c .before .before .if1 in
     let a = entered .args in
-    let f = ready one (a .image .now) (sharedOf (a .numbers) (a .taken .now)) (a .head) (a .table .now) (entered .pre) in
+    let some = anyReports (a .numbers) in
+    let f = ready one (a .image .now) (sharedOf (a .numbers) (a .taken .now) some) (a .head) (a .table .now)
+    (of-any (a .image .now) _ _ _ _ (entered .pre)) in
     let r = f .run in
     let t = r .text in
     (((t .some-text, t .few-text, t .ends-inside), run-below f, joined-small (a .numbers .joined) (a .head .number) (omega arith) (f .joined)), if1 .taken)
 
 returns : tie.Need-returns
-returns c =
+returns c reports =
     let read = c .before .before .before .before in
     let block = read .block in
     let if1 = c .before .before .before .if1 in
@@ -48,14 +51,14 @@ returns c =
     let a = start read .args in
     let m = memory one (a .image .now) in
     c .commit .ensures ∙ sym
-    (slot-empty one m (sharedOf (a .numbers) (a .taken .now)) (a .head) (if1 .taken)
+    (slot-empty one m (sharedOf (a .numbers) (a .taken .now) reports) (a .head) (if1 .taken)
     (sym (word .ensures ∙ ap (λ (part : List ℕ). getD part (a .head .place .slot) 0) (block .ensures)) ∙ c .before .if2 .taken))
 
 move-on-requires : tie.Need-move-on-requires
 move-on-requires c κs = search needs
 
 returns-2 : tie.Need-returns-2
-returns-2 c =
+returns-2 c reports =
     let read = c .before .before .before .before in
     let block = read .block in
     let if1 = c .before .before .before .if1 in
@@ -63,7 +66,7 @@ returns-2 c =
     let a = start read .args in
     let m = memory one (a .image .now) in
     c .move-on .ensures ∙ sym
-    (slot-taken one m (sharedOf (a .numbers) (a .taken .now)) (a .head) (if1 .taken)
+    (slot-taken one m (sharedOf (a .numbers) (a .taken .now) reports) (a .head) (if1 .taken)
     (λ e. c .before .if2 .left (word .ensures ∙ ap (λ (part : List ℕ). getD part (a .head .place .slot) 0) (block .ensures) ∙ e)))
 
 word-requires-2 : tie.Need-word-requires-2
@@ -73,7 +76,7 @@ at-end-requires : tie.Need-at-end-requires
 at-end-requires c κs = search needs
 
 returns-3 : tie.Need-returns-3
-returns-3 c =
+returns-3 c reports =
     let read = c .before .before .before .before in
     let block = read .block in
     let if1 = c .before .before .before .if1 in
@@ -81,16 +84,18 @@ returns-3 c =
     let entered = start read in
     let a = entered .args in
     let m = memory one (a .image .now) in
-    let f = ready one (a .image .now) (sharedOf (a .numbers) (a .taken .now)) (a .head) (a .table .now) (entered .pre) in
-    c .at-end .ensures m ∙ sym
-    (chain-ends one m (sharedOf (a .numbers) (a .taken .now)) (a .head) (omega (arith, if1 .left, f .place .slot-high))
+    let some = anyReports (a .numbers) in
+    let f = ready one (a .image .now) (sharedOf (a .numbers) (a .taken .now) some) (a .head) (a .table .now)
+    (of-any (a .image .now) _ _ _ _ (entered .pre)) in
+    c .at-end .ensures m reports ∙ sym
+    (chain-ends one m (sharedOf (a .numbers) (a .taken .now) reports) (a .head) (omega (arith, if1 .left, f .place .slot-high))
     (sym (word2 .ensures ∙ ap (λ (part : List ℕ). getD part 0 0) (block .ensures)) ∙ c .before .if3 .taken))
 
 move-on-requires-2 : tie.Need-move-on-requires-2
 move-on-requires-2 c κs = search needs
 
 returns-4 : tie.Need-returns-4
-returns-4 c =
+returns-4 c reports =
     let read = c .before .before .before .before in
     let block = read .block in
     let if1 = c .before .before .before .if1 in
@@ -98,9 +103,11 @@ returns-4 c =
     let entered = start read in
     let a = entered .args in
     let m = memory one (a .image .now) in
-    let f = ready one (a .image .now) (sharedOf (a .numbers) (a .taken .now)) (a .head) (a .table .now) (entered .pre) in
+    let some = anyReports (a .numbers) in
+    let f = ready one (a .image .now) (sharedOf (a .numbers) (a .taken .now) some) (a .head) (a .table .now)
+    (of-any (a .image .now) _ _ _ _ (entered .pre)) in
     c .move-on2 .ensures ∙ sym
-    (chain-goes-on one m (sharedOf (a .numbers) (a .taken .now)) (a .head) (omega (arith, if1 .left, f .place .slot-high))
+    (chain-goes-on one m (sharedOf (a .numbers) (a .taken .now) reports) (a .head) (omega (arith, if1 .left, f .place .slot-high))
     (λ e. c .before .if3 .left (word2 .ensures ∙ ap (λ (part : List ℕ). getD part 0 0) (block .ensures) ∙ e)))
 
 pub committing-spec : {M : Type 1} → statement M

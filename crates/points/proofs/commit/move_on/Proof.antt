@@ -10,6 +10,7 @@ use Rattle.points.specs.declared.Write.{Write}
 use Rattle.points.specs.declared.StepAnswer.the-variants.{Moved}
 use Rattle.points.specs.declared.plan.Reads.the-variants.{AllAhead}
 use Rattle.points.specs.declared.plan.Frees.the-variants.{NoBlock}
+use Rattle.points.specs.declared.plan.Reports.the-variants.{Standing}
 use Rattle.points.specs.Record.{runFirst, runBlocks, firstEdge, lastEdge}
 use Rattle.points.specs.Plan.{resting}
 use Rattle.points.specs.Stepping.{refill}
@@ -38,7 +39,7 @@ start c = c .before .before .before .before .before
 seen : (c : tie.After-look) → let a = start c .args in
     let w = a .head .write in
     c .look .result
-    ≡ lookaheadOf one (a .blocks) (runFirst one w) (runFirst one w + runBlocks one w - 1) (a .head .place)
+    ≡ lookaheadOf one (a .blocks) (runFirst one w) (runFirst one w + runBlocks one w - 1)
     (ahead one (memory one (a .image .now)) (a .blocks) (a .head .place))
 seen c = rw (c .before .before .run-first .ensures, c .before .span .ensures) at (c .look .ensures)
 
@@ -100,7 +101,7 @@ returns-2 c =
     let walk = looked first in
     let a = start walk .args in
     c .resting .ensures
-    ∙ ap (λ (w : Write). resting Moved (walk .look .result .place) w AllAhead NoBlock 0 false) (later fill)
+    ∙ ap (λ (w : Write). resting Moved (walk .look .result .place) w AllAhead NoBlock 0 false Standing) (later fill)
     ∙ sym (move-goes one (memory one (a .image .now)) (a .head) (a .blocks) (walk .look .result) (seen walk) (first .before .if1 .left))
 
 pub move-on-spec : {M : Type 1} → statement M

@@ -30,9 +30,9 @@ returns : tie.Need-returns
 returns c =
     let u = c .before .before .unfit-numbers in
     let a = c .before .before .before .before .args in
-    λ taken.
+    λ taken reports known.
     refused-as _ _ _ (c .settled .ensures)
-    (catch-up-unfit one (a .image .now) (sharedOf (a .numbers) taken) (a .head) (a .table .now) (a .past) (u .result) (u .ensures taken)
+    (catch-up-unfit one (a .image .now) (sharedOf (a .numbers) taken reports) (a .head) (a .table .now) (a .past) (u .result) (u .ensures taken reports known)
     (c .before .if1 .taken))
 
 settled-requires-2 : tie.Need-settled-requires-2
@@ -42,10 +42,10 @@ returns-2 : tie.Need-returns-2
 returns-2 c =
     let e = c .before .before in
     let a = start e .args in
-    λ taken.
+    λ taken reports known.
     refused-as _ 17 _ (c .settled2 .ensures)
-    (catch-up-past one (a .image .now) (sharedOf (a .numbers) taken) (a .head) (a .table .now) (a .past)
-    (sym (e .before .unfit-numbers .ensures taken) ∙ e .if1 .left) (c .before .if2 .taken))
+    (catch-up-past one (a .image .now) (sharedOf (a .numbers) taken reports) (a .head) (a .table .now) (a .past)
+    (sym (e .before .unfit-numbers .ensures taken reports known) ∙ e .if1 .left) (c .before .if2 .taken))
 
 at-tail-requires : tie.Need-at-tail-requires
 at-tail-requires c κs = search needs
@@ -56,11 +56,11 @@ returns-3 c =
     let a = start e .args in
     let inside = c .before .before .before .if2 .left in
     let tail = sym (c .before .at-tail .ensures) ∙ c .if3 .taken in
-    λ taken.
-    let fit = sym (e .before .unfit-numbers .ensures taken) ∙ e .if1 .left in
+    λ taken reports known.
+    let fit = sym (e .before .unfit-numbers .ensures taken reports known) ∙ e .if1 .left in
     record {
-      refusal = tail-clear one (a .image .now) (sharedOf (a .numbers) taken) (a .head) (a .table .now) (a .past) fit inside tail;
-      file = λ _. tail-file one (a .image .now) (sharedOf (a .numbers) taken) (a .head) (a .table .now) (a .past) fit inside tail;
+      refusal = tail-clear one (a .image .now) (sharedOf (a .numbers) taken reports) (a .head) (a .table .now) (a .past) fit inside tail;
+      file = λ _. tail-file one (a .image .now) (sharedOf (a .numbers) taken reports) (a .head) (a .table .now) (a .past) fit inside tail;
     }
 
 look-requires : tie.Need-look-requires
@@ -75,11 +75,11 @@ returns-4 c =
     let e = fitting (placed looked) in
     let a = start e .args in
     let walk = ahead one (memory one (a .image .now)) (a .numbers .blocks) (a .head .place) in
-    let seen = look-broken one _ (a .numbers .blocks) 0 0 (a .head .place) walk (looked .look .ensures) in
-    λ taken.
+    let seen = look-broken one _ (a .numbers .blocks) 0 0 walk (looked .look .ensures) in
+    λ taken reports known.
     refused-as _ 18 _ (c .settled3 .ensures)
-    (catch-up-broken one (a .image .now) (sharedOf (a .numbers) taken) (a .head) (a .table .now) (a .past)
-    (sym (e .before .unfit-numbers .ensures taken) ∙ e .if1 .left) (placed looked .before .before .if2 .left) (sym seen ∙ c .before .if4 .taken))
+    (catch-up-broken one (a .image .now) (sharedOf (a .numbers) taken reports) (a .head) (a .table .now) (a .past)
+    (sym (e .before .unfit-numbers .ensures taken reports known) ∙ e .if1 .left) (placed looked .before .before .if2 .left) (sym seen ∙ c .before .if4 .taken))
 
 settled-requires-4 : tie.Need-settled-requires-4
 settled-requires-4 c κs = search needs
@@ -90,11 +90,11 @@ returns-5 c =
     let e = fitting (placed looked) in
     let a = start e .args in
     let walk = ahead one (memory one (a .image .now)) (a .numbers .blocks) (a .head .place) in
-    let seen = look-broken one _ (a .numbers .blocks) 0 0 (a .head .place) walk (looked .look .ensures) in
-    λ taken.
+    let seen = look-broken one _ (a .numbers .blocks) 0 0 walk (looked .look .ensures) in
+    λ taken reports known.
     refused-as _ 0 _ (c .settled4 .ensures)
-    (catch-up-clear one (a .image .now) (sharedOf (a .numbers) taken) (a .head) (a .table .now) (a .past)
-    (sym (e .before .unfit-numbers .ensures taken) ∙ e .if1 .left) (placed looked .before .before .if2 .left) (sym seen ∙ c .before .if4 .left))
+    (catch-up-clear one (a .image .now) (sharedOf (a .numbers) taken reports) (a .head) (a .table .now) (a .past)
+    (sym (e .before .unfit-numbers .ensures taken reports known) ∙ e .if1 .left) (placed looked .before .before .if2 .left) (sym seen ∙ c .before .if4 .left))
 
 pub settle-spec : {M : Type 1} → statement M
 settle-spec =

@@ -4,7 +4,7 @@ use Rattle.words.specs.Edition.{one}
 use Rattle.words.specs.Memory.{memory}
 use borrow.Author.Tests.{lt-ltb, le-ltb}
 use Rattle.words.proofs.Tests.{is-zero, not-zero}
-use Rattle.points.proofs.StepCases.{zero-on, link-on, lost-on}
+use Rattle.points.proofs.StepCases.{zero-on, last-on, lost-on}
 use borrow.Author.Needs.{needs}
 use Rattle.points.proofs.extend.extending.Statement.{statement}
 use Rattle.points.proofs.extend.extending.Tie as tie
@@ -22,7 +22,7 @@ zero-out-requires c κs = search needs
 returns : tie.Need-returns
 returns c = let a = c .before .before .before .before .args in
     let m = memory one (a .image .now) in
-    c .zero-out .ensures ∙ sym (zero-on one m (a .head) (lt-ltb _ _ (c .before .if1 .taken)))
+    c .zero-out .ensures ∙ sym (zero-on one m (a .head) (a .chain) (lt-ltb _ _ (c .before .if1 .taken)))
 
 cast-next-index : tie.Need-cast-next-index
 cast-next-index c = search needs
@@ -30,8 +30,8 @@ cast-next-index c = search needs
 next-index-requires : tie.Need-next-index-requires
 next-index-requires c κs = search needs
 
-link-requires : tie.Need-link-requires
-link-requires c κs = search needs
+linking-requires : tie.Need-linking-requires
+linking-requires c κs = search needs
 
 returns-2 : tie.Need-returns-2
 returns-2 c =
@@ -39,7 +39,7 @@ returns-2 c =
     let z = zeroed next in
     let a = start z .args in
     let m = memory one (a .image .now) in
-    c .link .ensures ∙ sym (link-on one m (a .head) (le-ltb _ _ (z .if1 .left)) (is-zero _ (sym (next .next-index .ensures) ∙ c .before .if2 .taken)))
+    c .linking .ensures m ∙ sym (last-on one m (a .head) (a .chain) (le-ltb _ _ (z .if1 .left)) (is-zero _ (sym (next .next-index .ensures) ∙ c .before .if2 .taken)))
 
 give-back-requires : tie.Need-give-back-requires
 give-back-requires c κs = search needs
@@ -51,7 +51,7 @@ returns-3 c =
     let a = start z .args in
     let m = memory one (a .image .now) in
     c .give-back .ensures
-    ∙ sym (lost-on one m (a .head) (le-ltb _ _ (z .if1 .left)) (not-zero _ (λ e. c .before .if2 .left (next .next-index .ensures ∙ e))))
+    ∙ sym (lost-on one m (a .head) (a .chain) (le-ltb _ _ (z .if1 .left)) (not-zero _ (λ e. c .before .if2 .left (next .next-index .ensures ∙ e))))
 
 pub extending-spec : {M : Type 1} → statement M
 extending-spec =
@@ -61,7 +61,7 @@ extending-spec =
     returns
     cast-next-index
     next-index-requires
-    link-requires
+    linking-requires
     returns-2
     give-back-requires
     returns-3)

@@ -41,15 +41,19 @@ with-point-requires c κs = let a = c .before .before .before .before .args in j
 with-joined-requires : tie.Need-with-joined-requires
 with-joined-requires c κs = search needs
 
+reporting-requires : tie.Need-reporting-requires
+reporting-requires c κs = search needs
+
 idle-at-requires-2 : tie.Need-idle-at-requires-2
 idle-at-requires-2 c κs = search needs
 
 returns-2 : tie.Need-returns-2
 returns-2 c =
-    let e = c .before .before .before .before in
+    let j = c .before .before in
+    let e = j .before .before .before in
     let a = start e .args in
-    join-done one (a .image .now) (a .shared) (a .number) (none e) _ _ _ _ (c .before .before .with-point .ensures)
-    (c .before .with-joined .ensures) (c .before .before .before .first-index .ensures) (c .idle-at2 .ensures)
+    join-done one (a .image .now) (a .shared) (a .number) (none e) _ _ _ _ _ (j .before .with-point .ensures)
+    (j .with-joined .ensures) (j .before .before .first-index .ensures) (c .before .reporting .ensures) (c .idle-at2 .ensures)
 
 pub join-spec : {M : Type 1} → statement M
 join-spec =
@@ -62,5 +66,6 @@ join-spec =
     cast-first
     with-point-requires
     with-joined-requires
+    reporting-requires
     idle-at-requires-2
     returns-2)

@@ -46,13 +46,17 @@ without-point-requires c κs =
 with-joined-requires : tie.Need-with-joined-requires
 with-joined-requires c κs = search needs
 
+reporting-requires : tie.Need-reporting-requires
+reporting-requires c κs = search needs
+
 returns-2 : tie.Need-returns-2
 returns-2 c =
-    let freed = c .before .before in
+    let j = c .before in
+    let freed = j .before .before in
     let a = start (fit freed) .args in
     λ text. leave-done one (a .image .now) (a .shared) (pointOf (a .head) (a .table .now) text)
-    (none (fit freed)) _ _ _ _ (freed .before .before .free-held .ensures) (freed .with-taken .ensures)
-    (c .before .without-point .ensures) (c .with-joined .ensures)
+    (none (fit freed)) _ _ _ _ _ (freed .before .before .free-held .ensures) (freed .with-taken .ensures)
+    (j .before .without-point .ensures) (j .with-joined .ensures) (c .reporting .ensures)
 
 pub leave-lent-spec : {M : Type 1} → statement M
 leave-lent-spec =
@@ -65,4 +69,5 @@ leave-lent-spec =
     with-taken-requires
     without-point-requires
     with-joined-requires
+    reporting-requires
     returns-2)

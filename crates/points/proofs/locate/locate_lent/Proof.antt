@@ -5,6 +5,7 @@ use lib.Dec.{leb}
 use Rattle.words.specs.Edition.{one}
 use Rattle.points.specs.Record.{fileAt}
 use Rattle.points.specs.Search.{sharedOf}
+use Rattle.points.proofs.Fits.{anyReports, any-known}
 use Rattle.points.proofs.CaughtUp.{caught-file}
 use Rattle.points.proofs.ReadAnswers.{locate-early, locate-inside, locate-index}
 use borrow.Author.Needs.{needs}
@@ -34,16 +35,16 @@ returns : tie.Need-returns
 returns c =
     let asked = c .before .before .before in
     let a = start asked .args in
-    λ taken.
+    λ taken reports known.
     c .refused .ensures
-    ∙ locate-early one (a .image .now) (sharedOf (a .numbers) taken) (a .head) (a .table .now) (a .v) _ (asked .settle .ensures taken .refusal)
+    ∙ locate-early one (a .image .now) (sharedOf (a .numbers) taken reports) (a .head) (a .table .now) (a .v) _ (asked .settle .ensures taken reports known .refusal)
     (c .before .if1 .taken)
 
 find-requires : tie.Need-find-requires
 find-requires c κs =
     let asked = settled (c .before) in
     let a = start asked .args in
-    locate-inside one (a .image .now) (sharedOf (a .numbers) []) (a .head) (a .table .now) (a .v) _ (asked .settle .ensures [] .refusal)
+    locate-inside one (a .image .now) (sharedOf (a .numbers) [] (anyReports (a .numbers))) (a .head) (a .table .now) (a .v) _ (asked .settle .ensures [] (anyReports _) (any-known _) .refusal)
     (c .before .if1 .left)
 
 returns-2 : tie.Need-returns-2
@@ -51,10 +52,10 @@ returns-2 c =
     let e = c .before .before in
     let asked = settled e in
     let a = start asked .args in
-    λ taken.
-    let now = asked .settle .ensures taken in
+    λ taken reports known.
+    let now = asked .settle .ensures taken reports known in
     c .find .ensures
-    ∙ locate-index one (a .image .now) (sharedOf (a .numbers) taken) (a .head) (a .table .now) (a .v) _ (now .refusal) (e .if1 .left)
+    ∙ locate-index one (a .image .now) (sharedOf (a .numbers) taken reports) (a .head) (a .table .now) (a .v) _ (now .refusal) (e .if1 .left)
     (fileAt (a .head) (a .table .now)) (now .file (c .before .if2 .taken))
 
 catch-up-requires : tie.Need-catch-up-requires
@@ -65,7 +66,7 @@ find-requires-2 c κs =
     let e = not-refused (caught c) in
     let asked = settled e in
     let a = start asked .args in
-    locate-inside one (a .image .now) (sharedOf (a .numbers) []) (a .head) (a .table .now) (a .v) _ (asked .settle .ensures [] .refusal) (e .if1 .left)
+    locate-inside one (a .image .now) (sharedOf (a .numbers) [] (anyReports (a .numbers))) (a .head) (a .table .now) (a .v) _ (asked .settle .ensures [] (anyReports _) (any-known _) .refusal) (e .if1 .left)
 
 returns-3 : tie.Need-returns-3
 returns-3 c =
@@ -73,9 +74,9 @@ returns-3 c =
     let e = not-refused up in
     let asked = settled e in
     let a = start asked .args in
-    λ taken.
-    let s = sharedOf (a .numbers) taken in
-    let r = asked .settle .ensures taken .refusal in
+    λ taken reports known.
+    let s = sharedOf (a .numbers) taken reports in
+    let r = asked .settle .ensures taken reports known .refusal in
     c .find2 .ensures
     ∙ locate-index one (a .image .now) s (a .head) (a .table .now) (a .v) _ r (e .if1 .left) _
     (caught-file one (a .image .now) s (a .head) (a .table .now) (leb 256 (a .v)) (sym r ∙ e .if1 .left) _ (up .catch-up .ensures))

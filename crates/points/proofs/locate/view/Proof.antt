@@ -6,6 +6,7 @@ use Rattle.log.specs.declared.Shared.{Shared}
 use Rattle.points.specs.declared.Count.{Count}
 use Rattle.points.specs.Reading.{locating}
 use Rattle.points.specs.Lent.{partOf}
+use Rattle.points.proofs.Fits.{of-known}
 use Rattle.points.proofs.ReadAnswers.{of-numbers, view-part}
 use borrow.Author.Needs.{needs}
 use Rattle.points.proofs.locate.view.Statement.{statement}
@@ -36,7 +37,7 @@ returns c =
     let found = c .before .before in
     let n = numbered found in
     let a = start n .args in
-    let located = found .locate-lent .ensures (a .shared .taken)
+    let located = found .locate-lent .ensures (a .shared .taken) (a .shared .reports) (of-known (a .shared) _ (n .numbers .ensures))
     ∙ ap (λ (s : Shared). locating one (a .image .now) s (a .t3 .head) (a .t3 .table) (a .v)) (of-numbers (a .shared) _ (n .numbers .ensures)) in
     c .part .ensures ∙ ap (λ (r : Count). partOf (memory one (a .image .now)) (r .count)) located
     ∙ view-part one (a .image .now) (a .shared) (a .t3 .head) (a .t3 .table) (a .v)

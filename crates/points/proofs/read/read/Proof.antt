@@ -2,6 +2,7 @@
 use mathlib.Core.Path.{subst}
 use Rattle.log.specs.declared.Shared.{Shared}
 use Rattle.points.specs.Reading.{ReadLeaves}
+use Rattle.points.proofs.Fits.{of-known}
 use Rattle.points.proofs.ReadAnswers.{of-numbers}
 use borrow.Author.Needs.{needs}
 use Rattle.points.proofs.read.read.Statement.{statement}
@@ -33,7 +34,7 @@ returns c =
     let a = start n .args in
     let left = r .read-lent .last .1 .1 .1 .1 .1 .0 in
     subst (λ (s : Shared). ReadLeaves (a .image .now) s (a .t3 .head) (a .t3 .table) (a .offset) (a .buffer .now) (r .read-lent .result) left)
-    (of-numbers (a .shared) _ (n .numbers .ensures)) (r .read-lent .ensures (a .shared .taken))
+    (of-numbers (a .shared) _ (n .numbers .ensures)) (r .read-lent .ensures (a .shared .taken) (a .shared .reports) (of-known (a .shared) _ (n .numbers .ensures)))
 
 pub read-spec : {M : Type 1} → statement M
 read-spec = tie.close (tie.spec numbers-requires read-lent-requires same-length returns)

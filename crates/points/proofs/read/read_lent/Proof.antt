@@ -53,9 +53,9 @@ returns c =
     let asked = c .before .before .before in
     let a = start asked .args in
     let ne = c .before .if1 .taken in
-    λ taken.
-    let s = sharedOf (a .numbers) taken in
-    let e = asked .settle .ensures taken .refusal in
+    λ taken reports known.
+    let s = sharedOf (a .numbers) taken reports in
+    let e = asked .settle .ensures taken reports known .refusal in
     record {
       count = c .refused .ensures ∙ read-refused one (a .image .now) s (a .head) (a .table .now) (a .offset) (a .buffer .now) _ e ne;
       bytes = read-untouched one (a .image .now) s (a .head) (a .table .now) (a .offset) (a .buffer .now) _ e ne;
@@ -74,9 +74,9 @@ returns-2 c =
     let e = t .before in
     let asked = settled e in
     let a = start asked .args in
-    λ taken.
-    let now = asked .settle .ensures taken in
-    given (a .image .now) (sharedOf (a .numbers) taken) (a .head) (a .table .now) (a .offset) (a .buffer .now) _ (now .refusal) (e .if1 .left)
+    λ taken reports known.
+    let now = asked .settle .ensures taken reports known in
+    given (a .image .now) (sharedOf (a .numbers) taken reports) (a .head) (a .table .now) (a .offset) (a .buffer .now) _ (now .refusal) (e .if1 .left)
     (fileAt (a .head) (a .table .now)) (now .file (t .if2 .taken)) _ _ (filled .fill-from .ensures)
 
 catch-up-requires : tie.Need-catch-up-requires
@@ -95,9 +95,9 @@ returns-3 c =
     let e = not-refused up in
     let asked = settled e in
     let a = start asked .args in
-    λ taken.
-    let s = sharedOf (a .numbers) taken in
-    let r = asked .settle .ensures taken .refusal in
+    λ taken reports known.
+    let s = sharedOf (a .numbers) taken reports in
+    let r = asked .settle .ensures taken reports known .refusal in
     given (a .image .now) s (a .head) (a .table .now) (a .offset) (a .buffer .now) _ r (e .if1 .left) _
     (caught-file one (a .image .now) s (a .head) (a .table .now) false (sym r ∙ e .if1 .left) _ (up .catch-up .ensures)) _ _ (filled .fill-from2 .ensures)
 

@@ -5,14 +5,14 @@ use mathlib.Core.Path.{_≡_, refl, sym, _∙_, ap}
 use mathlib.Core.Bool.{Bool, _&&_}
 use lib.ListN.{length, getD, drop}
 use lib.Dec.{ltb}
-use Rattle.points.specs.Record.{tableFits}
+use Rattle.points.specs.Record.{allBelow}
 use Rattle.points.proofs.Fits.{below-both, table-first, table-next, table-end}
 use Rattle.points.proofs.record.greatest.Statement.{statement}
 use Rattle.points.proofs.record.greatest.Tie as tie
 
 abbrev Inv-loop : tie.InvT-loop
 Inv-loop table most₀ i₀ i-end most i =
-    (i ≤ length table) × (i-end ≡ length table) × ((n : ℕ) → tableFits n table ≡ ltb most n && tableFits n (drop i table))
+    (i ≤ length table) × (i-end ≡ length table) × ((n : ℕ) → allBelow n table ≡ ltb most n && allBelow n (drop i table))
 
 abbrev μ-loop : tie.MeasureT-loop
 μ-loop table most₀ i₀ i-end most i = length table - i
@@ -45,7 +45,7 @@ loop-again c =
       omega arith,
       refl,
       λ n. l .inv .2 n ∙ table-next n (a .table .now) (l .i) (ltb (l .most) n) (omega arith)
-          ∙ ap (λ (t : Bool). t && tableFits n (drop (l .i + 1) (a .table .now)))
+          ∙ ap (λ (t : Bool). t && allBelow n (drop (l .i + 1) (a .table .now)))
           (sym (ap (λ (m : ℕ). ltb m n) (c .greater .ensures) ∙ below-both (l .most) (getD (a .table .now) (l .i) 0) n)),
     )
 

@@ -11,11 +11,8 @@ inside-requires c κs = search needs
 between-requires : tie.Need-between-requires
 between-requires c κs = search needs
 
-between-requires-2 : tie.Need-between-requires-2
-between-requires-2 c κs = search needs
-
 returns : tie.Need-returns
-returns c = let a = c .before .before .before .args in cc (place-tests one (a .blocks) (a .place))
+returns c = let a = c .before .before .args in cc (place-tests one (a .blocks) (a .place))
 
 pub place-fits-spec : {M : Type 1} → statement M
-place-fits-spec = tie.close (tie.spec inside-requires between-requires between-requires-2 returns)
+place-fits-spec = tie.close (tie.spec inside-requires between-requires returns)

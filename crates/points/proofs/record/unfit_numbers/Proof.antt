@@ -7,12 +7,13 @@ use borrow.Author.Needs.{needs}
 use borrow.Author.Tests.{not-true, not-false}
 use Rattle.words.specs.Edition.{one}
 use Rattle.points.specs.Record.{badShared, fits, unfit}
-use Rattle.points.specs.Search.{sharedOf}
+use Rattle.points.specs.Search.{sharedOf, Known}
 use Rattle.points.proofs.record.unfit_numbers.Statement.{statement}
 use Rattle.points.proofs.record.unfit_numbers.Tie as tie
 
-not-10 : (c : tie.Else1) (taken : List ℕ) → let a = c .before .before .before .args in badShared one (a .image .now) (sharedOf (a .numbers) taken) ≡ false
-not-10 c taken = sym (c .before .bad-numbers .ensures taken) ∙ c .if1 .left
+not-10 : (c : tie.Else1) (taken reports : List ℕ) → let a = c .before .before .before .args in Known (a .numbers) reports
+    → badShared one (a .image .now) (sharedOf (a .numbers) taken reports) ≡ false
+not-10 c taken reports known = sym (c .before .bad-numbers .ensures taken reports known) ∙ c .if1 .left
 
 not-11 : (c : tie.Else2) → let a = c .before .before .before .before .before .args in fits one (a .numbers .blocks) (a .head) (a .table .now) ≡ true
 not-11 c = sym (c .before .fits2 .ensures) ∙ not-false _ (c .if2 .left)
@@ -22,27 +23,27 @@ bad-numbers-requires c κs = search needs
 
 returns : tie.Need-returns
 unfolding unfit
-returns c taken = rw (sym (c .before .bad-numbers .ensures taken) ∙ c .if1 .taken)
+returns c taken reports known = rw (sym (c .before .bad-numbers .ensures taken reports known) ∙ c .if1 .taken)
 
 fits-requires : tie.Need-fits-requires
 fits-requires c κs = search needs
 
 returns-2 : tie.Need-returns-2
 unfolding unfit
-returns-2 c taken = rw (not-10 (c .before .before) taken, sym (c .before .fits2 .ensures) ∙ not-true _ (c .if2 .taken))
+returns-2 c taken reports known = rw (not-10 (c .before .before) taken reports known, sym (c .before .fits2 .ensures) ∙ not-true _ (c .if2 .taken))
 
 is-joined-requires : tie.Need-is-joined-requires
 is-joined-requires c κs = search needs
 
 returns-3 : tie.Need-returns-3
 unfolding unfit
-returns-3 c taken =
-    rw (not-10 (c .before .before .before .before) taken, not-11 (c .before .before), sym (c .before .is-joined .ensures) ∙ not-true _ (c .if3 .taken))
+returns-3 c taken reports known =
+    rw (not-10 (c .before .before .before .before) taken reports known, not-11 (c .before .before), sym (c .before .is-joined .ensures) ∙ not-true _ (c .if3 .taken))
 
 returns-4 : tie.Need-returns-4
 unfolding unfit
-returns-4 c taken =
-    rw (not-10 (c .before .before .before .before) taken, not-11 (c .before .before), sym (c .before .is-joined .ensures) ∙ not-false _ (c .if3 .left))
+returns-4 c taken reports known =
+    rw (not-10 (c .before .before .before .before) taken reports known, not-11 (c .before .before), sym (c .before .is-joined .ensures) ∙ not-false _ (c .if3 .left))
 
 pub unfit-numbers-spec : {M : Type 1} → statement M
 unfit-numbers-spec = tie.close (tie.spec bad-numbers-requires returns fits-requires returns-2 is-joined-requires returns-3 returns-4)

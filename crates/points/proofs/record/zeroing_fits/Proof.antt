@@ -9,7 +9,7 @@ inside-requires : tie.Need-inside-requires
 inside-requires c κs = search needs
 
 returns : tie.Need-returns
-returns c = let a = c .before .before .before .before .args in cc (zeroing-tests one (a .blocks) (a .place) (a .write))
+returns c = let a = c .before .before .before .args in cc (zeroing-tests one (a .blocks) (a .place) (a .write))
 
 pub zeroing-fits-spec : {M : Type 1} → statement M
 zeroing-fits-spec = tie.close (tie.spec inside-requires returns)

@@ -10,8 +10,8 @@ enum-told c = search needs
 enum-told-2 : tie.Need-enum-told-2
 enum-told-2 c = search needs
 
-free-run-requires : tie.Need-free-run-requires
-free-run-requires c κs = search needs
+free-held-requires : tie.Need-free-held-requires
+free-held-requires c κs = search needs
 
 enum-told-3 : tie.Need-enum-told-3
 enum-told-3 c = search needs
@@ -34,7 +34,7 @@ returns c = rw (c .enum-told .given .1)
 
 returns-2 : tie.Need-returns-2
 unfolding freed
-returns-2 c = rw (c .before .before .enum-told2 .given .1) (c .free-run .ensures)
+returns-2 c = rw (c .before .before .enum-told2 .given .1) (c .free-held .ensures)
 
 returns-3 : tie.Need-returns-3
 unfolding freed
@@ -50,7 +50,7 @@ release-spec =
     (tie.spec
     enum-told
     enum-told-2
-    free-run-requires
+    free-held-requires
     enum-told-3
     free-replaced-requires
     enum-told-4

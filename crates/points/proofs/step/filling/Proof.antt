@@ -5,7 +5,8 @@ use Rattle.words.specs.Memory.{memory}
 use Rattle.points.specs.Record.{pointOf}
 use Rattle.points.specs.Search.{sharedOf}
 use mathlib.Core.Path.{sym, _∙_}
-use Rattle.points.proofs.StepFacts.{ready, ready-position, fills, commits}
+use Rattle.points.proofs.Fits.{anyReports}
+use Rattle.points.proofs.StepFacts.{of-any, ready, ready-position, fills, commits}
 use Rattle.points.proofs.RecordFacts.{span-few}
 use borrow.Author.Needs.{needs}
 use Rattle.points.proofs.step.filling.Statement.{statement}
@@ -18,13 +19,15 @@ next-word-requires : tie.Need-next-word-requires
 next-word-requires c κs =
     let pre = c .before .before .pre in
     let a = c .before .before .args in
-    let f = ready one (a .image .now) (sharedOf (a .numbers) (a .taken .now)) (a .head) (a .table .now) (pre .0) in
+    let some = anyReports (a .numbers) in
+    let f = ready one (a .image .now) (sharedOf (a .numbers) (a .taken .now) some) (a .head) (a .table .now) (of-any (a .image .now) _ _ _ _ (pre .0)) in
     let t = f .run .text in
     let n = span-few one (a .head .write .offset) (a .head .write .size) t in
     let w = c .run-words .ensures in (
       t .some-text,
       t .few-text,
-      rw w (ready-position one (a .image .now) (sharedOf (a .numbers) (a .taken .now)) (a .head) (a .table .now) (pre .0) (pre .1)),
+      rw w (ready-position one (a .image .now) (sharedOf (a .numbers) (a .taken .now) some) (a .head) (a .table .now)
+          (of-any (a .image .now) _ _ _ _ (pre .0)) (pre .1)),
       rw w (omega (arith, n .1)),
       w,
     )
@@ -34,18 +37,19 @@ fill-requires c κs =
     let pre = c .before .before .before .before .pre in
     let run-words = c .before .before .run-words in
     let a = c .before .before .before .before .args in
-    let f = ready one (a .image .now) (sharedOf (a .numbers) (a .taken .now)) (a .head) (a .table .now) (pre .0) in
+    let some = anyReports (a .numbers) in
+    let f = ready one (a .image .now) (sharedOf (a .numbers) (a .taken .now) some) (a .head) (a .table .now) (of-any (a .image .now) _ _ _ _ (pre .0)) in
     let t = f .run .text in
     ((t .some-text, t .few-text, t .ends-inside), rw (run-words .ensures) at (c .if1 .taken))
 
 returns : tie.Need-returns
-returns c =
+returns c reports =
     let run-words = c .before .before .before .run-words in
     let next-word = c .before .before .next-word in
     let a = c .before .before .before .before .before .args in
     let m = memory one (a .image .now) in
-    c .fill .ensures (sharedOf (a .numbers) (a .taken .now)) ∙ sym
-    (fills one m (sharedOf (a .numbers) (a .taken .now)) (pointOf (a .head) (a .table .now) (a .text .now)) (next-word .result) (run-words .result)
+    c .fill .ensures (sharedOf (a .numbers) (a .taken .now) reports) ∙ sym
+    (fills one m (sharedOf (a .numbers) (a .taken .now) reports) (pointOf (a .head) (a .table .now) (a .text .now)) (next-word .result) (run-words .result)
     (next-word .ensures) (run-words .ensures) (c .before .if1 .taken))
 
 committing-requires : tie.Need-committing-requires
@@ -54,13 +58,13 @@ committing-requires c κs =
     pre .0
 
 returns-2 : tie.Need-returns-2
-returns-2 c =
+returns-2 c reports =
     let run-words = c .before .before .before .run-words in
     let next-word = c .before .before .next-word in
     let a = c .before .before .before .before .before .args in
     let m = memory one (a .image .now) in
-    c .committing .ensures ∙ sym
-    (commits one m (sharedOf (a .numbers) (a .taken .now)) (pointOf (a .head) (a .table .now) (a .text .now)) (next-word .result) (run-words .result)
+    c .committing .ensures reports ∙ sym
+    (commits one m (sharedOf (a .numbers) (a .taken .now) reports) (pointOf (a .head) (a .table .now) (a .text .now)) (next-word .result) (run-words .result)
     (next-word .ensures) (run-words .ensures) (c .before .if1 .left))
 
 pub filling-spec : {M : Type 1} → statement M

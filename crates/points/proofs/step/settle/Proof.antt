@@ -22,12 +22,12 @@ refused-requires : tie.Need-refused-requires
 refused-requires c κs = search needs
 
 returns : tie.Need-returns
-returns c =
+returns c reports known =
     let unfit = c .before .before .unfit-numbers in
     let a = c .before .before .before .before .args in
     c .refused .ensures ∙ sym
-    (turned-down one (a .image .now) (sharedOf (a .numbers) (a .taken .now)) (pointOf (a .head) (a .table .now) (a .text .now)) (unfit .result)
-    (unfit .ensures (a .taken .now)) (c .before .if1 .taken))
+    (turned-down one (a .image .now) (sharedOf (a .numbers) (a .taken .now) reports) (pointOf (a .head) (a .table .now) (a .text .now)) (unfit .result)
+    (unfit .ensures (a .taken .now) reports known) (c .before .if1 .taken))
 
 is-idle-requires : tie.Need-is-idle-requires
 is-idle-requires c κs = search needs
@@ -36,35 +36,35 @@ refused-requires-2 : tie.Need-refused-requires-2
 refused-requires-2 c κs = search needs
 
 returns-2 : tie.Need-returns-2
-returns-2 c =
+returns-2 c reports known =
     let asked = c .before .before in
     let e = fit asked in
     let unfit = e .before .unfit-numbers in
     let a = start e .args in
     c .refused2 .ensures ∙ sym
-    (none-under-way one (a .image .now) (sharedOf (a .numbers) (a .taken .now)) (pointOf (a .head) (a .table .now) (a .text .now))
-    (sym (unfit .ensures (a .taken .now)) ∙ e .if1 .left) (sym (asked .is-idle .ensures) ∙ c .before .if2 .taken))
+    (none-under-way one (a .image .now) (sharedOf (a .numbers) (a .taken .now) reports) (pointOf (a .head) (a .table .now) (a .text .now))
+    (sym (unfit .ensures (a .taken .now) reports known) ∙ e .if1 .left) (sym (asked .is-idle .ensures) ∙ c .before .if2 .taken))
 
 write-on-requires : tie.Need-write-on-requires
 write-on-requires c κs =
     let e = fit (c .before) in
     let unfit = e .before .unfit-numbers in
     let a = start e .args in (
-      under-way one (a .image .now) (sharedOf (a .numbers) (a .taken .now)) (pointOf (a .head) (a .table .now) (a .text .now))
-          (sym (unfit .ensures (a .taken .now)) ∙ e .if1 .left) (sym (c .before .is-idle .ensures) ∙ c .if2 .left),
+      λ reports known. under-way one (a .image .now) (sharedOf (a .numbers) (a .taken .now) reports) (pointOf (a .head) (a .table .now) (a .text .now))
+          (sym (unfit .ensures (a .taken .now) reports known) ∙ e .if1 .left) (sym (c .before .is-idle .ensures) ∙ c .if2 .left),
       start e .pre,
     )
 
 returns-3 : tie.Need-returns-3
-returns-3 c =
+returns-3 c reports known =
     let asked = c .before .before in
     let e = fit asked in
     let unfit = e .before .unfit-numbers in
     let a = start e .args in
-    c .write-on .ensures ∙ sym
-    (goes-on one (a .image .now) (sharedOf (a .numbers) (a .taken .now)) (pointOf (a .head) (a .table .now) (a .text .now))
-    (under-way one (a .image .now) (sharedOf (a .numbers) (a .taken .now)) (pointOf (a .head) (a .table .now) (a .text .now))
-    (sym (unfit .ensures (a .taken .now)) ∙ e .if1 .left) (sym (asked .is-idle .ensures) ∙ c .before .if2 .left)))
+    c .write-on .ensures reports ∙ sym
+    (goes-on one (a .image .now) (sharedOf (a .numbers) (a .taken .now) reports) (pointOf (a .head) (a .table .now) (a .text .now))
+    (under-way one (a .image .now) (sharedOf (a .numbers) (a .taken .now) reports) (pointOf (a .head) (a .table .now) (a .text .now))
+    (sym (unfit .ensures (a .taken .now) reports known) ∙ e .if1 .left) (sym (asked .is-idle .ensures) ∙ c .before .if2 .left)))
 
 pub settle-spec : {M : Type 1} → statement M
 settle-spec =

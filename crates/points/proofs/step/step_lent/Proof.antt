@@ -22,9 +22,11 @@ same-length c = search needs
 
 returns : tie.Need-returns
 returns c =
-    let a = start c .args in
-    read-leaves (a .image .now) (a .numbers) (a .taken .now) (pointOf (a .head) (a .table .now) (a .text .now)) (a .bytes .now) (c .step .result) _ _ _
-    (c .step .ensures)
+    let a = start c .args in (
+      λ reports known. read-leaves (a .image .now) (a .numbers) (a .taken .now) reports (pointOf (a .head) (a .table .now) (a .text .now)) (a .bytes .now)
+          (c .step .result) _ _ _ known (c .step .ensures),
+      c .step .ensures .unlinked,
+    )
 
 write-lent-requires : tie.Need-write-lent-requires
 write-lent-requires c κs = let t = c .before .before .before .before in sym (t .before .is-reading .ensures) ∙ t .if1 .left
@@ -35,9 +37,11 @@ same-length-2 c = search needs
 returns-2 : tie.Need-returns-2
 returns-2 c =
     let a = c .before .before .before .before .before .before .before .before .before .before .before .args in
-    let w = c .before .before .write-lent in
-    write-leaves (a .image .now) (sharedOf (a .numbers) (a .taken .now)) (pointOf (a .head) (a .table .now) (a .text .now)) (a .bytes .now) _ _ _
-    (w .ensures)
+    let w = c .before .before .write-lent in (
+      λ reports known. write-leaves (a .image .now) (sharedOf (a .numbers) (a .taken .now) reports) (pointOf (a .head) (a .table .now) (a .text .now))
+          (a .bytes .now) _ _ _ (w .ensures .0 reports known),
+      w .ensures .1,
+    )
 
 pub step-lent-spec : {M : Type 1} → statement M
 step-lent-spec = tie.close (tie.spec is-reading-requires step-requires same-length returns write-lent-requires same-length-2 returns-2)

@@ -8,6 +8,7 @@ use Rattle.points.specs.declared.plan.Plan.{Plan}
 use Rattle.points.specs.Record.{pointOf}
 use Rattle.points.specs.Search.{sharedOf}
 use Rattle.points.specs.Plan.{Outcome, answered, storedAt, carriedOut}
+use Rattle.points.proofs.Fits.{anyReports, any-known}
 use Rattle.points.proofs.Planned.{Sound, planned-sound, carried-out}
 use Rattle.points.proofs.ReadCases.{write-kind}
 use borrow.Author.Needs.{needs}
@@ -41,11 +42,13 @@ few-joined c = omega arith
 
 -- what the plan asks for
 sound : (c : tie.After-settle)
-    → let a = start c .args in Sound one (memory one (a .image .now)) (sharedOf (a .numbers) (a .taken .now)) (a .head) (c .settle .result)
+    → let a = start c .args in
+    Sound one (memory one (a .image .now)) (sharedOf (a .numbers) (a .taken .now) (anyReports (a .numbers))) (a .head) (c .settle .result)
 sound c =
     let a = start c .args in
-    subst (Sound one (memory one (a .image .now)) (sharedOf (a .numbers) (a .taken .now)) (a .head)) (sym (c .settle .ensures))
-    (planned-sound one (a .image .now) (sharedOf (a .numbers) (a .taken .now)) (pointOf (a .head) (a .table .now) (a .text .now)) (few-joined (start c))
+    let some = anyReports (a .numbers) in
+    subst (Sound one (memory one (a .image .now)) (sharedOf (a .numbers) (a .taken .now) some) (a .head)) (sym (c .settle .ensures some (any-known (a .numbers))))
+    (planned-sound one (a .image .now) (sharedOf (a .numbers) (a .taken .now) some) (pointOf (a .head) (a .table .now) (a .text .now)) (few-joined (start c))
     (start c .pre))
 
 settle-requires : tie.Need-settle-requires
@@ -81,24 +84,27 @@ returns c =
     let map = released block in
     let plan = settled map in
     let a = start plan .args in
-    let s = sharedOf (a .numbers) (a .taken .now) in
     let p = pointOf (a .head) (a .table .now) (a .text .now) in
     let m = memory one (a .image .now) in
-    let e = plan .settle .ensures in
-    let put = stored c .store in
-    let kind = write-kind one (a .image .now) s p (start plan .pre) in
-    record {
-      answers = carried-out one m (a .numbers) (a .taken .now) (plan .settle .result) p (c .head-of .result) (map .release .last .0)
-          (block .take-one .last .0) (table .read-in .last .1 .1 .1 .0) (text .keep-text .last .0)
-          (table .read-in .result) (put .result) (map .release .ensures) (block .take-one .ensures) (table .read-in .ensures)
-          (text .keep-text .ensures) (c .head-of .ensures)
-          ∙ ap (λ (x : Plan). answered (carriedOut one m s p x)) e ∙ sym (ap answered kind);
-      stored = put .ensures .stored ∙ ap (λ (x : Plan). after one (a .image .now) (carriedOut one m s p x .store)) e
-          ∙ sym (ap (λ (o : Outcome). after one (a .image .now) (o .store)) kind);
-      silent = ap (λ (o : Outcome). o .bytes) kind;
-      place = put .ensures .place ∙ ap (λ (x : Plan). storedAt one (carriedOut one m s p x .store)) e
-          ∙ sym (ap (λ (o : Outcome). storedAt one (o .store)) kind);
-    }
+    let put = stored c .store in (
+      λ reports known.
+          let s = sharedOf (a .numbers) (a .taken .now) reports in
+          let e = plan .settle .ensures reports known in
+          let kind = write-kind one (a .image .now) s p (start plan .pre) in
+          record {
+            answers = carried-out one m (a .numbers) (a .taken .now) reports (plan .settle .result) p (c .head-of .result) (map .release .last .0)
+                (block .take-one .last .0) (table .read-in .last .1 .1 .1 .0) (text .keep-text .last .0)
+                (table .read-in .result) (put .result) (map .release .ensures) (block .take-one .ensures) (table .read-in .ensures)
+                (text .keep-text .ensures) (c .head-of .ensures)
+                ∙ ap (λ (x : Plan). answered (carriedOut one m s p x)) e ∙ sym (ap answered kind);
+            stored = put .ensures .stored ∙ ap (λ (x : Plan). after one (a .image .now) (carriedOut one m s p x .store)) e
+                ∙ sym (ap (λ (o : Outcome). after one (a .image .now) (o .store)) kind);
+            silent = ap (λ (o : Outcome). o .bytes) kind;
+            place = put .ensures .place ∙ ap (λ (x : Plan). storedAt one (carriedOut one m s p x .store)) e
+                ∙ sym (ap (λ (o : Outcome). storedAt one (o .store)) kind);
+          },
+      sound plan .links,
+    )
 
 pub write-lent-spec : {M : Type 1} → statement M
 write-lent-spec =

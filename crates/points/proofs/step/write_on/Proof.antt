@@ -4,7 +4,6 @@ use Rattle.words.specs.Edition.{one}
 use Rattle.words.specs.Memory.{memory}
 use Rattle.points.specs.Record.{pointOf}
 use Rattle.points.specs.Search.{sharedOf}
-use Rattle.points.proofs.StepFacts.{ready-zeroing}
 use Rattle.points.proofs.StepCases.{on-zeroing, on-filling}
 use borrow.Author.Needs.{needs}
 use Rattle.points.proofs.step.write_on.Statement.{statement}
@@ -14,20 +13,15 @@ is-zeroing-requires : tie.Need-is-zeroing-requires
 is-zeroing-requires c κs = search needs
 
 extending-requires : tie.Need-extending-requires
-extending-requires c κs =
-    let pre = c .before .before .before .before .pre in
-    let a = c .before .before .before .before .args in
-    let z = ready-zeroing one (a .image .now) (sharedOf (a .numbers) (a .taken .now)) (a .head) (a .table .now) pre
-    (sym (c .before .is-zeroing .ensures) ∙ c .if1 .taken) in
-    z .passed-few
+extending-requires c κs = search needs
 
 returns : tie.Need-returns
-returns c =
+returns c reports =
     let is-zeroing = c .before .before .is-zeroing in
     let a = c .before .before .before .before .before .args in
     let m = memory one (a .image .now) in
     c .extending .ensures ∙ sym
-    (on-zeroing one m (sharedOf (a .numbers) (a .taken .now)) (pointOf (a .head) (a .table .now) (a .text .now))
+    (on-zeroing one m (sharedOf (a .numbers) (a .taken .now) reports) (pointOf (a .head) (a .table .now) (a .text .now))
     (sym (is-zeroing .ensures) ∙ c .before .if1 .taken))
 
 filling-requires : tie.Need-filling-requires
@@ -36,12 +30,12 @@ filling-requires c κs =
     (pre, sym (c .before .is-zeroing .ensures) ∙ c .if1 .left)
 
 returns-2 : tie.Need-returns-2
-returns-2 c =
+returns-2 c reports =
     let is-zeroing = c .before .before .is-zeroing in
     let a = c .before .before .before .before .before .args in
     let m = memory one (a .image .now) in
-    c .filling .ensures ∙ sym
-    (on-filling one m (sharedOf (a .numbers) (a .taken .now)) (pointOf (a .head) (a .table .now) (a .text .now))
+    c .filling .ensures reports ∙ sym
+    (on-filling one m (sharedOf (a .numbers) (a .taken .now) reports) (pointOf (a .head) (a .table .now) (a .text .now))
     (sym (is-zeroing .ensures) ∙ c .before .if1 .left))
 
 pub write-on-spec : {M : Type 1} → statement M

@@ -1,4 +1,4 @@
--- `points::leave::free_held` meets its contract: by the phase, it frees nothing, the run, or the run and the block being zeroed. Assumes nothing.
+-- `points::release::free_held` meets its contract: by the phase, it frees nothing, the run, or the run and the block being zeroed. Assumes nothing.
 use mathlib.Core.Path.{_≡_, sym, _∙_}
 use mathlib.Core.Bool.{true}
 use borrow.Author.Needs.{needs}
@@ -6,8 +6,8 @@ use borrow.Author.Tests.{not-true, not-false}
 use Rattle.words.specs.Edition.{one}
 use Rattle.points.specs.Record.{isWriting}
 use Rattle.points.proofs.Leaves.{held-none, held-run, held-both}
-use Rattle.points.proofs.leave.free_held.Statement.{statement}
-use Rattle.points.proofs.leave.free_held.Tie as tie
+use Rattle.points.proofs.release.free_held.Statement.{statement}
+use Rattle.points.proofs.release.free_held.Tie as tie
 
 -- the way back: the run that is freed, and the start
 abbrev run-freed : tie.After-is-zeroing → tie.After-free-run
