@@ -52,13 +52,24 @@ catch-up-requires : tie.Need-catch-up-requires
 catch-up-requires c κs = search needs
 
 put-text-requires : tie.Need-put-text-requires
-put-text-requires c κs = passed (c .before .before .before) (anyReports _) (any-known _) .fits .few-text
+put-text-requires c κs =
+    let e = c .before .before .before in
+    let n = start (settled e) .args .numbers in
+    passed e (anyReports n) (any-known n) .fits .few-text
 
 cast-at : tie.Need-cast-at
-cast-at c = let r = passed (c .before .before .before .before) (anyReports _) (any-known _) in record { fits = omega (arith, r .fits .ends-inside) }
+cast-at c =
+    let e = c .before .before .before .before in
+    let n = start (settled e) .args .numbers in
+    let r = passed e (anyReports n) (any-known n) in
+    record { fits = omega (arith, r .fits .ends-inside) }
 
 cast-size : tie.Need-cast-size
-cast-size c = let r = passed (c .before .before .before .before) (anyReports _) (any-known _) in record { fits = omega (arith, r .fits .few-text) }
+cast-size c =
+    let e = c .before .before .before .before in
+    let n = start (settled e) .args .numbers in
+    let r = passed e (anyReports n) (any-known n) in
+    record { fits = omega (arith, r .fits .few-text) }
 
 span-requires : tie.Need-span-requires
 span-requires c κs = search needs

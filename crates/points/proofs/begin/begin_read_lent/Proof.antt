@@ -51,10 +51,18 @@ no-text-requires : tie.Need-no-text-requires
 no-text-requires c κs = search needs
 
 cast-new-read : tie.Need-cast-new-read
-cast-new-read c = let r = passed (not-refused (caught c)) [] (anyReports _) (any-known _) in record { fits = omega (arith, r .fits .ends-inside) }
+cast-new-read c =
+    let e = not-refused (caught c) in
+    let n = start (settled e) .args .numbers in
+    let r = passed e [] (anyReports n) (any-known n) in
+    record { fits = omega (arith, r .fits .ends-inside) }
 
 cast-new-read-2 : tie.Need-cast-new-read-2
-cast-new-read-2 c = let r = passed (not-refused (caught c)) [] (anyReports _) (any-known _) in record { fits = omega (arith, r .fits .few-text) }
+cast-new-read-2 c =
+    let e = not-refused (caught c) in
+    let n = start (settled e) .args .numbers in
+    let r = passed e [] (anyReports n) (any-known n) in
+    record { fits = omega (arith, r .fits .few-text) }
 
 new-read-requires : tie.Need-new-read-requires
 new-read-requires c κs = search needs

@@ -43,10 +43,10 @@ returns c reports known =
     (r .ensures .refusal (a .taken .now) reports known) (c .before .if1 .taken))
 
 cast-span : tie.Need-cast-span
-cast-span c = let t = passed c (anyReports _) (any-known _) .fits in record { fits = omega (arith, t .ends-inside) }
+cast-span c = let n = start (settled c) .args .numbers in let t = passed c (anyReports n) (any-known n) .fits in record { fits = omega (arith, t .ends-inside) }
 
 cast-span-2 : tie.Need-cast-span-2
-cast-span-2 c = let t = passed c (anyReports _) (any-known _) .fits in record { fits = omega (arith, t .few-text) }
+cast-span-2 c = let n = start (settled c) .args .numbers in let t = passed c (anyReports n) (any-known n) .fits in record { fits = omega (arith, t .few-text) }
 
 span-requires : tie.Need-span-requires
 span-requires c κs = search needs

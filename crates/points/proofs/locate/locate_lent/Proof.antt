@@ -44,7 +44,7 @@ find-requires : tie.Need-find-requires
 find-requires c κs =
     let asked = settled (c .before) in
     let a = start asked .args in
-    locate-inside one (a .image .now) (sharedOf (a .numbers) [] (anyReports (a .numbers))) (a .head) (a .table .now) (a .v) _ (asked .settle .ensures [] (anyReports _) (any-known _) .refusal)
+    locate-inside one (a .image .now) (sharedOf (a .numbers) [] (anyReports (a .numbers))) (a .head) (a .table .now) (a .v) _ (asked .settle .ensures [] (anyReports (a .numbers)) (any-known (a .numbers)) .refusal)
     (c .before .if1 .left)
 
 returns-2 : tie.Need-returns-2
@@ -66,7 +66,7 @@ find-requires-2 c κs =
     let e = not-refused (caught c) in
     let asked = settled e in
     let a = start asked .args in
-    locate-inside one (a .image .now) (sharedOf (a .numbers) [] (anyReports (a .numbers))) (a .head) (a .table .now) (a .v) _ (asked .settle .ensures [] (anyReports _) (any-known _) .refusal) (e .if1 .left)
+    locate-inside one (a .image .now) (sharedOf (a .numbers) [] (anyReports (a .numbers))) (a .head) (a .table .now) (a .v) _ (asked .settle .ensures [] (anyReports (a .numbers)) (any-known (a .numbers)) .refusal) (e .if1 .left)
 
 returns-3 : tie.Need-returns-3
 returns-3 c =
