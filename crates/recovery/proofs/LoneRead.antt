@@ -29,7 +29,7 @@ use Rattle.words.proofs.Grid.{count-view}
 use Rattle.points.proofs.Phases.{reading-busy}
 use Rattle.points.proofs.ReadCases.{read-goes, each-read, disturbed, caught}
 use Rattle.recovery.proofs.Claim.{opens-enough, same-start, bytesBefore}
-use Rattle.recovery.proofs.Model.LogPlace.{LogPlace, Numbered, numbered-tail, placeAt, placeOf}
+use Rattle.recovery.proofs.Model.LogPlace.{LogPlace, placeAt, placeOf}
 use Rattle.recovery.proofs.Model.State.{PointState}
 use Rattle.recovery.proofs.Model.Walk.{stop}
 use Rattle.log.proofs.Cover.{View, applyAll}
@@ -131,8 +131,7 @@ module _ {E : Edition} {L : List ℕ} (w : W.World) (bk : Book) (h : Tied E L w 
       let e = there-at in
       ap (λ (y : K.Walk). y .entries)
       (walk-ahead (c .image) (c .superblock .isSuper) (c .log .tail) (there .head .place)
-      (stop (ap (λ (l : LogPlace). l .blk) e) (ap (λ (l : LogPlace). l .slot) e))
-      (subst (λ (l : LogPlace). Numbered (h .inv .tail .links) 0 l) (sym e) (numbered-tail (h .inv .tail))) (c .log .few))
+      (stop (ap (λ (l : LogPlace). l .blk) e) (ap (λ (l : LogPlace). l .slot) e)))
 
   again-good : ltb (x .position) (rangeWords x) ≡ false → disturbed E (memory E (w .words)) (w .shared) p ≡ true
       → Goes (beginAgain (w .shared) p there)

@@ -12,7 +12,7 @@ use mathlib.Core.Option.{Option, none, some}
 use lib.ListN.{length, drop, length-set, length-drop, take-append-drop}
 use lib.Dec.{ltb, eqb}
 use borrow.Author.Tests.{eqb-true, ltb-true}
-use Rattle.words.specs.Edition.{Edition, blocksMin, blocksMax}
+use Rattle.words.specs.Edition.{Edition, blocksMin, blocksMax, chainMax}
 use Rattle.words.specs.Logic.{between, any, every, first, _when_}
 use Rattle.words.specs.Memory.{Memory, cut, memory, blockCount, Store, put, putIn, after}
 use Rattle.log.specs.declared.Shared.{Shared}
@@ -21,7 +21,7 @@ use Rattle.points.specs.declared.Head.{Head}
 use Rattle.points.specs.declared.Point.{Point}
 use Rattle.points.specs.declared.StepAnswer.the-variants.{Refused}
 use Rattle.points.specs.declared.plan.Plan.{Plan}
-use Rattle.points.specs.Record.{badShared, headFits, tableFits, fits, isJoined, isIdle, isZeroing, isReading, runWords}
+use Rattle.points.specs.Record.{badShared, headFits, allBelow, fits, isJoined, isIdle, isZeroing, isReading, runWords}
 use Rattle.points.specs.Fill.{nextWord}
 use Rattle.points.specs.Plan.{Outcome, untouched, carriedOut}
 use Rattle.points.specs.ReadSteps.{readOn}
@@ -83,7 +83,12 @@ pub record CutServed : Type 0 where
 
 -- `badShared` by how many words the image has
 unfoldable pub badSharedIn : Edition → ℕ → Shared → Bool
-badSharedIn E n s = any (not (between blocksMin (s .blocks) blocksMax) ∷ not (eqb (E .blockWords * s .blocks) n) ∷ [])
+badSharedIn E n s =
+    any (not (between blocksMin (s .blocks) blocksMax)
+    ∷ not (eqb (E .blockWords * s .blocks) n)
+    ∷ not (between 1 (s .chain) chainMax)
+    ∷ not (allBelow (s .blocks) (s .reports))
+    ∷ [])
 
 -- `stepRefusal` by how many words the image has, and by whether the table fits; and the step
 unfoldable pub refusalIn : Edition → ℕ → Bool → Shared → Head → ℕ
@@ -102,11 +107,11 @@ stepIn E m n fit s p =
     ]
 
 step-in : (E : Edition) (words : List ℕ) (s : Shared) (p : Point)
-    → stepIn E (memory E words) (length words) (tableFits (s .blocks) (p .table)) s p ≡ stepping E words s p
+    → stepIn E (memory E words) (length words) (allBelow (s .blocks) (p .table)) s p ≡ stepping E words s p
 unfolding stepIn refusalIn badSharedIn stepping planned readStep stepRefusal badShared fits
 step-in E words s p = refl
 
-step-is : (E : Edition) (words : List ℕ) (fit : Bool) (s : Shared) (p : Point) → Whole E words → fit ≡ tableFits (s .blocks) (p .table)
+step-is : (E : Edition) (words : List ℕ) (fit : Bool) (s : Shared) (p : Point) → Whole E words → fit ≡ allBelow (s .blocks) (p .table)
     → stepIn E (memory E words) (length (memory E words) * E .blockWords) fit s p ≡ stepping E words s p
 step-is E words fit s p e f =
     let l : length (memory E words) * E .blockWords ≡ length words = ap (λ (n : ℕ). n * E .blockWords) (length-memory E words) ∙ sym e in
@@ -148,7 +153,7 @@ kept v t = record { event = t .event; state = record { image = v .image; shared 
 -- The table of point n is known to fit where `known` is n + 1: then its 256 entries are not looked at again
 abbrev pub fitFor : ℕ → List ℕ → Bool → Bool
 fitFor blocks table true = true
-fitFor blocks table false = tableFits blocks table
+fitFor blocks table false = allBelow blocks table
 
 abbrev pub handedIn : CutWorld → ℕ → Point → Point
 handedIn v n p = elim (isJoined (v .shared) n) [ true ↦ v .newest n | false ↦ numbered n p ]
@@ -188,17 +193,17 @@ knownAfter E v known (leave n p) = 0
 -- ---- what is known stays
 
 Known : World → ℕ → Type 0
-Known w known = (n : ℕ) → known ≡ suc n → (isJoined (w .shared) n ≡ true) × (tableFits (w .shared .blocks) (w .newest n .table) ≡ true)
+Known w known = (n : ℕ) → known ≡ suc n → (isJoined (w .shared) n ≡ true) × (allBelow (w .shared .blocks) (w .newest n .table) ≡ true)
 
 fit-is : (E : Edition) (w : World) (known n : ℕ) (p : Point) → Known w known
-    → fitFor (w .shared .blocks) (handed w n p .table) (eqb known (suc n)) ≡ tableFits (w .shared .blocks) (handed w n p .table)
+    → fitFor (w .shared .blocks) (handed w n p .table) (eqb known (suc n)) ≡ allBelow (w .shared .blocks) (handed w n p .table)
 unfolding Known
 fit-is E w known n p k = go (eqb known (suc n)) refl
   where
-    go : (t : Bool) → eqb known (suc n) ≡ t → fitFor (w .shared .blocks) (handed w n p .table) t ≡ tableFits (w .shared .blocks) (handed w n p .table)
+    go : (t : Bool) → eqb known (suc n) ≡ t → fitFor (w .shared .blocks) (handed w n p .table) t ≡ allBelow (w .shared .blocks) (handed w n p .table)
     go true h =
         let q = k n (eqb-true known (suc n) h) in
-        sym (ap (λ (y : Point). tableFits (w .shared .blocks) (y .table)) (handed-newest w n p (q .0)) ∙ q .1)
+        sym (ap (λ (y : Point). allBelow (w .shared .blocks) (y .table)) (handed-newest w n p (q .0)) ∙ q .1)
     go false h = refl
 
 -- an outcome that leaves the shared record and the table
@@ -213,7 +218,7 @@ store-keeps E m s p c = go (isZeroing (p .head .write .phase)) refl c
     go : (z : Bool) → isZeroing (p .head .write .phase) ≡ z → storesBy z E (p .head .write) ≡ true → Leaves s p (carriedOut E m s p (writeOn E m s p))
     go true e c =
         let l = ltb-true (p .head .write .position) (E .blockWords) c in
-        subst (Leaves s p) (sym (ap (carriedOut E m s p) (on-zeroing E m s p e ∙ zero-on E m (p .head) c) ∙ zero-leaves E m s p l)) (refl, refl)
+        subst (Leaves s p) (sym (ap (carriedOut E m s p) (on-zeroing E m s p e ∙ zero-on E m (p .head) (s .chain) c) ∙ zero-leaves E m s p l)) (refl, refl)
     go false e c =
         subst (Leaves s p) (sym (ap (carriedOut E m s p) (on-filling E m s p e ∙ fill-on E m s p c) ∙ fill-leaves E m s p
         (nextWord E (p .head .write)))) (refl, refl)
@@ -237,17 +242,17 @@ step-keeps E words s p c = kind (isReading (p .head .write .phase)) refl
         (stepRefusal E words s (p .head) (p .table)) refl)
 
 known-step : (E : Edition) (w : World) (n : ℕ) (p : Point) → isJoined (w .shared) n ≡ true → stores E (handed w n p .head .write) ≡ true
-    → tableFits (w .shared .blocks) (handed w n p .table) ≡ true → Known (serve E w (step n p) .world) (suc n)
+    → allBelow (w .shared .blocks) (handed w n p .table) ≡ true → Known (serve E w (step n p) .world) (suc n)
 unfolding Known serve
 known-step E w n p j c f i e =
     let y = handed w n p in
     let o = stepping E (w .words) (w .shared) y in
     let q = step-keeps E (w .words) (w .shared) y c in
     let same-n : n ≡ i = omega arith in
-    subst (λ (i : ℕ). (isJoined (o .shared) i ≡ true) × (tableFits (o .shared .blocks) (withNewest w n (o .point) i .table) ≡ true)) same-n (
+    subst (λ (i : ℕ). (isJoined (o .shared) i ≡ true) × (allBelow (o .shared .blocks) (withNewest w n (o .point) i .table) ≡ true)) same-n (
       ap (λ (s : Shared). isJoined s n) (q .0) ∙ j,
-      ap (λ (r : Point). tableFits (o .shared .blocks) (r .table)) (withNewest-same w n (o .point))
-          ∙ ap₂ (λ (s : Shared) (t : List ℕ). tableFits (s .blocks) t) (q .0) (q .1) ∙ f,
+      ap (λ (r : Point). allBelow (o .shared .blocks) (r .table)) (withNewest-same w n (o .point))
+          ∙ ap₂ (λ (s : Shared) (t : List ℕ). allBelow (s .blocks) t) (q .0) (q .1) ∙ f,
     )
 
 nothing-known : (w : World) → Known w 0

@@ -36,8 +36,8 @@ use Rattle.recovery.specs.Claim.{BytesOf, EventBytes, ReadBytes}
 use Rattle.words.proofs.Tests.{no-true}
 use Rattle.words.proofs.Choice.{upd, upd-same, choose-true, choose-false, chosen-zero, chosen-suc}
 use Rattle.words.proofs.WithBit.{bit-view, withBit-other}
-use Rattle.points.proofs.Replies.{begin-map, begin-read-shared}
-use Rattle.points.proofs.CarriedOut.{step-map}
+use Rattle.points.proofs.Replies.{begin-points, begin-read-points}
+use Rattle.points.proofs.CarriedOut.{step-points}
 use Rattle.points.proofs.NotRefused.{step-joined}
 use Rattle.points.proofs.StepCases.{each-plan}
 use Rattle.points.proofs.StepFacts.{goes-on, refused-on}
@@ -104,7 +104,7 @@ module _ (E : Edition) (I : List ℕ) (s : Shared) (y : Point) (a : Range) where
           fills = λ k. n;
           commits = refl;
           zeroes = λ z. refl;
-          links = refl;
+          links = λ l. refl;
           gives-back = refl;
           extends = λ b. refl;
           gives-up = λ k u. refl;
@@ -193,21 +193,20 @@ module _ (E : Edition) (w : W.World) (p : ℕ) (a : Range) (had : Asked w p a) w
   serve-asked (begin n q o text) =
       let y = handed w n q in
       let r = beginning E (w .words) (w .shared) y o text in
-      put-asked n (w .words) (r .shared) (r .point) a (sym (ap (λ (s : Shared). s .joined) (begin-map E (w .words) (w .shared) y o text))) (λ e. refl)
+      put-asked n (w .words) (r .shared) (r .point) a (begin-points E (w .words) (w .shared) y o text) (λ e. refl)
       (λ j e. begin-range E (w .words) (w .shared) y a (handed-has n q j e) o text)
   serve-asked (beginRead n q o size) =
       let y = handed w n q in
       let r = beginningRead E (w .words) (w .shared) y o size in
       let asked = askedBy (r .reply) (record { offset = o; size = size }) a in
-      put-asked n (w .words) (r .shared) (r .point) (asks p a (begunRead n o size (r .reply))) (ap (λ (s : Shared). s .joined) (begin-read-shared E
-      (w .words) (w .shared) y o size))
+      put-asked n (w .words) (r .shared) (r .point) (asks p a (begunRead n o size (r .reply))) (begin-read-points E (w .words) (w .shared) y o size)
       (λ e. choose-false (eqb n p) asked a (ne-eqb n p (λ f. e (sym f))))
       (λ j e. subst (λ (b : Range). HasRange b (r .point)) (sym (choose-true (eqb n p) asked a (eq-eqb n p (sym e))))
       (begin-read-range E (w .words) (w .shared) y a (handed-has n q j e) o size))
   serve-asked (step n q) =
       let y = handed w n q in
       let o = stepping E (w .words) (w .shared) y in
-      put-asked n (after E (w .words) (o .store)) (o .shared) (o .point) a (sym (ap (λ (s : Shared). s .joined) (step-map E (w .words) (w .shared) y)))
+      put-asked n (after E (w .words) (o .store)) (o .shared) (o .point) a (step-points E (w .words) (w .shared) y)
       (λ e. refl)
       (λ j e. step-range E (w .words) (w .shared) y a (handed-has n q j e))
   serve-asked (leave n q) = leave-asked (handed w n q)
@@ -236,7 +235,7 @@ module _ {E : Edition} {L : List ℕ} (w : W.World) (bk : Book) (h : Tied E L w 
         fills = λ k. refl;
         commits = refl;
         zeroes = λ z. refl;
-        links = refl;
+        links = λ l. refl;
         gives-back = refl;
         extends = λ b. refl;
         gives-up = λ k u. refl;

@@ -107,10 +107,10 @@ used E u = openHolding E (entryOf E 0 2 1 u 0)
 
 -- a head of point 0 with this length and slot; and the reason that leaving gives it, on 4 blocks of edition two, at another edition and block count too
 abbrev pub headWith : ℕ → ℕ → Head
-headWith length slot = headOf 0 length (record { block = 1; slot = slot; passed = 1 }) noWrite
+headWith length slot = headOf 0 length (record { block = 1; slot = slot }) noWrite
 
 abbrev pub leaveReason : Edition → ℕ → ℕ → ℕ → ℕ
-leaveReason E blocks length slot = unfit E (laid two 4) (withJoined (nobodyJoined blocks (3 ∷ replicate 15 0)) 1) (headWith length slot) noTable
+leaveReason E blocks length slot = unfit E (laid two 4) (withJoined (nobodyJoined blocks (3 ∷ replicate 15 0) 1) 1) (headWith length slot) noTable
 
 -- a point joins on 4 blocks and begins a write of two bytes at this offset, then one of a single byte
 abbrev pub twoOrOne : Edition → ℕ → List ℕ

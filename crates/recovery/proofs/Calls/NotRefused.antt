@@ -12,14 +12,14 @@ use lib.Seq.{length-take-le}
 use lib.Dec.{leb, ltb}
 use borrow.Author.Tests.{lt-ltb, le-ltb, le-leb, eq-eqb}
 use Rattle.words.proofs.Sizes.{mul-le}
-use Rattle.words.specs.Edition.{Edition, fileEnd, chainMax}
+use Rattle.words.specs.Edition.{Edition, fileEnd}
 use Rattle.words.specs.Logic.{Reason, first, _when_, all-of, between}
 use Rattle.words.specs.Memory.{memory}
 use Rattle.log.specs.CatchUp.{broken, ahead}
 use Rattle.log.specs.Opening.{badEntry}
 use Rattle.points.specs.declared.Point as PP
 use Rattle.points.specs.Record.{isJoined, isIdle, isZeroing, isReading, isWriting, runBlocks, runWords, rangeWords}
-use Rattle.points.specs.Record.{fits, headFits, tableFits, workFits, writeFits, rangeFits, zeroingFits, placeFits, inside, badShared, recordReasons}
+use Rattle.points.specs.Record.{fits, headFits, allBelow, workFits, writeFits, rangeFits, zeroingFits, placeFits, inside, badShared, recordReasons}
 use Rattle.points.specs.Stepping.{stepRefusal}
 use Rattle.recovery.specs.World as W
 use Rattle.recovery.specs.Book.{Book}
@@ -28,7 +28,6 @@ use Rattle.words.proofs.Choice.{choose-true, choose-false}
 use Rattle.words.proofs.Tests.{not-of, not-no}
 use Rattle.points.proofs.RecordFacts.{shared-fits}
 use Rattle.points.proofs.Phases.{writing-busy, is-writing}
-use Rattle.recovery.proofs.Model.LogPlace.{numbered-high}
 use Rattle.recovery.proofs.Model.Walk.{walk-in, walk-slot}
 use Rattle.recovery.proofs.Model.Use.{chain, super, in-image}
 use Rattle.recovery.proofs.Model.State.{span, WriteState, busy}
@@ -38,6 +37,7 @@ use Rattle.recovery.proofs.Model.Span.{spans}
 use Rattle.recovery.proofs.Opening.Legal.{walk-legal}
 use Rattle.recovery.proofs.Calls.Begin.{ahead-is}
 use Rattle.recovery.proofs.Calls.Mapping.{Tied, worldOf, pointOf, writeOf, phaseIn, zeroing-phase, other-phase, reading-work}
+use Rattle.recovery.specs.Standing.{standsAt}
 use Rattle.recovery.proofs.Calls.StepTied.{isBusy, sp}
 
 below-all : (B : ℕ) (l : List ℕ) → ((i : ℕ) → getD l i 0 < B) → all-of (λ b. ltb b B) l ≡ true
@@ -52,7 +52,24 @@ is-inside B b n h k = and-both (leb 1 b) (leb (b + n) B) (le-leb 1 b h) (le-leb 
 
 module _ {E : Edition} {L : List ℕ} (w : W.World) (bk : Book) (h : Tied E L w bk) where
   pub shared-ok : badShared E (w .words) (w .shared) ≡ false
-  shared-ok = shared-fits E (w .words) (w .shared) (h .inv .core .image .least) (h .inv .core .image .most) (sym (h .inv .core .image .size))
+  unfolding allBelow
+  shared-ok = shared-fits E (w .words) (w .shared) (record {
+    some-blocks = h .inv .core .image .least;
+    few-blocks = h .inv .core .image .most;
+    whole = sym (h .inv .core .image .size);
+    some-chain = omega (arith, h .inv .length);
+    few-chain = omega (arith, h .inv .length, h .inv .core .log .few);
+    reported = reports-below;
+  })
+    where
+      stands : (n : ℕ) (b : Bool) → isJoined (w .shared) n ≡ b → standsAt b (w .newest n) < w .shared .blocks
+      stands n true j =
+          let o = walk-in (h .inv .core .log .tail) (h .inv .points n j .place .walk) in
+          in-image (w .shared .blocks) (h .inv .own) (h .inv .core .image .inside) (w .newest n .head .place .block) (rw o tt)
+      stands n false j = omega (arith, h .inv .core .image .least)
+
+      reports-below : allBelow (w .shared .blocks) (w .shared .reports) ≡ true
+      reports-below = below-all (w .shared .blocks) (w .shared .reports) (λ n. rw (h .reports n) (stands n (isJoined (w .shared) n) refl))
 
   from-1 : (b : ℕ) → h .inv .own b ≢ super → 1 ≤ b
   from-1 b x = go (decLe 1 b)
@@ -80,12 +97,11 @@ module _ {E : Edition} {L : List ℕ} (w : W.World) (bk : Book) (h : Tied E L w 
         let o = blk-chain in
         let l = in-image B (h .inv .own) (h .inv .core .image .inside) (p .head .place .block) (rw o tt) in
         let s = walk-slot (h .inv .core .log .tail) (pi .place .walk) in
-        let n = pi .place .numbered in
         all-every _ (
           is-inside B (p .head .place .block) 1 (from-1 (p .head .place .block) (λ x. let z : _≡_ {A = ℕ} 0 1 = cc in omega arith)) (omega arith),
           (
             is-between 2 (p .head .place .slot) (E .blockWords) (s .0) (s .1),
-            (is-between 1 _ chainMax (n .low) (numbered-high n (h .inv .core .log .few)), tt),
+            tt,
           ),
         )
 
@@ -122,7 +138,7 @@ module _ {E : Edition} {L : List ℕ} (w : W.World) (bk : Book) (h : Tied E L w 
                 (omega arith),
             (
               le-leb (p .head .write .position) (E .blockWords) (wi .zero ph .place),
-              (eq-eqb (p .head .place .slot) (E .blockWords) (a .0), (lt-ltb _ chainMax (a .1), tt)),
+              (eq-eqb (p .head .place .slot) (E .blockWords) (a .0), tt),
             ),
           )
 
@@ -180,7 +196,7 @@ module _ {E : Edition} {L : List ℕ} (w : W.World) (bk : Book) (h : Tied E L w 
     idle-or-fits false e = choose-false (isIdle (p .head .write .phase)) true _ e ∙ work-fits (isReading (p .head .write .phase)) refl e
 
     all-fits : fits E B (p .head) (p .table) ≡ true
-    unfolding fits headFits tableFits
+    unfolding fits headFits allBelow
     all-fits = all-every _ (
       all-every _ (place-fits, (le-leb (p .head .length) (fileEnd E) (pi .place .sound .small), (idle-or-fits (isIdle (p .head .write .phase)) refl, tt))),
       (below-all B (p .table) (pi .place .sound .inImage), tt),

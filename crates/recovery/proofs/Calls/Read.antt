@@ -33,6 +33,7 @@ use Rattle.points.specs.declared.Point as PP
 use Rattle.points.specs.declared.Write as PW
 use Rattle.points.specs.declared.Begun.{Begun}
 use Rattle.points.specs.Record.{noText, noWrite, textMax, isJoined, isIdle, isReading, span, rangeWords, runFirst, runBlocks, fileAt, writing, caughtUp}
+use Rattle.points.specs.Search.{reportingPlace}
 use Rattle.points.specs.Calls.{beginningRead, beginReadRefusal, newRead}
 use Rattle.points.specs.Plan.{Outcome}
 use Rattle.points.specs.ReadSteps.{copyFrom, copyTo, shownByte, withWord, covered, lengthened, copyWord, beginAgain, answerBytes, readOn}
@@ -48,7 +49,7 @@ use Rattle.recovery.proofs.Model.LogPlace.{LogEnd, placeAt, placeOf}
 use Rattle.recovery.proofs.Model.State.{ReadState, PointState, idle, reads}
 use Rattle.recovery.proofs.Model.Invariant.{PointInv, ReadInv, Empty, core-sound}
 use Rattle.recovery.proofs.Outcomes.Read.{there-inv, caught-inv, fresh-read, Sees, copy-read}
-use Rattle.recovery.proofs.Calls.Mapping.{pointOf, worldOf, readOf, Tied, tie, withNewest-same, withNewest-other}
+use Rattle.recovery.proofs.Calls.Mapping.{pointOf, worldOf, readOf, Tied, tie, withNewest-same, withNewest-other, told-still, told-place}
 use Rattle.recovery.proofs.Calls.Mapping.{handed-newest, is-joined, refused-tied, idle-work, reading-work, free-work}
 use Rattle.recovery.proofs.Calls.Begin.{ahead-is, anew, caught-up}
 use Rattle.recovery.proofs.Calls.StepTied.{StepTied, step-tie, unstored}
@@ -108,17 +109,18 @@ module _ {E : Edition} {L : List ℕ} (w : W.World) (bk : Book) (h : Tied E L w 
     begun = anew w bk h n j (caughtUp E walk p) (newRead o size) noText
 
     begin-done : beginReadRefusal E (w .words) (w .shared) (p .head) (p .table) o size ≡ 0
-        → Tied E L (record { words = w .words; shared = w .shared; newest = withNewest w n begun }) bk
+        → Tied E L (record { words = w .words; shared = reportingPlace (begun .head) (w .shared); newest = withNewest w n begun }) bk
     begin-done e =
         let i : isIdle (x .phase) ≡ true = not-false _ (begin-idle E (w .words) (w .shared) p o size e) in
         let t = text-facts E o size (begin-text E (w .words) (w .shared) p o size e) (begin-end E (w .words) (w .shared) p o size e) in
-        tie w bk bk bk h n (w .words) (w .shared) (withNewest w n begun) _ (taken (w .shared .taken)) (isJoined (w .shared))
+        tie w bk bk bk h n (w .words) _ (withNewest w n begun) _ (taken (w .shared .taken)) (isJoined (w .shared)) (w .shared .chain)
         (caught-inv (worldOf w) bk (h .inv) n j (free-work (x .phase) x (p .text) (idle-apart (x .phase) i)) (reads (readOf (newRead o size) noText)) tt (
           rw (idle-work (x .phase) x (p .text) i) at (pi .work),
           fresh-read E (w .words) (h .inv .cur) [] (h .inv .cur .size) o size noText (t .some-text) (t .few-text) (t .ends-inside),
         ))
-        refl (λ b. refl) (h .sixteen) (λ q. refl) (λ q y. withNewest-other w n begun q y) (λ y. ap pointOf (withNewest-same w n begun) ∙ begins-at o size)
-        (λ q y z. z) (λ y. ap (λ (r : PP.Point). r .head .number) (withNewest-same w n begun) ∙ number-kept (newRead o size) noText)
+        refl refl (λ b. refl) (h .sixteen) (λ q. refl) (λ q y. withNewest-other w n begun q y) (λ y. ap pointOf (withNewest-same w n begun) ∙ begins-at o size)
+        (λ q y. refl) (rw (withNewest-same w n begun) (told-place w bk h n j _ begun refl refl (number-kept (newRead o size) noText)))
+        (λ y. ap (λ (r : PP.Point). r .head .number) (withNewest-same w n begun) ∙ number-kept (newRead o size) noText)
         (λ y z. rw (withNewest-same w n begun) (omega (arith, t .few-text, text-long))) refl (λ q. refl)
 
   -- ---- a step
@@ -176,35 +178,37 @@ module _ {E : Edition} {L : List ℕ} (w : W.World) (bk : Book) (h : Tied E L w 
     copy-tied : ltb (x .position) (rangeWords x) ≡ true → Ok (copyWord E m (w .shared) p)
     unfolding copyWord
     copy-tied e =
-        step-tie w bk h n j (copyWord E m (w .shared) p) L refl (w .words) (taken (w .shared .taken)) _ bk (unstored E (w .words))
+        step-tie w bk h n j (copyWord E m (w .shared) p) L refl (w .words) (taken (w .shared .taken)) _ _ bk (unstored E (w .words))
         (there-inv (worldOf w) bk (h .inv) n j holds-none (reads (record { offset = x .offset; size = x .size; pos = x .position + 1; text = text })) tt (
           (rw work-is at (pi .work)) .0,
           copy-read (h .inv .core .file) (pi .place) s text read-inv (ltb-true (x .position) (rangeWords x) e) (λ at low word. byte-kept E m f x
               (p .text) at low word)
               (λ v q hv hq low high word. sees v q hq low high word),
         ))
-        refl refl (λ b. refl) (h .sixteen) refl (h .numbers n j) (λ y. omega (arith, sized, text-kept)) refl (λ q. refl)
+        refl refl (told-still w bk h n j _ _ refl refl refl) refl (λ b. refl) (h .sixteen) refl (h .numbers n j) (λ y. omega (arith, sized, text-kept)) refl (λ q. refl)
 
     -- the last step begins again
     again-tied : Ok (beginAgain (w .shared) p (caught E m (w .shared) p))
     unfolding beginAgain
     again-tied =
         let i = read-inv in
-        step-tie w bk h n j (beginAgain (w .shared) p (caught E m (w .shared) p)) L refl (w .words) (taken (w .shared .taken)) _ bk (unstored E (w .words))
+        step-tie w bk h n j (beginAgain (w .shared) p (caught E m (w .shared) p)) L refl (w .words) (taken (w .shared .taken)) _ _ bk (unstored E (w .words))
         (caught-inv (worldOf w) bk (h .inv) n j holds-none (reads (readOf (newRead (x .offset) (x .size)) noText)) tt (
           (rw work-is at (pi .work)) .0,
           fresh-read E (w .words) (h .inv .cur) [] (h .inv .cur .size) (x .offset) (x .size) noText (i .some) (i .few) (i .ends),
         ))
-        refl refl (λ b. refl) (h .sixteen) (begins-at (x .offset) (x .size)) (number-kept (newRead (x .offset) (x .size)) noText)
+        refl refl (told-place w bk h n j _ _ refl refl (number-kept (newRead (x .offset) (x .size)) noText)) refl (λ b. refl) (h .sixteen)
+        (begins-at (x .offset) (x .size)) (number-kept (newRead (x .offset) (x .size)) noText)
         (λ y. omega (arith, i .few, text-long)) refl (λ q. refl)
 
     -- or answers the bytes
     bytes-tied : Ok (answerBytes (w .shared) p (caught E m (w .shared) p))
     unfolding answerBytes
     bytes-tied =
-        step-tie w bk h n j (answerBytes (w .shared) p (caught E m (w .shared) p)) L refl (w .words) (taken (w .shared .taken)) _ bk (unstored E (w .words))
+        step-tie w bk h n j (answerBytes (w .shared) p (caught E m (w .shared) p)) L refl (w .words) (taken (w .shared .taken)) _ _ bk (unstored E (w .words))
         (caught-inv (worldOf w) bk (h .inv) n j holds-none idle tt ((rw work-is at (pi .work)) .0))
-        refl refl (λ b. refl) (h .sixteen) (caught-up w bk h n j noWrite noText) (number-kept noWrite noText) (λ y. absurd (no-true refl y)) refl (λ q. refl)
+        refl refl (told-place w bk h n j _ _ refl refl (number-kept noWrite noText)) refl (λ b. refl) (h .sixteen)
+        (caught-up w bk h n j noWrite noText) (number-kept noWrite noText) (λ y. absurd (no-true refl y)) refl (λ q. refl)
 
     -- ---- what is answered
 
@@ -281,7 +285,11 @@ module _ {E : Edition} {L : List ℕ} (w : W.World) (bk : Book) (h : Tied E L w 
 
   abbrev done : PP.Point → Begun
   done q = let c = caughtUp E (ahead E (memory E (w .words)) (w .shared .blocks) (q .head .place)) q in
-      record { reply = Done; shared = w .shared; point = record { head = writing (c .head) (newRead o size); table = c .table; text = noText } }
+      record {
+        reply = Done;
+        shared = reportingPlace (c .head) (w .shared);
+        point = record { head = writing (c .head) (newRead o size); table = c .table; text = noText };
+      }
 
   pub begin-read-eq-done : (q : PP.Point) → beginReadRefusal E (w .words) (w .shared) (q .head) (q .table) o size ≡ 0
       → beginningRead E (w .words) (w .shared) q o size ≡ done q

@@ -31,17 +31,17 @@ module _ {E : Edition} {L : List ℕ} (st : State) (bk : Book) (h : Inv E L st b
   holds = holds-nothing E (h .own) (st .joined p) p work (λ b e. empty .run b (h .held p .run b e .1)) (λ b e. empty .zero b (h .held p .zero b e .1))
 
   -- where it stands
-  pub there-inv : AtEnd E (st .points p .place) work
+  pub there-inv : AtEnd E (h .tail) (st .points p .place) work
       → WorkInv E (st .image) (h .own) (h .cur) p (pi .ahead) (bk .note p) (st .points p .view .size) work
-      → Inv E L (made st (st .image) (st .taken) (st .joined) p (record { view = st .points p .view; place = st .points p .place; work = work })) bk
+      → Inv E L (made st (st .image) (st .taken) (st .joined) (st .chain) p (record { view = st .points p .view; place = st .points p .place; work = work })) bk
   there-inv ended inv =
       hold-inv st bk bk h p (quiet-none p (h .core .image)) (st .taken) (st .joined) _ (h .map) refl (λ q n. refl) (λ q n. refl) holds
       (λ a. absurd (no-true joined a)) (λ x. stay pi (pi .place) ended inv)
 
   -- caught up
-  pub caught-inv : AtEnd E (placeAt (h .tail)) work → WorkInv E (st .image) (h .own) (h .cur) p [] (bk .note p) (h .cur .size) work
+  pub caught-inv : AtEnd E (h .tail) (placeAt (h .tail)) work → WorkInv E (st .image) (h .own) (h .cur) p [] (bk .note p) (h .cur .size) work
       → Inv E L
-      (made st (st .image) (st .taken) (st .joined) p
+      (made st (st .image) (st .taken) (st .joined) (st .chain) p
       (record { view = applyAll E (pi .ahead) (st .points p .view); place = placeAt (h .tail); work = work })) bk
   caught-inv ended inv =
       rw (pi .place .catches)
