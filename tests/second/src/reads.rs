@@ -58,7 +58,7 @@ struct Final<'a> {
 impl Final<'_> {
     /// None where the final step is refused.
     fn new<'a>(image: &[u64], record: &'a Record) -> Option<Final<'a>> {
-        let Caught { view, entries } = catch_up(image, &record.view).ok()?;
+        let Caught { view, entries, .. } = catch_up(image, &record.view).ok()?;
         let first = record.write.first_block();
         let is_covered = |i: &usize| entries.iter().any(|entry| entry.covers(first + i));
         let covered = (0..record.write.span()).filter(is_covered).collect();
@@ -165,7 +165,7 @@ pub fn broken_read_events(image: &[u64], record: &Record) -> Vec<&'static str> {
     vec![match why {
         Broken::Entry => "18 in a read's final step, by an entry",
         Broken::Next => "18 in a read's final step, by a next index",
-        Broken::TooLong => "18 in a read's final step, by a 65th log block",
+        Broken::TooLong => "18 in a read's final step, by a circle",
     }]
 }
 

@@ -11,7 +11,7 @@ use second::record::Shared;
 use second::tally::EVENTS;
 
 fn shared(blocks: usize, map: [u64; 16]) -> Shared {
-    Shared { blocks, map, joined: 0 }
+    Shared { blocks, map, chain: 1, ..Shared::zero() }
 }
 
 /// "a stretch goes, from block 1 on, as far as no block is taken": whether
