@@ -233,13 +233,11 @@ fn zero(image: &[u64], shared: &Shared, record: &Record) -> Settled {
 /// The link, or 20. Where a next index is there "the block is given back", and the
 /// chain length is not looked at.
 fn end_zeroing(image: &[u64], shared: &Shared, record: &Record) -> Settled {
-    if word_of(image, record.view.block, 0) != 0 {
-        return lose_link(shared, record);
+    match (word_of(image, record.view.block, 0), shared.is_chain_full()) {
+        (0, true) => give_up(shared, record, Refusal::LogFull),
+        (0, false) => link(shared, record),
+        _ => lose_link(shared, record),
     }
-    if shared.is_chain_full() {
-        return give_up(shared, record, Refusal::LogFull);
-    }
-    link(shared, record)
 }
 
 /// The record, done with zeroing: "committing goes on".

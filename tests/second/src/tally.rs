@@ -28,7 +28,7 @@ pub const TABLE: [(&str, &[&str], &[u64]); 11] = [
 ];
 
 /// What happens inside the calls and is to be met too.
-pub const EVENTS: [&str; 148] = [
+pub const EVENTS: [&str; 147] = [
     "linked",
     "moved by a lost link",
     "moved, refills nothing",
@@ -117,7 +117,6 @@ pub const EVENTS: [&str; 148] = [
     "left while reading, a taken block for its zeroing",
     "18 in a read's final step, by an entry",
     "18 in a read's final step, by a next index",
-    "18 in a read's final step, by a circle",
     "read at once while reading",
     "shown while reading",
     "located while reading",

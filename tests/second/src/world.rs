@@ -218,7 +218,12 @@ impl World {
         after: &Record,
     ) -> Result<(), String> {
         match answer {
-            Answer::Stored => self.tally.count("step", "stored"),
+            Answer::Stored => {
+                self.tally.count("step", "stored");
+                if before.view.block != after.view.block {
+                    self.tally.event("linked");
+                }
+            }
             Answer::Extending => self.tally.count("step", "extending"),
             Answer::Moved if before.write.phase == Phase::Reading => {
                 self.tally.count("step", "moved");
