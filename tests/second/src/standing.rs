@@ -83,7 +83,7 @@ fn mix_reports(maker: &mut Maker, points: &[usize]) {
     }
 }
 
-/// Reports or the chain length as they were, where 10 would go on for ever.
+/// The chain length as it was, and reports that are too high: 10 would go on for ever.
 pub fn mend(maker: &mut Maker, chain: usize, reports: [usize; 32]) {
     let blocks = maker.bench.shared.blocks;
     for p in (0..32).filter(|&p| reports[p] < blocks) {
@@ -267,15 +267,26 @@ fn read_with_reports(maker: &mut Maker) {
     maker.say("shared");
 }
 
-/// Makes the log block a full one.
-fn fill_log_block(maker: &mut Maker, block: usize) {
-    let blocks = maker.blocks();
+/// Puts entries into the empty slots of a log block.
+fn fill_up(maker: &mut Maker, block: usize) {
     for place in place_of(block, FIRST_SLOT)..place_of(block, END_SLOT) {
         if maker.bench.image[place] == 0 {
-            let word = lawful_entry(&mut maker.random, blocks);
-            maker.say(&format!("set {place} {word}"));
+            put_entry(maker, place);
         }
     }
+}
+
+/// Makes any block a full log block.
+fn make_full(maker: &mut Maker, block: usize) {
+    for place in place_of(block, FIRST_SLOT)..place_of(block, END_SLOT) {
+        put_entry(maker, place);
+    }
+}
+
+fn put_entry(maker: &mut Maker, place: usize) {
+    let blocks = maker.blocks();
+    let word = lawful_entry(&mut maker.random, blocks);
+    maker.say(&format!("set {place} {word}"));
 }
 
 /// A full log block leads back to one before it or to itself, under points that write
@@ -297,7 +308,7 @@ fn circle(maker: &mut Maker) {
     let last = maker.random.below(chain.len());
     let first = maker.random.between(0, last);
     for &block in &chain[first..=last] {
-        fill_log_block(maker, block);
+        fill_up(maker, block);
     }
     let place = place_of(chain[last], 0);
     let old = maker.bench.image[place];
@@ -358,16 +369,11 @@ fn round_trip(maker: &mut Maker) {
         let next = ring[(i + 1) % ring.len()];
         maker.say(&format!("set {} {next}", place_of(block, 0)));
         if block != 1 {
-            maker.say(&format!("set {} 0", place_of(block, 1)));
-            for place in place_of(block, FIRST_SLOT)..place_of(block, END_SLOT) {
-                let word = lawful_entry(&mut maker.random, blocks);
-                maker.say(&format!("set {place} {word}"));
-            }
+            make_full(maker, block);
         }
     }
-    let is_endless = maker.random.once_in(4);
-    if is_endless {
-        fill_log_block(maker, 1);
+    if maker.random.once_in(4) {
+        fill_up(maker, 1);
     }
     for p in [0, 31] {
         maker.say(&format!("alter {p} slot 64"));
@@ -386,7 +392,7 @@ pub fn lengthen(maker: &mut Maker) {
     let Some(mut last) = maker.last_of_64() else { return };
     let shared = maker.bench.shared.clone();
     let free: Vec<usize> = (1..maker.blocks()).filter(|&b| !shared.is_taken(b)).collect();
-    fill_log_block(maker, last);
+    fill_up(maker, last);
     for &block in free.iter().rev().take(maker.random.between(2, 4)) {
         if !maker.has_room() {
             return;
@@ -396,11 +402,7 @@ pub fn lengthen(maker: &mut Maker) {
         maker.say(&format!("set {} 0", place_of(block, FIRST_SLOT)));
         maker.say(&format!("set {} {block}", place_of(last, 0)));
         enter(maker);
-        let blocks = maker.blocks();
-        for place in place_of(block, FIRST_SLOT)..place_of(block, END_SLOT) {
-            let word = lawful_entry(&mut maker.random, blocks);
-            maker.say(&format!("set {place} {word}"));
-        }
+        make_full(maker, block);
         last = block;
     }
     enter(maker);
