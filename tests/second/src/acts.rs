@@ -1,5 +1,6 @@
 //! Single acts of a random script, and small scenes of several points.
 
+use crate::forge::{forge, Forged, Plan};
 use crate::image::*;
 use crate::maker::Maker;
 use crate::random::Random;
@@ -281,5 +282,32 @@ pub fn laid_out(maker: &mut Maker, blocks: usize) {
     }
     maker.say("layout");
     maker.say("open 1024");
+    join_some(maker);
+}
+
+/// A forged image, not yet opened.
+pub fn put(maker: &mut Maker, forged: &Forged) {
+    for line in forged.lines() {
+        maker.say(&line);
+    }
+}
+
+/// An opened image whose log has a few slots left in its last block, and some points
+/// joined.
+pub fn open_nearly_full(maker: &mut Maker) {
+    let full = maker.random.below(4);
+    let blocks = maker.random.between(full + 8, 80);
+    let plan = Plan {
+        blocks,
+        full,
+        more: Some(maker.random.between(50, 61)),
+        spare: maker.random.between(1, 20),
+        reach: *maker.random.pick(&[3, 6, 20, 256]),
+        used: 512,
+    };
+    let forged = forge(&mut maker.random, plan);
+    put(maker, &forged);
+    maker.say("open 1024");
+    join_some(maker);
     join_some(maker);
 }

@@ -10,6 +10,7 @@ use crate::reading::begin_read;
 use crate::reads::*;
 use crate::record::*;
 use crate::refusal::Refusal;
+use crate::reports::*;
 use crate::searches::*;
 use crate::step::{step, Answer};
 use crate::tally::Tally;
@@ -20,13 +21,13 @@ pub const MOST_INPUT: usize = 262_144;
 /// "An image of 0 to 65,600 words"
 pub const MOST_WORDS: u64 = 65_600;
 /// The largest number below 2^32.
-const MOST_32: u64 = 0xFFFF_FFFF;
+pub const MOST_32: u64 = 0xFFFF_FFFF;
 
 /// Every command.
-pub const COMMANDS: [&str; 27] = [
+pub const COMMANDS: [&str; 28] = [
     "image", "noise", "set", "word", "layout", "open", "cut", "join", "joinas", "begin", "step",
     "leave", "read", "show", "locate", "view", "record", "shared", "alter", "table", "text",
-    "altershared", "map", "copy", "digest", "free", "beginread",
+    "altershared", "map", "copy", "digest", "free", "beginread", "report",
 ];
 
 /// "What the bench holds", and a tally of what was answered.
@@ -120,30 +121,6 @@ impl Bench {
         }
     }
 
-    /// The commands that alter records.
-    fn alter_command(&mut self, words: &[&[u8]]) -> Option<String> {
-        match words {
-            [b"alter", p, f, v] => self.alter(point(p)?, f, v)?,
-            [b"table", p, i, v] => {
-                let (p, i, v) = (point(p)?, at_most(i, 255)?, at_most(v, 65_535)?);
-                self.records[p].view.table[i] = v as u16;
-            }
-            [b"text", p, i, v] => {
-                let (p, i, v) = (point(p)?, at_most(i, 1_023)?, at_most(v, 255)?);
-                self.records[p].write.text[i] = v as u8;
-            }
-            [b"altershared", f, v] => self.alter_shared(f, at_most(v, MOST_32)?)?,
-            [b"map", i, v] => self.shared.map[at_most(i, 15)?] = number(v)?,
-            [b"copy", p, q] => {
-                let (p, q) = (point(p)?, point(q)?);
-                self.records[q] = self.records[p].clone();
-                return Some("copied".to_string());
-            }
-            _ => return None,
-        }
-        Some("altered".to_string())
-    }
-
     fn forget(&mut self) {
         self.shared = Shared::zero();
         self.records = vec![Record::zero(); 32];
@@ -176,6 +153,9 @@ impl Bench {
 
     fn refused(&mut self, call: &str, why: Refusal) -> String {
         self.tally.refused(call, why.number());
+        if why == Refusal::SharedUnfit {
+            self.tally.events(&unfit_shared_events(&self.shared, self.image.len()));
+        }
         format!("refused {}", why.number())
     }
 
@@ -215,6 +195,7 @@ impl Bench {
         Some(match calls::join(&self.image, &self.shared, number) {
             Ok((shared, record)) => {
                 self.tally.count(call, "joined");
+                self.count_report("joining", number, number, &shared);
                 self.shared = shared;
                 self.records[number] = record;
                 "joined".to_string()
@@ -229,7 +210,9 @@ impl Bench {
         Some(match calls::begin(&self.image, &self.shared, &before, offset, &text) {
             Ok((shared, record)) => {
                 self.tally.count("begin", "begun");
-                self.begin_events(&record);
+                self.tally.events(&found_events(&self.shared, record.write.span()));
+                self.tally.events(&caught_events(&self.image, &before.view));
+                self.count_report("a write's beginning", p, before.number, &shared);
                 let run = record.write.run;
                 self.shared = shared;
                 self.records[p] = record;
@@ -237,32 +220,28 @@ impl Bench {
             }
             Err(why) => {
                 if why == Refusal::LogBroken {
-                    self.broken_event(&before);
+                    self.broken_event(&before, "a write's beginning");
                 }
                 self.refusal_events(why, &before, false);
                 if why == Refusal::NoRun {
                     let write = Write { offset, text_length: length, ..Write::idle() };
                     self.tally.events(&no_run_events(&self.shared, write.span()));
+                    self.count_private(p, "19");
                 }
                 self.refused("begin", why)
             }
         })
     }
 
-    /// While the shared record is still the one handed in.
-    fn begin_events(&mut self, record: &Record) {
-        if record.view.passed == 64 {
-            self.tally.event("begun in a caught-up chain of 64");
-        }
-        self.tally.events(&found_events(&self.shared, record.write.span()));
-    }
-
     fn begin_read(&mut self, p: usize, offset: usize, length: usize) -> Option<String> {
         let before = self.records[p].clone();
         Some(match begin_read(&self.image, &self.shared, &before, offset, length) {
-            Ok(record) => {
+            Ok((shared, record)) => {
                 self.tally.count("beginread", "begun");
                 self.tally.events(&begun_events(&before, &record));
+                self.tally.events(&caught_events(&self.image, &before.view));
+                self.count_report("a read's beginning", p, before.number, &shared);
+                self.shared = shared;
                 self.records[p] = record;
                 "begun".to_string()
             }
@@ -278,7 +257,7 @@ impl Bench {
         match why {
             Refusal::RecordUnfit => self.tally.events(&unfit_events(record, self.shared.blocks)),
             Refusal::WrongMoment => self.tally.events(&busy_events(record, begins_read)),
-            Refusal::LogBroken if begins_read => self.broken_event(record),
+            Refusal::LogBroken if begins_read => self.broken_event(record, "a read's beginning"),
             _ => {}
         }
     }
@@ -311,6 +290,7 @@ impl Bench {
         let before = self.records[p].clone();
         let (answer, shared, record) = step(&mut self.image, &self.shared, &before);
         self.step_events(&answer, &before, &record);
+        self.count_standing(p, &answer, &before, &shared);
         self.shared = shared;
         self.records[p] = record;
         answer
@@ -340,6 +320,7 @@ impl Bench {
             }
             Answer::Read(bytes) => {
                 self.tally.count("step", "read");
+                self.tally.events(&caught_events(&self.image, &before.view));
                 self.tally.events(&ended_events(&self.image, before, bytes));
             }
             Answer::Committed(retries) => {
@@ -347,8 +328,8 @@ impl Bench {
                 if *retries > 0 {
                     self.tally.event("committed after moved");
                 }
-                if after.view.passed == 64 {
-                    self.tally.event("committed in the 64th log block");
+                if self.shared.is_chain_full() {
+                    self.tally.event("committed, chain length 64");
                 }
             }
             Answer::Refused(why) => self.refused_step_events(*why, before),
@@ -356,7 +337,7 @@ impl Bench {
     }
 
     fn refused_step_events(&mut self, why: Refusal, before: &Record) {
-        self.tally.refused("step", why.number());
+        self.refused("step", why);
         match why {
             Refusal::LogFull => self.tally.event("20 after work"),
             Refusal::NoLogBlock => {
@@ -364,9 +345,11 @@ impl Bench {
                 self.tally.events(&no_log_block_events(&self.shared));
             }
             Refusal::LogBroken => {
-                self.broken_event(before);
                 if before.write.phase == Phase::Reading {
+                    self.broken_event(before, "a read's final step");
                     self.tally.events(&broken_read_events(&self.image, before));
+                } else {
+                    self.broken_event(before, "a write's step");
                 }
             }
             _ => self.refusal_events(why, before, false),
@@ -378,6 +361,7 @@ impl Bench {
             self.tally.event("moved by a lost link");
             return;
         }
+        self.tally.events(&caught_events(&self.image, &before.view));
         if before.write.phase == Phase::Reading {
             self.tally.events(&read_moved_events(&self.image, before));
             return;
@@ -393,12 +377,12 @@ impl Bench {
         }
     }
 
-    /// Counts by what catching up meets 18.
-    fn broken_event(&mut self, record: &Record) {
+    /// Counts by what catching up meets 18, and at what.
+    fn broken_event(&mut self, record: &Record, at: &str) {
         match catch_up(&self.image, &record.view) {
             Err(Broken::Entry) => self.tally.event("18 by an entry"),
             Err(Broken::Next) => self.tally.event("18 by a next index"),
-            Err(Broken::TooLong) => self.tally.event("18 by a 65th log block"),
+            Err(Broken::TooLong) => self.tally.event(&format!("18 by a circle at {at}")),
             Ok(_) => {}
         }
     }
@@ -407,6 +391,7 @@ impl Bench {
         Some(match calls::leave(&self.image, &self.shared, &self.records[p]) {
             Ok(shared) => {
                 self.tally.count("leave", "left");
+                self.count_report("leaving", p, self.records[p].number, &shared);
                 self.tally.events(&left_events(&self.shared, &self.records[p]));
                 match self.records[p].write.phase {
                     Phase::Idle | Phase::Reading => {}
@@ -427,10 +412,10 @@ impl Bench {
         let answer = match calls::read(&self.image, &self.shared, record, offset, &mut buffer) {
             Ok(count) => {
                 self.tally.count("read", "read");
-                self.meanwhile(p, "read at once while reading");
+                self.at_once(p, "read at once while reading");
                 format!("read {count}")
             }
-            Err(why) => self.refused("read", why),
+            Err(why) => self.refused_at_once("read", p, why),
         };
         Some(format!("{answer} digest {}", digest_bytes(&buffer)))
     }
@@ -441,12 +426,12 @@ impl Bench {
         Some(match calls::read(&self.image, &self.shared, record, offset, &mut buffer) {
             Ok(count) => {
                 self.tally.count("show", "show");
-                self.meanwhile(p, "shown while reading");
+                self.at_once(p, "shown while reading");
                 let bytes: Vec<String> =
                     buffer[..count].iter().map(|byte| format!("{byte:02x}")).collect();
                 format!("show {}", bytes.concat()).trim_end().to_string()
             }
-            Err(why) => self.refused("show", why),
+            Err(why) => self.refused_at_once("show", p, why),
         })
     }
 
@@ -454,10 +439,10 @@ impl Bench {
         Some(match calls::locate(&self.image, &self.shared, &self.records[p], v) {
             Ok(block) => {
                 self.tally.count("locate", "located");
-                self.meanwhile(p, "located while reading");
+                self.at_once(p, "located while reading");
                 format!("located {block}")
             }
-            Err(why) => self.refused("locate", why),
+            Err(why) => self.refused_at_once("locate", p, why),
         })
     }
 
@@ -465,24 +450,35 @@ impl Bench {
         let located = calls::locate(&self.image, &self.shared, &self.records[p], v);
         let part = calls::view(&self.image, &self.shared, &self.records[p], v);
         let place = (part.as_ptr() as usize - self.image.as_ptr() as usize) / 8;
+        let (is_empty, digest) = (part.is_empty(), digest_words(part));
         if let Err(why) = located {
-            self.tally.refused("view", why.number());
+            self.refused_at_once("view", p, why);
         }
-        if part.is_empty() {
+        if is_empty {
             self.tally.count("view", "empty");
             return Some("view empty".to_string());
         }
         self.tally.count("view", "view");
-        let answer = format!("view {place} digest {}", digest_words(part));
-        self.meanwhile(p, "viewed while reading");
-        Some(answer)
+        self.at_once(p, "viewed while reading");
+        Some(format!("view {place} digest {digest}"))
     }
 
-    /// Counts the event where place P's record has a read under way.
-    fn meanwhile(&mut self, p: usize, event: &str) {
+    /// A call that catches up privately; the event where place P's record has a read
+    /// under way.
+    fn at_once(&mut self, p: usize, event: &str) {
         if self.records[p].write.phase == Phase::Reading {
             self.tally.event(event);
         }
+        self.count_private(p, "a call at once");
+    }
+
+    /// The same, refused.
+    fn refused_at_once(&mut self, call: &str, p: usize, why: Refusal) -> String {
+        if why == Refusal::LogBroken {
+            let record = self.records[p].clone();
+            self.broken_event(&record, "a call at once");
+        }
+        self.refused(call, why)
     }
 
     fn record(&self, p: usize) -> Option<String> {
@@ -492,7 +488,6 @@ impl Bench {
             view.length as u64,
             view.block as u64,
             view.slot as u64,
-            view.passed as u64,
             write.phase.number(),
             write.offset as u64,
             write.text_length as u64,
@@ -507,8 +502,10 @@ impl Bench {
     }
 
     fn show_shared(&self) -> Option<String> {
-        let Shared { blocks, joined, map } = &self.shared;
-        Some(format!("shared {blocks} {joined} {}", digest_words(map)))
+        let Shared { blocks, joined, map, chain, reports } = &self.shared;
+        let map = digest_words(map);
+        let reports = digest_words(&reports.map(|block| block as u64));
+        Some(format!("shared {blocks} {joined} {map} {chain} {reports}"))
     }
 
     /// "the count of blocks below the shared record's block count (at most
@@ -519,39 +516,10 @@ impl Bench {
         Some(format!("free {free}"))
     }
 
-    fn alter(&mut self, p: usize, field: &[u8], word: &[u8]) -> Option<()> {
-        let value = at_most(word, MOST_32)?;
-        let record = &mut self.records[p];
-        match field {
-            b"number" => record.number = value,
-            b"length" => record.view.length = value,
-            b"block" => record.view.block = value,
-            b"slot" => record.view.slot = value,
-            b"passed" => record.view.passed = value,
-            b"offset" => record.write.offset = value,
-            b"textlength" => record.write.text_length = value,
-            b"run" => record.write.run = value,
-            b"position" => record.write.position = value,
-            b"zeroing" => record.write.zeroing = value,
-            b"retries" => record.write.retries = u16::try_from(value).ok()?,
-            b"phase" => record.write.phase = Phase::from_number(value as u64)?,
-            _ => return None,
-        }
-        Some(())
-    }
-
-    fn alter_shared(&mut self, field: &[u8], value: usize) -> Option<()> {
-        match field {
-            b"blocks" => self.shared.blocks = value,
-            b"joined" => self.shared.joined = value as u32,
-            _ => return None,
-        }
-        Some(())
-    }
 }
 
 /// "P is a number from 0 to 31"
-fn point(word: &[u8]) -> Option<usize> {
+pub fn point(word: &[u8]) -> Option<usize> {
     at_most(word, 31)
 }
 

@@ -1,5 +1,6 @@
 //! Document 01: joining, beginning, leaving, reading, locating, viewing. A
-//! call that is refused leaves everything as handed in.
+//! call that is refused leaves everything as handed in. Document 02, K4: "Every call
+//! that joins, catches up for good, links or leaves" reports where the point stands.
 
 use crate::image::*;
 use crate::log::{catch_up, Broken, Caught};
@@ -31,6 +32,7 @@ pub fn join(image: &[u64], shared: &Shared, number: usize) -> Result<(Shared, Re
     refuse(first == 0 || first >= shared.blocks as u64, Refusal::LogBroken)?;
     let mut after = shared.clone();
     after.joined |= 1 << number;
+    after.report(number, first as usize);
     Ok((after, Record::new(number, first as usize)))
 }
 
@@ -53,13 +55,14 @@ pub fn begin(
     write.text[..text.len()].copy_from_slice(text);
     write.text_length = text.len();
     write.phase = Phase::Filling;
-    let (run, after) = take_run(shared, write.span()).ok_or(Refusal::NoRun)?;
+    let (run, mut after) = take_run(shared, write.span()).ok_or(Refusal::NoRun)?;
     write.run = run;
+    after.report(record.number, caught.view.block);
     Ok((after, Record { number: record.number, view: caught.view, write }))
 }
 
 /// Frees what a point of this record holds.
-fn free_held(shared: &mut Shared, write: &Write) {
+pub fn free_held(shared: &mut Shared, write: &Write) {
     if write.holds_run() {
         free_run(shared, write.run, write.span());
     }
@@ -75,6 +78,7 @@ pub fn leave(image: &[u64], shared: &Shared, record: &Record) -> Result<Shared, 
     let mut after = shared.clone();
     free_held(&mut after, &record.write);
     after.joined &= !(1 << record.number);
+    after.report(record.number, 0);
     Ok(after)
 }
 

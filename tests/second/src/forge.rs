@@ -360,3 +360,17 @@ pub fn plan_with(random: &mut Random, blocks: usize, full: usize) -> Plan {
         used: *random.pick(&[512, 512, 511, 300, 8]),
     }
 }
+
+/// Any entry of up to three blocks that keeps the rules.
+pub fn lawful_entry(random: &mut Random, blocks: usize) -> u64 {
+    let n = random.between(1, 3.min(blocks - 1));
+    let entry = Entry {
+        v: random.below(8),
+        b: random.between(1, blocks - n),
+        n,
+        u: random.between(1, 512),
+        point: random.below(32),
+        rest: 0,
+    };
+    entry.pack()
+}

@@ -3,6 +3,8 @@
 //! as directly as it can be.
 
 pub mod acts;
+pub mod alter;
+pub mod alterations;
 pub mod bench;
 pub mod book;
 pub mod calls;
@@ -24,10 +26,12 @@ pub mod reading;
 pub mod reads;
 pub mod record;
 pub mod refusal;
+pub mod reports;
 pub mod scripts;
 pub mod searches;
 pub mod small;
 pub mod smalls;
+pub mod standing;
 pub mod step;
 pub mod tally;
 pub mod words;

@@ -1,5 +1,5 @@
 //! Document 01: catching up, "applies all entries from the log place to the
-//! tail, passing into next blocks".
+//! tail, passing into next blocks". Document 02, K4, sets the limit of the blocks.
 
 use crate::image::*;
 use crate::record::View;
@@ -11,15 +11,17 @@ pub enum Broken {
     Entry,
     /// "a next index is not below the block count"
     Next,
-    /// "a 65th log block would be entered"
+    /// "entering more log blocks than the image has blocks"
     TooLong,
 }
 
-/// A view at the tail and the entries that brought it there.
+/// A view at the tail, the entries that brought it there and the count of log
+/// blocks that were entered on the way.
 #[derive(Clone, Debug, PartialEq, Eq)]
 pub struct Caught {
     pub view: View,
     pub entries: Vec<Entry>,
+    pub entered: usize,
 }
 
 /// Whether the view moved on by one entry or one log block, or is at the tail.
@@ -67,12 +69,8 @@ impl View {
         if next >= blocks as u64 {
             return Err(Broken::Next);
         }
-        if self.passed >= MOST_LOG_BLOCKS {
-            return Err(Broken::TooLong);
-        }
         self.block = next as usize;
         self.slot = FIRST_SLOT;
-        self.passed += 1;
         Ok(Moved::Block)
     }
 }
@@ -81,11 +79,13 @@ impl View {
 pub fn catch_up(image: &[u64], view: &View) -> Result<Caught, Broken> {
     let mut view = view.clone();
     let mut entries = Vec::new();
-    loop {
+    let mut entered = 0;
+    while entered <= block_count(image) {
         match view.advance(image)? {
             Moved::Entry(entry) => entries.push(entry),
-            Moved::Block => {}
-            Moved::Tail => return Ok(Caught { view, entries }),
+            Moved::Block => entered += 1,
+            Moved::Tail => return Ok(Caught { view, entries, entered }),
         }
     }
+    Err(Broken::TooLong)
 }

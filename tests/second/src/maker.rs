@@ -19,9 +19,16 @@ impl Maker {
     }
 
     /// Adds a line, unless the script would become too long; answers what the
-    /// bench writes.
+    /// bench writes. Often the shared record is shown where a report or the chain length
+    /// has changed.
     pub fn say(&mut self, line: &str) -> String {
-        self.say_raw(line.as_bytes())
+        let (chain, reports) = (self.bench.shared.chain, self.bench.shared.reports);
+        let output = self.say_raw(line.as_bytes());
+        let after = &self.bench.shared;
+        if (after.chain != chain || after.reports != reports) && self.random.once_in(2) {
+            self.say_raw(b"shared");
+        }
+        output
     }
 
     pub fn say_raw(&mut self, line: &[u8]) -> String {
@@ -74,10 +81,9 @@ impl Maker {
         }
     }
 
-    /// The log block where a joined point stands with 64 log blocks passed.
+    /// The 64th log block, where the chain has one.
     pub fn last_of_64(&self) -> Option<usize> {
-        let views = self.bench.records.iter().map(|record| &record.view);
-        views.filter(|view| view.passed == 64).map(|view| view.block).next()
+        self.chain_met().get(63).copied()
     }
 
     /// The log blocks that can be followed from the superblock, at most 64.

@@ -9,7 +9,7 @@ const PLACE: u64 = u64::MAX - 1;
 
 /// Each command with the greatest value of each of its numbers; u64::MAX where
 /// any number is allowed, 0 for a field's name.
-const SHAPES: [(&str, &[u64]); 27] = [
+const SHAPES: [(&str, &[u64]); 28] = [
     ("image", &[65_600]),
     ("noise", &[PLACE, PLACE, u64::MAX]),
     ("set", &[PLACE, u64::MAX]),
@@ -34,15 +34,18 @@ const SHAPES: [(&str, &[u64]); 27] = [
     ("text", &[31, 1_023, 255]),
     ("altershared", &[0, 0xFFFF_FFFF]),
     ("map", &[15, u64::MAX]),
+    ("report", &[31, 0xFFFF_FFFF]),
     ("copy", &[31, 31]),
     ("digest", &[]),
     ("free", &[]),
 ];
 
-/// Fields of both records, and words that are none; `next` is none since K2.
-const FIELDS: [&str; 18] = [
+/// Fields of both records, and words that are none; `next` is none since K2, `passed`
+/// since K4.
+const FIELDS: [&str; 20] = [
     "number", "length", "block", "slot", "passed", "offset", "textlength", "run", "position",
-    "zeroing", "retries", "phase", "blocks", "joined", "next", "table", "Number", "",
+    "zeroing", "retries", "phase", "blocks", "joined", "next", "chain", "table", "Number", "report",
+    "",
 ];
 
 /// Words that are no numbers, or numbers at the border of 2^64 and 20 digits.
@@ -147,6 +150,8 @@ pub fn a_line(random: &mut Random, places: usize) -> Vec<u8> {
         9 => line.extend(b" # no remark"),
         // "The next place goes from the shared record": no field any more.
         10 => line = format!("altershared next {}", random.below(8)).into_bytes(),
+        // "The log blocks passed go from the point's record": neither.
+        11 => line = format!("alter {} passed {}", random.below(32), random.below(66)).into_bytes(),
         _ => {}
     }
     line

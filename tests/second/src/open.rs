@@ -185,7 +185,8 @@ pub fn open(image: &[u64], scratch: &mut [u16]) -> Result<Opened, Refusal> {
     };
     let marks = shown.marks();
     scratch[..MOST_BLOCKS].copy_from_slice(&marks);
-    let mut shared = Shared { blocks: block_count(image), map: [0; 16], joined: 0 };
+    let (blocks, chain) = (block_count(image), shown.chain.len());
+    let mut shared = Shared { blocks, chain, ..Shared::zero() };
     for block in (0..MOST_BLOCKS).filter(|&block| marks[block] != 0) {
         shared.take(block);
     }

@@ -194,23 +194,20 @@ pub fn break_under(maker: &mut Maker) {
 }
 
 /// The point leaves and joins: its record is altered no more.
-fn renew(maker: &mut Maker, p: usize) {
+pub fn renew(maker: &mut Maker, p: usize) {
     maker.say(&format!("leave {p}"));
     maker.say("shared");
     maker.say(&format!("join {p}"));
 }
 
 /// A word that the reader's final step meets first, and what it shall be: an
-/// entry that breaks the rules or covers many blocks, a next index that is too
-/// large, or a 65th log block.
+/// entry that breaks the rules or covers many blocks, or a next index, too large or
+/// not.
 fn a_break(maker: &mut Maker, p: usize) -> (usize, u64) {
     let blocks = maker.blocks();
     let kind = maker.random.below(4);
     if kind >= 2 {
         maker.say(&format!("alter {p} slot 64"));
-    }
-    if kind == 3 {
-        maker.say(&format!("alter {p} passed 64"));
     }
     let Record { view, write, .. } = maker.bench.records[p].clone();
     let random = &mut maker.random;
@@ -292,11 +289,10 @@ fn view_line(maker: &mut Maker, p: usize, length: usize) -> String {
     let blocks = maker.blocks();
     let random = &mut maker.random;
     let near = random.between(length.saturating_sub(600), length + 600);
-    match random.below(6) {
+    match random.below(5) {
         0 => format!("alter {p} slot {}", random.between(2, 64)),
         1 => format!("alter {p} block {}", random.between(1, blocks)),
-        2 => format!("alter {p} passed {}", random.between(1, 64)),
-        3 => format!("table {p} {} {}", random.below(4), random.below(blocks + 1)),
+        2 => format!("table {p} {} {}", random.below(4), random.below(blocks + 1)),
         _ => format!("alter {p} length {near}"),
     }
 }

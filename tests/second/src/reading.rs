@@ -1,5 +1,5 @@
 //! Document 02, K1, "Reading while the points write": a read taken in steps by
-//! a point. None of them stores.
+//! a point. None of them stores. K4: its beginning and its final step report.
 
 use crate::calls::ask;
 use crate::image::Entry;
@@ -23,23 +23,32 @@ pub fn begin_read(
     record: &Record,
     offset: usize,
     length: usize,
-) -> Result<Record, Refusal> {
+) -> Result<(Shared, Record), Refusal> {
     ask(image, shared, record)?;
     refuse(!record.is_idle(), Refusal::WrongMoment)?;
     refuse(!Write::is_text_length(length), Refusal::BadTextLength)?;
     refuse(!Write::is_inside(offset, length), Refusal::PastTheEnd)?;
     let caught = catch_up(image, &record.view)?;
-    Ok(Record::reading(record.number, caught.view, offset, length))
+    let mut after = shared.clone();
+    after.report(record.number, caught.view.block);
+    Ok((after, Record::reading(record.number, caught.view, offset, length)))
 }
 
-/// One step of a fitting record with a read under way: its answer and the
-/// record then.
-pub fn read_on(image: &[u64], record: &Record) -> Result<(Answer, Record), Refusal> {
+/// One step of a fitting record with a read under way: its answer and both
+/// records then.
+pub fn read_on(
+    image: &[u64],
+    shared: &Shared,
+    record: &Record,
+) -> Result<(Answer, Shared, Record), Refusal> {
     if record.write.position < record.write.range_words() {
-        Ok(copy(image, record))
-    } else {
-        end(image, record)
+        let (answer, after) = copy(image, record);
+        return Ok((answer, shared.clone(), after));
     }
+    let (answer, after) = end(image, record)?;
+    let mut shared = shared.clone();
+    shared.report(record.number, after.view.block);
+    Ok((answer, shared, after))
 }
 
 /// "a step copies the next 8-byte word that the range touches, as its block is
@@ -74,7 +83,7 @@ pub fn known_byte(image: &[u64], view: &View, place: usize) -> u8 {
 /// "a final step catch[es] up": Moved, "and the copy begins again", or "it
 /// answers the bytes and the point is idle".
 fn end(image: &[u64], record: &Record) -> Result<(Answer, Record), Refusal> {
-    let Caught { view, entries } = catch_up(image, &record.view)?;
+    let Caught { view, entries, .. } = catch_up(image, &record.view)?;
     let write = &record.write;
     if is_covered(write, &entries) || is_lengthened(record, &view) {
         let after = Record::reading(record.number, view, write.offset, write.text_length);

@@ -58,7 +58,7 @@ struct Final<'a> {
 impl Final<'_> {
     /// None where the final step is refused.
     fn new<'a>(image: &[u64], record: &'a Record) -> Option<Final<'a>> {
-        let Caught { view, entries } = catch_up(image, &record.view).ok()?;
+        let Caught { view, entries, .. } = catch_up(image, &record.view).ok()?;
         let first = record.write.first_block();
         let is_covered = |i: &usize| entries.iter().any(|entry| entry.covers(first + i));
         let covered = (0..record.write.span()).filter(is_covered).collect();
@@ -159,14 +159,13 @@ pub fn ended_events(image: &[u64], record: &Record, bytes: &[u8]) -> Vec<&'stati
     Final::new(image, record).map_or(Vec::new(), |step| step.ended(image, bytes))
 }
 
-/// The event of a final step that is refused by 18.
+/// The event of a final step that is refused by 18, but for a circle.
 pub fn broken_read_events(image: &[u64], record: &Record) -> Vec<&'static str> {
-    let Err(why) = catch_up(image, &record.view) else { return Vec::new() };
-    vec![match why {
-        Broken::Entry => "18 in a read's final step, by an entry",
-        Broken::Next => "18 in a read's final step, by a next index",
-        Broken::TooLong => "18 in a read's final step, by a 65th log block",
-    }]
+    let why = catch_up(image, &record.view).err();
+    happened(&[
+        (why == Some(Broken::Entry), "18 in a read's final step, by an entry"),
+        (why == Some(Broken::Next), "18 in a read's final step, by a next index"),
+    ])
 }
 
 /// The events of a record with a read under way that does not fit.

@@ -1,6 +1,7 @@
 //! Document 01, "The opened file": the shared record and the points' records.
 //! Document 02, K2: "The next place goes from the shared record and from 10." K1: a
-//! read under way stands in the write's fields.
+//! read under way stands in the write's fields. K4: the shared record says where each
+//! point stands, and "the log blocks passed go from the point's record and from 11".
 
 use crate::image::*;
 
@@ -12,17 +13,34 @@ pub struct Shared {
     pub map: [u64; 16],
     /// Bit p for point p.
     pub joined: u32,
+    /// "the length of the chain"
+    pub chain: usize,
+    /// "for each of the 32 points, the log block of its log place, 0 when not joined"
+    pub reports: [usize; 32],
 }
 
 impl Shared {
     /// What a refused opening answers.
     pub fn zero() -> Shared {
-        Shared { blocks: 0, map: [0; 16], joined: 0 }
+        Shared { blocks: 0, map: [0; 16], joined: 0, chain: 0, reports: [0; 32] }
     }
 
-    /// Refusal 10 with an image of that many words.
+    /// Not refusal 10 with an image of that many words.
     pub fn is_fit(&self, words: usize) -> bool {
-        is_block_count(self.blocks) && BLOCK_WORDS * self.blocks == words
+        is_block_count(self.blocks)
+            && BLOCK_WORDS * self.blocks == words
+            && self.reports.iter().all(|&block| block < self.blocks)
+            && (1..=MOST_LOG_BLOCKS).contains(&self.chain)
+    }
+
+    /// The point's log place is in that block from now on; 0 where it is not joined.
+    pub fn report(&mut self, number: usize, block: usize) {
+        self.reports[number] = block;
+    }
+
+    /// What 20 reads: "a chain length of 64".
+    pub fn is_chain_full(&self) -> bool {
+        self.chain == MOST_LOG_BLOCKS
     }
 
     /// A number above 31 is never joined.
@@ -90,7 +108,6 @@ pub struct View {
     pub length: usize,
     pub block: usize,
     pub slot: usize,
-    pub passed: usize,
 }
 
 /// "its write: offset, up to 1,024 bytes of text, first block of its run,
@@ -209,18 +226,17 @@ pub struct Record {
 impl Record {
     /// What a refused joining answers.
     pub fn zero() -> Record {
-        let view = View { table: [0; 256], length: 0, block: 0, slot: 0, passed: 0 };
+        let view = View { table: [0; 256], length: 0, block: 0, slot: 0 };
         Record { number: 0, view, write: Write::idle() }
     }
 
     /// "A new record is idle with length 0, its log place at slot 2 of the
-    /// first log block, one passed."
+    /// first log block"
     pub fn new(number: usize, first_log_block: usize) -> Record {
         let mut record = Record::zero();
         record.number = number;
         record.view.block = first_log_block;
         record.view.slot = FIRST_SLOT;
-        record.view.passed = 1;
         record
     }
 
@@ -241,7 +257,6 @@ impl View {
     fn fits(&self, blocks: usize) -> bool {
         (1..blocks).contains(&self.block)
             && (FIRST_SLOT..=END_SLOT).contains(&self.slot)
-            && (1..=MOST_LOG_BLOCKS).contains(&self.passed)
             && self.table.iter().all(|&b| usize::from(b) < blocks)
             && self.length <= FILE_BYTES
     }
@@ -262,15 +277,13 @@ impl Write {
     }
 
     /// "the position is at most the run's words, or 64 in zeroing, which
-    /// needs slot 64 and under 64 passed"; in reading "position at most the
-    /// touched words"
+    /// needs slot 64"; in reading "position at most the touched words"
     fn position_fits(&self, blocks: usize, view: &View) -> bool {
         match self.phase {
             Phase::Zeroing => {
                 (1..blocks).contains(&self.zeroing)
                     && self.position <= BLOCK_WORDS
                     && view.slot == END_SLOT
-                    && view.passed < MOST_LOG_BLOCKS
             }
             Phase::Reading => self.position <= self.range_words(),
             _ => self.position <= self.run_words(),

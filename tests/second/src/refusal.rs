@@ -1,5 +1,6 @@
 //! Document 01, "Why a call is turned down". Document 02, K1: "11, 15, 16 and 17 now
-//! speak of reads too."
+//! speak of reads too." K4: 10 looks at reports and chain length, 20 reads the chain
+//! length, 18 has another limit.
 
 /// The reasons, in the order and with the numbers of document 01.
 #[derive(Clone, Copy, Debug, PartialEq, Eq, PartialOrd, Ord)]
@@ -42,7 +43,7 @@ pub enum Refusal {
     LogBroken = 18,
     /// 19: "no run of that many free blocks from block 1 on exists"
     NoRun = 19,
-    /// 20: "64 log blocks are full"
+    /// 20: "reads a chain length of 64", where no next index is there
     LogFull = 20,
     /// 21: "a log block is needed and none from 1 on is free"
     NoLogBlock = 21,

@@ -1,15 +1,17 @@
 //! Random scripts of several kinds.
 
 use crate::acts::*;
+use crate::alterations::*;
 use crate::forge::*;
 use crate::image::*;
 use crate::maker::Maker;
 use crate::maps::a_map;
 use crate::random::Random;
 use crate::readers::*;
+use crate::standing::*;
 
 /// The kinds of scripts.
-pub const KINDS: [&str; 12] = [
+pub const KINDS: [&str; 13] = [
     "ordinary work",
     "nearly full log",
     "nearly full image",
@@ -22,6 +24,7 @@ pub const KINDS: [&str; 12] = [
     "mixed",
     "stretches",
     "reads",
+    "standing",
 ];
 
 /// A script of a kind.
@@ -40,7 +43,8 @@ pub fn make(random: Random, kind: usize) -> Vec<u8> {
         8 => openings(&mut maker),
         9 => mixed(&mut maker, lines),
         10 => stretches(&mut maker, lines),
-        _ => reads(&mut maker, lines),
+        11 => reads(&mut maker, lines),
+        _ => standing(&mut maker, lines),
     }
     look_at_all(&mut maker);
     maker.script
@@ -57,12 +61,6 @@ fn look_at_all(maker: &mut Maker) {
     maker.say("shared");
     maker.say("free");
     maker.say("digest");
-}
-
-fn put(maker: &mut Maker, forged: &Forged) {
-    for line in forged.lines() {
-        maker.say(&line);
-    }
 }
 
 fn ordinary(maker: &mut Maker, lines: usize) {
@@ -83,25 +81,6 @@ fn nearly_full_log(maker: &mut Maker, lines: usize) {
         race_to_extend(maker);
         conflict(maker);
     }
-}
-
-/// An opened image with such a log, and some points joined.
-fn open_nearly_full(maker: &mut Maker) {
-    let full = maker.random.below(4);
-    let blocks = maker.random.between(full + 8, 80);
-    let plan = Plan {
-        blocks,
-        full,
-        more: Some(maker.random.between(50, 61)),
-        spare: maker.random.between(1, 20),
-        reach: *maker.random.pick(&[3, 6, 20, 256]),
-        used: 512,
-    };
-    let forged = forge(&mut maker.random, plan);
-    put(maker, &forged);
-    maker.say("open 1024");
-    join_some(maker);
-    join_some(maker);
 }
 
 fn nearly_full_image(maker: &mut Maker, lines: usize) {
@@ -150,14 +129,29 @@ fn full_chains(maker: &mut Maker, lines: usize) {
         conflict(maker);
         works(maker, 10);
     }
-    // "a 65th log block would be entered"
-    let last = maker.last_of_64();
-    if let Some(block) = last {
-        let next = maker.random.between(1, blocks - 1);
-        maker.say(&format!("set {} {next}", place_of(block, 0)));
-        works(maker, 30);
-        cut_and_open(maker);
+    past_64(maker);
+}
+
+/// The chain goes on after its 64th log block: by hand, by a chain length that says
+/// less than there are, or back into the chain.
+fn past_64(maker: &mut Maker) {
+    let Some(block) = maker.last_of_64() else { return };
+    match maker.random.below(3) {
+        0 => lengthen(maker),
+        1 => {
+            let length = maker.random.between(1, 63);
+            maker.say(&format!("altershared chain {length}"));
+            for _ in 0..4 {
+                race_to_extend(maker);
+            }
+        }
+        _ => {
+            let next = maker.random.between(1, maker.blocks() - 1);
+            maker.say(&format!("set {} {next}", place_of(block, 0)));
+        }
     }
+    works(maker, 30);
+    cut_and_open(maker);
 }
 
 /// Words of superblock, chain, entries, data and the last block's end change
@@ -220,143 +214,6 @@ fn harm(maker: &mut Maker) {
         _ => format!("set {} {}", maker.random.below(words), maker.random.below(3)),
     };
     maker.say(&line);
-}
-
-fn lawful_entry(random: &mut Random, blocks: usize) -> u64 {
-    let n = random.between(1, 3.min(blocks - 1));
-    let entry = Entry {
-        v: random.below(8),
-        b: random.between(1, blocks - n),
-        n,
-        u: random.between(1, 512),
-        point: random.below(32),
-        rest: 0,
-    };
-    entry.pack()
-}
-
-/// Records and the shared record changed by hand, then calls.
-fn altered(maker: &mut Maker, lines: usize) {
-    let plan = any_plan(&mut maker.random, 40);
-    let forged = forge(&mut maker.random, plan);
-    put(maker, &forged);
-    maker.say("open 1024");
-    join_some(maker);
-    join_some(maker);
-    for _ in 0..lines / 6 + 1 {
-        if !maker.has_room() {
-            return;
-        }
-        works(maker, 2);
-        let p = a_point(maker);
-        for _ in 0..maker.random.between(1, 3) {
-            alter_any(maker, p);
-        }
-        call_any(maker, p);
-        maker.say(&format!("record {p}"));
-        maker.say("shared");
-        digest_any(maker);
-        if maker.random.once_in(4) {
-            heal(maker, &forged);
-        }
-    }
-}
-
-/// One call of point p.
-fn call_any(maker: &mut Maker, p: usize) {
-    let o = an_offset(&mut maker.random);
-    let line = match maker.random.below(13) {
-        0..=5 => format!("step {p} {}", maker.random.pick(&[1, 1, 1, 2, 66, 130, 400])),
-        6 => format!("begin {p} {o} {} 3", a_length(&mut maker.random)),
-        7 => format!("leave {p}"),
-        8 => format!("read {p} {o} 600"),
-        9 => format!("show {p} {o} 30"),
-        10 => format!("locate {p} {}", maker.random.below(4)),
-        11 => begin_read_line(maker, p),
-        _ => format!("view {p} {}", maker.random.below(4)),
-    };
-    maker.say(&line);
-}
-
-/// Opens again, sometimes from the first image.
-fn heal(maker: &mut Maker, forged: &Forged) {
-    if maker.random.once_in(3) {
-        put(maker, forged);
-    }
-    maker.say("open 1024");
-    if maker.bench.shared.blocks == 0 {
-        maker.say("layout");
-        maker.say("open 1024");
-    }
-    join_some(maker);
-}
-
-const FIELDS: [&str; 12] = [
-    "number", "length", "block", "slot", "passed", "offset", "textlength", "run", "position",
-    "zeroing", "retries", "phase",
-];
-
-/// One alteration, mostly of point p's record.
-fn alter_any(maker: &mut Maker, p: usize) {
-    let border = a_border(maker);
-    let line = match maker.random.below(20) {
-        0 => format!("table {p} {} {border}", maker.random.below(256)),
-        1 => format!("table {p} {} {}", maker.random.below(4), maker.random.below(8)),
-        2 => format!("text {p} {} {}", maker.random.below(1_024), maker.random.below(256)),
-        3 => {
-            let field = *maker.random.pick(&["blocks", "joined"]);
-            format!("altershared {field} {border}")
-        }
-        4 => {
-            let blocks = maker.blocks();
-            let map = a_map(&mut maker.random, blocks);
-            let i = *maker.random.pick(&[0, 0, (blocks - 1) / 64]);
-            format!("map {i} {}", map[i])
-        }
-        5 => {
-            let any = maker.random.any();
-            let word = *maker.random.pick(&[0, u64::MAX, any]);
-            format!("map {} {word}", maker.random.below(16))
-        }
-        6 => format!("map 0 {}", u64::MAX),
-        7 => format!("copy {p} {}", maker.random.below(32)),
-        8 | 9 => format!("alter {p} phase {}", maker.random.below(7)),
-        10 => zeroing_scene(maker, p),
-        11 => format!("alter {p} position {}", maker.random.below(194)),
-        12 => format!("alter {p} {} {}", maker.random.pick(&FIELDS), maker.random.below(5)),
-        13 => write_scene(maker, p),
-        14 => format!("alter {p} number {}", maker.random.below(40)),
-        15 => read_scene(maker, p),
-        _ => format!("alter {p} {} {border}", maker.random.pick(&FIELDS)),
-    };
-    maker.say(&line);
-}
-
-/// Makes the record one that zeroes a log block, all but its last word.
-fn zeroing_scene(maker: &mut Maker, p: usize) -> String {
-    let blocks = maker.blocks();
-    let phase = *maker.random.pick(&[5, 5, 1, 2, 4]);
-    let zeroing = maker.random.between(1, blocks);
-    let passed = *maker.random.pick(&[1, 63, 63, 64]);
-    maker.say(&format!("alter {p} slot 64"));
-    maker.say(&format!("alter {p} phase {phase}"));
-    maker.say(&format!("alter {p} zeroing {zeroing}"));
-    maker.say(&format!("alter {p} passed {passed}"));
-    format!("alter {p} position {}", maker.random.between(60, 65))
-}
-
-/// Makes the record one with a write of some size.
-fn write_scene(maker: &mut Maker, p: usize) -> String {
-    let blocks = maker.blocks();
-    let phase = maker.random.between(1, 4);
-    let offset = an_offset(&mut maker.random);
-    let length = a_length(&mut maker.random);
-    let run = maker.random.between(1, blocks);
-    maker.say(&format!("alter {p} phase {phase}"));
-    maker.say(&format!("alter {p} offset {offset}"));
-    maker.say(&format!("alter {p} textlength {length}"));
-    maker.say(&format!("alter {p} run {run}"));
-    format!("alter {p} position {}", maker.random.below(194))
 }
 
 /// Two points, one block, every kind of edge.

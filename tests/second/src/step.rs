@@ -2,10 +2,10 @@
 //! image lent for reading only, which word gets which value, if any. A step of a
 //! read is in `reading`.
 
-use crate::calls::ask;
+use crate::calls::{ask, free_held};
 use crate::image::*;
 use crate::log::{catch_up, Caught};
-use crate::map::{free_run, take_run};
+use crate::map::take_run;
 use crate::reading::read_on;
 use crate::record::*;
 use crate::refusal::{refuse, Refusal};
@@ -68,8 +68,8 @@ pub fn settle(image: &[u64], shared: &Shared, record: &Record) -> Result<Settled
     ask(image, shared, record)?;
     refuse(record.is_idle(), Refusal::WrongMoment)?;
     if record.write.phase == Phase::Reading {
-        let (answer, after) = read_on(image, record)?;
-        return Ok(Settled::plain(answer, shared.clone(), after));
+        let (answer, shared, after) = read_on(image, shared, record)?;
+        return Ok(Settled::plain(answer, shared, after));
     }
     if record.write.phase == Phase::Zeroing {
         return Ok(zero(image, shared, record));
@@ -159,7 +159,7 @@ fn store_entry(shared: &Shared, record: &Record) -> Settled {
 /// "at slot 64 with no next index: take one block by the same search; answer
 /// Extending", or 20, or 21.
 fn extend(shared: &Shared, record: &Record) -> Settled {
-    if record.view.passed >= MOST_LOG_BLOCKS {
+    if shared.is_chain_full() {
         return give_up(shared, record, Refusal::LogFull);
     }
     match take_run(shared, 1) {
@@ -175,9 +175,10 @@ fn extend(shared: &Shared, record: &Record) -> Settled {
 }
 
 /// "20 and 21 end the write: its run is free, the point idle and caught up."
+/// 20 at the link "frees a zeroed block" too.
 fn give_up(shared: &Shared, record: &Record, why: Refusal) -> Settled {
     let mut shared = shared.clone();
-    free_run(&mut shared, record.write.run, record.write.span());
+    free_held(&mut shared, &record.write);
     let mut after = record.clone();
     after.write = Write::idle();
     Settled::plain(Answer::Refused(why), shared, after)
@@ -194,7 +195,9 @@ fn move_on(image: &[u64], shared: &Shared, record: &Record) -> Result<Settled, R
         _ => 0,
     };
     after.view = caught.view;
-    Ok(Settled::plain(Answer::Moved, shared.clone(), after))
+    let mut shared = shared.clone();
+    shared.report(record.number, after.view.block);
+    Ok(Settled::plain(Answer::Moved, shared, after))
 }
 
 /// "If a new entry covers edge blocks, their words with at least one copied
@@ -224,32 +227,47 @@ fn zero(image: &[u64], shared: &Shared, record: &Record) -> Settled {
         let place = place_of(record.write.zeroing, record.write.position);
         return Settled::storing(Answer::Stored, shared.clone(), after, place, 0);
     }
+    end_zeroing(image, shared, record)
+}
+
+/// The link, or 20. Where a next index is there "the block is given back", and the
+/// chain length is not looked at.
+fn end_zeroing(image: &[u64], shared: &Shared, record: &Record) -> Settled {
+    match (word_of(image, record.view.block, 0), shared.is_chain_full()) {
+        (0, true) => give_up(shared, record, Refusal::LogFull),
+        (0, false) => link(shared, record),
+        _ => lose_link(shared, record),
+    }
+}
+
+/// The record, done with zeroing: "committing goes on".
+fn zeroed(record: &Record) -> Record {
     let mut after = record.clone();
     after.write.zeroing = 0;
     after.write.phase = Phase::Filling;
     after.write.position = record.write.run_words();
-    if word_of(image, record.view.block, 0) == 0 {
-        link(shared, record, after)
-    } else {
-        lose_link(shared, record, after)
-    }
+    after
 }
 
 /// "stores its index as next and moves the log place to its slot 2"
-fn link(shared: &Shared, record: &Record, mut after: Record) -> Settled {
-    after.view.block = record.write.zeroing;
+fn link(shared: &Shared, record: &Record) -> Settled {
+    let block = record.write.zeroing;
+    let mut after = zeroed(record);
+    after.view.block = block;
     after.view.slot = FIRST_SLOT;
-    after.view.passed += 1;
+    let mut shared = shared.clone();
+    shared.chain += 1;
+    shared.report(record.number, block);
     let place = place_of(record.view.block, 0);
-    let value = record.write.zeroing as u64;
-    Settled::storing(Answer::Stored, shared.clone(), after, place, value)
+    Settled::storing(Answer::Stored, shared, after, place, block as u64)
 }
 
 /// "If a next index is there by then, the block is given back, nothing is
 /// stored or caught up, the answer is Moved and committing goes on."
-fn lose_link(shared: &Shared, record: &Record, mut after: Record) -> Settled {
+fn lose_link(shared: &Shared, record: &Record) -> Settled {
     let mut shared = shared.clone();
     shared.free(record.write.zeroing);
+    let mut after = zeroed(record);
     after.write.retries = after.write.retries.saturating_add(1);
     Settled::plain(Answer::Moved, shared, after)
 }

@@ -82,7 +82,8 @@ impl World {
         let changed = before.iter().zip(&self.image).filter(|(a, b)| a != b).count();
         must(changed <= 1, "a call changes at most one word")?;
         must(!is_of_read || changed == 0, "a read changes no word")?;
-        must(!is_of_read || shared == self.shared, "a read leaves the shared record")?;
+        let reported = Shared { reports: self.shared.reports, ..shared.clone() };
+        must(!is_of_read || reported == self.shared, "a read only reports")?;
         if let Some(why) = refused {
             must(changed == 0, "a refused call changes no word")?;
             let ends = matches!(why, Refusal::LogFull | Refusal::NoLogBlock);
@@ -170,10 +171,11 @@ impl World {
     ) -> Result<Option<Refusal>, String> {
         let (record, joined) = self.handed_in(p, record);
         match begin_read(&self.image, &self.shared, &record, offset, length) {
-            Ok(record) => {
+            Ok((shared, record)) => {
                 must(joined, "only a joined point begins")?;
                 self.tally.count("beginread", "begun");
                 self.moved[p] = 0;
+                self.shared = shared;
                 self.records[p] = Some(record);
                 Ok(None)
             }
@@ -190,6 +192,8 @@ impl World {
             self.refused("step", why, allowed)?;
             let ends = matches!(why, Refusal::LogFull | Refusal::NoLogBlock);
             must(ends || after == record, "a refused step leaves the record")?;
+            let is_link = record.write.phase == Phase::Zeroing;
+            must(!is_link || why != Refusal::LogFull, "20 never comes at the link")?;
         }
         must(joined || matches!(answer, Answer::Refused(_)), "only a joined point steps")?;
         if joined {
@@ -214,7 +218,12 @@ impl World {
         after: &Record,
     ) -> Result<(), String> {
         match answer {
-            Answer::Stored => self.tally.count("step", "stored"),
+            Answer::Stored => {
+                self.tally.count("step", "stored");
+                if before.view.block != after.view.block {
+                    self.tally.event("linked");
+                }
+            }
             Answer::Extending => self.tally.count("step", "extending"),
             Answer::Moved if before.write.phase == Phase::Reading => {
                 self.tally.count("step", "moved");
@@ -249,7 +258,8 @@ impl World {
         let Write { offset, text_length, .. } = before.write;
         let idle = Record { write: Write::idle(), ..before.clone() };
         let again = begin_read(&self.image, &self.shared, &idle, offset, text_length);
-        must(again.as_ref() == Ok(after), "a moved read is one that begins")
+        let (_, again) = again.map_err(|why| format!("begun again: {}", why.number()))?;
+        must(again == *after, "a moved read is one that begins")
     }
 
     /// "they are the file's as of that step, 0 past its end"
@@ -284,10 +294,26 @@ impl World {
         must(shown.file(&self.image) == self.book.file, "the bytes are the book's")?;
         must(shown.log == self.log, "the log is the old log and the entries committed")?;
         must(opened.entries == self.log.len(), "the count of log entries")?;
+        must(opened.shared.reports == [0; 32], "opening reports nothing")?;
+        must(opened.shared.chain == shown.chain.len(), "the chain length that opening answers")?;
+        self.check_standing(&shown.chain)?;
         for p in (0..32).filter(|&p| self.is_reading(p)) {
             self.records[p].as_ref().map_or(Ok(()), |record| self.check_copy(record))?;
         }
         self.check_map(&scratch)
+    }
+
+    /// "for each of the 32 points, the log block of its log place, 0 when not joined, and
+    /// the length of the chain". Each stands in the chain.
+    fn check_standing(&self, chain: &[usize]) -> Result<(), String> {
+        must(self.shared.chain == chain.len(), "the chain length")?;
+        for (p, newest) in self.records.iter().enumerate() {
+            let block = newest.as_ref().map_or(0, |record| record.view.block);
+            must(self.shared.has_joined(p) == newest.is_some(), "the joined points")?;
+            must(self.shared.reports[p] == block, "a report is the newest record's log block")?;
+            must(newest.is_none() || chain.contains(&block), "a joined point is in the chain")?;
+        }
+        Ok(())
     }
 
     /// What a read has copied is the file's, where its final step would not say

@@ -110,7 +110,10 @@ fn the_kept_reads_meet_everything() {
     let path = PathBuf::from(env!("CARGO_MANIFEST_DIR")).join("tests/reading.script");
     let mut bench = Bench::new();
     bench.script(&fs::read(path).expect("a kept file"));
-    let of_a_read = |event: &str| event.contains("read") || event.contains("copied");
+    let of_a_read = |event: &str| {
+        let of_k4 = event.starts_with("report") || event.contains("circle");
+        !of_k4 && (event.contains("read") || event.contains("copied"))
+    };
     for event in EVENTS.into_iter().filter(|event| of_a_read(event)) {
         assert!(bench.tally.of("event", event) > 0, "{event}");
     }

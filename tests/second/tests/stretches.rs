@@ -11,7 +11,7 @@ use second::record::Shared;
 use second::tally::EVENTS;
 
 fn shared(blocks: usize, map: [u64; 16]) -> Shared {
-    Shared { blocks, map, joined: 0 }
+    Shared { blocks, map, chain: 1, ..Shared::zero() }
 }
 
 /// "a stretch goes, from block 1 on, as far as no block is taken": whether
@@ -116,7 +116,7 @@ fn the_kept_stretches_meet_every_event() {
     let mut bench = Bench::new();
     bench.script(&fs::read(path).expect("a kept file"));
     let of_a_search = |event: &str| {
-        ["found", "extending", "19", "21"].iter().any(|first| event.starts_with(first))
+        ["found", "extending, not", "19", "21"].iter().any(|first| event.starts_with(first))
     };
     for event in EVENTS.into_iter().filter(|event| of_a_search(event)) {
         assert!(bench.tally.of("event", event) > 0, "{event}");
