@@ -1,5 +1,6 @@
 // Alterations of records.
 ghost use Prim.Native.Nat.{_+_, _≤_, _<_};
+use crate::calls;
 use crate::order;
 use crate::order::Order;
 use crate::print;
@@ -11,10 +12,10 @@ use log::Shared;
 fn most(field: u64) -> u64
     ensures { λ r. ⌜ r < 4294967296 ⌝ }
 {
-    if field == 5 {
+    if field == 4 {
         return 6;
     }
-    if field == 11 {
+    if field == 10 {
         return 65535;
     }
     4294967295
@@ -22,7 +23,7 @@ fn most(field: u64) -> u64
 
 // Number `o.b` of the `count` numbers of a record from `first` on becomes `o.c`, which is at most `most`.
 fn put(places: &mut Places, o: Order, first: usize, count: u64, most: u64)
-    requires { ⌜ (first + count ≤ 1292) × (most < 4294967296) ⌝ }
+    requires { ⌜ (first + count ≤ 1291) × (most < 4294967296) ⌝ }
 {
     if 31 < o.a {
         return print::error();
@@ -50,28 +51,41 @@ fn copy(places: &mut Places, o: Order) {
 }
 
 fn shared_field(shared: Shared, o: Order) -> Shared {
-    let mut after = shared;
     if 4294967295 < o.b {
-        print::error();
-        return after;
+        return calls::wrong(shared);
     }
+    let mut after = shared;
     let x = o.b as u32;
     if o.a == 0 {
         after.blocks = x;
-    } else {
+    } else if o.a == 1 {
         after.joined = x;
+    } else {
+        after.chain = x;
     }
     print::altered();
     after
 }
 
 fn map(shared: Shared, o: Order) -> Shared {
-    let mut after = shared;
     if 15 < o.a {
-        print::error();
-        return after;
+        return calls::wrong(shared);
     }
+    let mut after = shared;
     after.taken[o.a as usize] = o.b;
+    print::altered();
+    after
+}
+
+fn report(shared: Shared, o: Order) -> Shared {
+    if 31 < o.a {
+        return calls::wrong(shared);
+    }
+    if 4294967295 < o.b {
+        return calls::wrong(shared);
+    }
+    let mut after = shared;
+    after.reports[o.a as usize] = o.b as u32;
     print::altered();
     after
 }
@@ -85,12 +99,15 @@ pub fn obey(shared: Shared, places: &mut Places, o: Order) -> Shared {
     if command == order::MAP {
         return map(shared, o);
     }
+    if command == order::REPORT {
+        return report(shared, o);
+    }
     if command == order::COPY {
         copy(places, o);
         return shared;
     }
     if command == order::ALTER {
-        put(places, o, 0, 12, most(o.b));
+        put(places, o, 0, 11, most(o.b));
         return shared;
     }
     if command == order::TABLE {

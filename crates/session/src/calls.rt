@@ -15,7 +15,7 @@ use log::Reply;
 use log::Shared;
 
 // Writes `error`; the shared record stays.
-fn wrong(shared: Shared) -> Shared {
+pub fn wrong(shared: Shared) -> Shared {
     print::error();
     shared
 }

@@ -1,4 +1,4 @@
-// Digests of bytes, of 16-bit numbers and of words.
+// Digests of bytes, of 16-bit numbers, of words and of block numbers.
 ghost use mathlib.Core.Path.{_≡_};
 ghost use mathlib.Core.List.{[], _∷_};
 ghost use Prim.Native.Nat.{_<_};
@@ -60,6 +60,17 @@ pub fn of_words(words: &[u64]) -> u64
     let mut h: u64 = 1;
     for i in 0..words.len() {
         h = add_word(h, words[i]);
+    }
+    h
+}
+
+// Of 32-bit numbers, each as a word.
+pub fn of_blocks(blocks: &[u32]) -> u64
+    ensures { λ r. ⌜ r ≡ digest (parts (now (blocks .entry))) ⌝ }
+{
+    let mut h: u64 = 1;
+    for i in 0..blocks.len() {
+        h = add_word(h, blocks[i] as u64);
     }
     h
 }

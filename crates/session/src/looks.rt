@@ -88,7 +88,7 @@ fn number_of(x: u32) -> u64 {
 fn print_numbers(places: &Places, p: usize)
     requires { ⌜ p < 32 ⌝ }
 {
-    for i in 0..12 {
+    for i in 0..11 {
         print::labelled(b" ", number_of(records::number(places, p, i)));
     }
 }
@@ -106,7 +106,9 @@ fn record(places: &Places, point: Point, p: usize)
 fn print_shared(shared: Shared) {
     print::labelled(b"shared ", shared.blocks as u64);
     print::labelled(b" ", shared.joined as u64);
-    print::line(b" ", digest::of_words(&shared.taken));
+    print::labelled(b" ", digest::of_words(&shared.taken));
+    print::labelled(b" ", shared.chain as u64);
+    print::line(b" ", digest::of_blocks(&shared.reports));
 }
 
 fn at_most(n: usize, most: usize) -> usize

@@ -111,6 +111,6 @@ fn main() {
         return;
     }
     let mut room = [0u64; 65600];
-    let mut places = [0u32; 41344];
+    let mut places = [0u32; 41312];
     run(&script[..n], &mut room, &mut places);
 }

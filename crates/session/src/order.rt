@@ -66,6 +66,8 @@ pub const ALTERSHARED: u32 = 44;
 
 pub const MAP: u32 = 45;
 
+pub const REPORT: u32 = 46;
+
 // A command, and how many words follow its name.
 struct Verb {
     command: u32,
@@ -180,31 +182,34 @@ fn verb_of(name: &[u8]) -> Verb {
     if scan::is(name, b"map") {
         return taking(MAP, 2);
     }
+    if scan::is(name, b"report") {
+        return taking(REPORT, 2);
+    }
     look_verb(name)
 }
 
 // The number of a field of a record's write: its place in the numbers of a record place.
 fn write_field(name: &[u8]) -> Number {
     if scan::is(name, b"phase") {
-        return Number::Value(5);
+        return Number::Value(4);
     }
     if scan::is(name, b"offset") {
-        return Number::Value(6);
+        return Number::Value(5);
     }
     if scan::is(name, b"textlength") {
-        return Number::Value(7);
+        return Number::Value(6);
     }
     if scan::is(name, b"run") {
-        return Number::Value(8);
+        return Number::Value(7);
     }
     if scan::is(name, b"position") {
-        return Number::Value(9);
+        return Number::Value(8);
     }
     if scan::is(name, b"zeroing") {
-        return Number::Value(10);
+        return Number::Value(9);
     }
     if scan::is(name, b"retries") {
-        return Number::Value(11);
+        return Number::Value(10);
     }
     Number::Malformed
 }
@@ -223,9 +228,6 @@ fn point_field(name: &[u8]) -> Number {
     if scan::is(name, b"slot") {
         return Number::Value(3);
     }
-    if scan::is(name, b"passed") {
-        return Number::Value(4);
-    }
     write_field(name)
 }
 
@@ -236,6 +238,9 @@ fn shared_field(name: &[u8]) -> Number {
     }
     if scan::is(name, b"joined") {
         return Number::Value(1);
+    }
+    if scan::is(name, b"chain") {
+        return Number::Value(2);
     }
     Number::Malformed
 }

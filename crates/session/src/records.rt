@@ -1,4 +1,4 @@
-// The 32 record places: 1,292 numbers each, first the 12 that `record` writes, in its order, then the table's 256, then the text's 1,024.
+// The 32 record places: 1,291 numbers each, first the 11 that `record` writes, in its order, then the table's 256, then the text's 1,024.
 ghost use Prim.Native.Nat.{_<_};
 use log::Place;
 use log::Shared;
@@ -6,14 +6,14 @@ use points::Head;
 use points::Point;
 use points::Write;
 
-pub type Places = [u32; 41344];
+pub type Places = [u32; 41312];
 
 // How many numbers a place has, and where the table and the text begin among them.
-const SIZE: usize = 1292;
+const SIZE: usize = 1291;
 
-pub const TABLE: usize = 12;
+pub const TABLE: usize = 11;
 
-pub const TEXT: usize = 268;
+pub const TEXT: usize = 267;
 
 fn low16(n: u32) -> u16 {
     (n % 65536) as u16
@@ -33,13 +33,13 @@ fn of8(n: u8) -> u32 {
 
 // Number i of place p is read; it is changed.
 pub(crate) fn number(places: &Places, p: usize, i: usize) -> u32
-    requires { ⌜ (p < 32) × (i < 1292) ⌝ }
+    requires { ⌜ (p < 32) × (i < 1291) ⌝ }
 {
     places[SIZE * p + i]
 }
 
 pub(crate) fn set_number(places: &mut Places, p: usize, i: usize, n: u32)
-    requires { ⌜ (p < 32) × (i < 1292) ⌝ }
+    requires { ⌜ (p < 32) × (i < 1291) ⌝ }
 {
     places[SIZE * p + i] = n;
 }
@@ -50,16 +50,15 @@ fn load_head(places: &Places, p: usize) -> Head
     let place = Place {
         block: number(places, p, 2),
         slot: number(places, p, 3),
-        passed: number(places, p, 4),
     };
     let write = Write {
-        offset: number(places, p, 6),
-        size: number(places, p, 7),
-        run: number(places, p, 8),
-        phase: points::record::phase_of(number(places, p, 5)),
-        position: number(places, p, 9),
-        zeroing: number(places, p, 10),
-        retries: low16(number(places, p, 11)),
+        offset: number(places, p, 5),
+        size: number(places, p, 6),
+        run: number(places, p, 7),
+        phase: points::record::phase_of(number(places, p, 4)),
+        position: number(places, p, 8),
+        zeroing: number(places, p, 9),
+        retries: low16(number(places, p, 10)),
     };
     Head {
         number: number(places, p, 0),
@@ -107,13 +106,13 @@ fn save_write(places: &mut Places, p: usize, write: Write)
     requires { ⌜ p < 32 ⌝ }
 {
     let phase = write.phase;
-    set_number(places, p, 5, points::record::phase_number(phase));
-    set_number(places, p, 6, write.offset);
-    set_number(places, p, 7, write.size);
-    set_number(places, p, 8, write.run);
-    set_number(places, p, 9, write.position);
-    set_number(places, p, 10, write.zeroing);
-    set_number(places, p, 11, write.retries as u32);
+    set_number(places, p, 4, points::record::phase_number(phase));
+    set_number(places, p, 5, write.offset);
+    set_number(places, p, 6, write.size);
+    set_number(places, p, 7, write.run);
+    set_number(places, p, 8, write.position);
+    set_number(places, p, 9, write.zeroing);
+    set_number(places, p, 10, write.retries as u32);
 }
 
 fn save_head(places: &mut Places, p: usize, head: Head)
@@ -124,7 +123,6 @@ fn save_head(places: &mut Places, p: usize, head: Head)
     set_number(places, p, 1, head.length);
     set_number(places, p, 2, place.block);
     set_number(places, p, 3, place.slot);
-    set_number(places, p, 4, place.passed);
     save_write(places, p, head.write);
 }
 
@@ -164,15 +162,18 @@ pub(crate) fn clear(places: &mut Places, p: usize)
 
 // All places become zero.
 pub fn clear_all(places: &mut Places) {
-    *places = [0u32; 41344];
+    *places = [0u32; 41312];
 }
 
 // A shared record of zeros.
 pub fn no_shared() -> Shared {
     let taken = [0u64; 16];
+    let reports = [0u32; 32];
     Shared {
         blocks: 0,
         taken: taken,
         joined: 0,
+        chain: 0,
+        reports: reports,
     }
 }

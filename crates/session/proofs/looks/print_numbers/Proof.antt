@@ -1,4 +1,4 @@
--- Twelve numbers, all of place p.
+-- Eleven numbers, all of place p.
 use Prim.Native.Nat.{_-_, _≤_}
 use mathlib.Core.Path.{refl}
 use native.Mathlib.Omega.{arith}
@@ -6,10 +6,10 @@ use Rattle.session.proofs.looks.print_numbers.Statement.{statement}
 use Rattle.session.proofs.looks.print_numbers.Tie as tie
 
 abbrev Inv-loop : tie.InvT-loop
-Inv-loop places p i₀ t4 i = i ≤ 12
+Inv-loop places p i₀ t4 i = i ≤ 11
 
 abbrev μ-loop : tie.MeasureT-loop
-μ-loop places p i₀ t4 i = 12 - i
+μ-loop places p i₀ t4 i = 11 - i
 
 loop-holds : tie.Need-loop-holds Inv-loop μ-loop
 loop-holds c = omega arith

@@ -1,14 +1,14 @@
--- 1,292 numbers, all of place p.
+-- 1,291 numbers, all of place p.
 use Prim.Native.Nat.{_-_, _≤_}
 use native.Mathlib.Omega.{arith}
 use Rattle.session.proofs.records.clear.Statement.{statement}
 use Rattle.session.proofs.records.clear.Tie as tie
 
 abbrev Inv-loop : tie.InvT-loop
-Inv-loop places₀ p i₀ places i = i ≤ 1292
+Inv-loop places₀ p i₀ places i = i ≤ 1291
 
 abbrev μ-loop : tie.MeasureT-loop
-μ-loop places₀ p i₀ places i = 1292 - i
+μ-loop places₀ p i₀ places i = 1291 - i
 
 loop-holds : tie.Need-loop-holds Inv-loop μ-loop
 loop-holds c = omega arith
