@@ -94,7 +94,7 @@ module _ (E : Edition) (m : Memory) (blocks : ℕ) where
       on = λ room b i x w f e o more some inside two t s.
           let less : suc (suc room) - 1 ≡ suc room = omega arith in
           let c : chainFrom m (suc (suc room)) b ≡ b ∷ chainFrom m (suc room) (suc x) =
-              chain-next m (suc (suc room)) b (omega arith) some ∙ rw (less, e) in
+          chain-next m (suc (suc room)) b (omega arith) some ∙ rw (less, e) in
           let k = more (λ z. omega arith) o refl (or-right (badLogBlock (blockAt m b)) _ (rw c at t)) s in
           rw c (omega (arith, k));
     }

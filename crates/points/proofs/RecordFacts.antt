@@ -59,8 +59,10 @@ pub shared-fits : (E : Edition) (words : List ℕ) (s : Shared) → SharedFits E
 unfolding badShared
 shared-fits E words s f = none-any _ (
   not-of _ (and-both _ _ (le-leb 4 (s .blocks) (f .some-blocks)) (le-leb (s .blocks) 1024 (f .few-blocks))),
-  (not-of _ (eq-eqb (E .blockWords * s .blocks) (length words) (f .whole)),
-  (not-of _ (and-both _ _ (le-leb 1 (s .chain) (f .some-chain)) (le-leb (s .chain) 64 (f .few-chain))), (not-of _ (f .reported), tt))),
+  (
+    not-of _ (eq-eqb (E .blockWords * s .blocks) (length words) (f .whole)),
+    (not-of _ (and-both _ _ (le-leb 1 (s .chain) (f .some-chain)) (le-leb (s .chain) 64 (f .few-chain))), (not-of _ (f .reported), tt)),
+  ),
 )
 
 -- ---- 16 and 17

@@ -204,9 +204,7 @@ fn place_fits(blocks: u32, place: Place) -> bool
 fn zeroing_fits(blocks: u32, place: Place, write: Write) -> bool
     ensures { λ r. ⌜ r ≡ zeroingFits one blocks place write ⌝ }
 {
-    inside(blocks, write.zeroing, 1)
-        & (write.position <= 64)
-        & (place.slot == 64)
+    inside(blocks, write.zeroing, 1) & (write.position <= 64) & (place.slot == 64)
 }
 
 // 16. The text, or the range to be read, has 0 or more than 1,024 bytes.

@@ -252,11 +252,7 @@ pub fn step(image: &mut [u64], shared: Shared, point: Point, bytes: &mut [u8; 10
     let reports = left.reports;
     Stepped {
         step: answer,
-        shared: crate::shared::reported(
-            crate::shared::with_taken(shared, taken),
-            reports,
-            head,
-        ),
+        shared: crate::shared::reported(crate::shared::with_taken(shared, taken), reports, head),
         point: Point { head, table, text },
     }
 }

@@ -6,7 +6,7 @@ use crate::random::Random;
 /// Whether each block that a map has a bit for is taken.
 type Taken = [bool; MOST_BLOCKS];
 
-/// A map for an image of `blocks` blocks.
+/// A map for an image of `blocks` blocks; for one that is too short or too long, of the nearest number that has a map.
 pub fn a_map(random: &mut Random, blocks: usize) -> [u64; 16] {
     let mut taken = [true; MOST_BLOCKS];
     if !random.once_in(8) {
@@ -16,7 +16,7 @@ pub fn a_map(random: &mut Random, blocks: usize) -> [u64; 16] {
         whole_words(random, &mut taken);
     }
     front(random, &mut taken);
-    end(random, &mut taken, blocks);
+    end(random, &mut taken, blocks.clamp(2, MOST_BLOCKS));
     packed(&taken)
 }
 

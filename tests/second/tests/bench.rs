@@ -107,7 +107,6 @@ fn kept(path: &str) -> Vec<u8> {
 }
 
 #[test]
-#[ignore = "its kept output is of the time before K4"]
 fn the_gate_script_gives_its_output() {
     let output = run(&kept("../../crates/session/stdin"));
     assert!(output == kept("../../crates/session/stdout"), "the gate's output differs");
@@ -140,7 +139,6 @@ fn the_gate_script_and_the_kept_ones_meet_everything() {
 }
 
 #[test]
-#[ignore = "its kept output is of the time before K4"]
 fn the_sample_gives_its_output() {
     let output = run(&kept("../../examples/milking.script"));
     assert!(output == kept("../../examples/milking.expected"), "milking.expected differs");
