@@ -101,7 +101,7 @@ told-by {lent = lent} e r =
       unstored = λ taken reports known. ap (λ (o : Outcome). o .store) (e taken reports known) ∙ r .unstored taken reports known;
       handed = λ taken reports known.
           r .handed taken reports known ∙ sym (ap (λ (o : Outcome). bytesAfter (o .bytes) lent) (e taken reports known));
-      unlinked = r .unlinked;
+      lengthens = r .lengthens;
       place = r .place;
     }
 
@@ -115,7 +115,7 @@ untouched-tells n head table text lent step = record {
   answers = λ taken reports known. refl;
   unstored = λ taken reports known. refl;
   handed = λ taken reports known. refl;
-  unlinked = tt;
+  lengthens = tt;
   place = refl;
 }
 
@@ -166,7 +166,7 @@ module _ (E : Edition) (m : Memory) (n : Numbers) (head : Head) (table text lent
           answers = λ taken reports known. rw (is-caught, isLeft, isCleared);
           unstored = λ taken reports known. refl;
           handed = λ taken reports known. refl;
-          unlinked = tt;
+          lengthens = tt;
           place = refl;
         })
 
@@ -184,7 +184,7 @@ module _ (E : Edition) (m : Memory) (n : Numbers) (head : Head) (table text lent
           answers = λ taken reports known. rw (is-caught, isLeft, isCleared);
           unstored = λ taken reports known. refl;
           handed = λ taken reports known. rw l isBytes;
-          unlinked = tt;
+          lengthens = tt;
           place = refl;
         })
 
@@ -242,7 +242,7 @@ module _ (words : List ℕ) (n : Numbers) (head : Head) (table : List ℕ) (read
           answers = λ taken reports known. rw (isLeft, isCopied);
           unstored = λ taken reports known. refl;
           handed = λ taken reports known. refl;
-          unlinked = tt;
+          lengthens = tt;
           place = refl;
         })
 

@@ -44,7 +44,7 @@ unfolding badShared
 shared-facts E words s e =
     let f = any-none _ e in
     let b = between-facts 4 (s .blocks) 1024 (not-false _ (f .0)) in
-    let c = between-facts 1 (s .chain) 64 (not-false _ (f .1 .1 .0)) in
+    let c = between-facts 1 (s .chain) chainMax (not-false _ (f .1 .1 .0)) in
     record {
       some-blocks = b .0;
       few-blocks = b .1;
@@ -61,7 +61,7 @@ shared-fits E words s f = none-any _ (
   not-of _ (and-both _ _ (le-leb 4 (s .blocks) (f .some-blocks)) (le-leb (s .blocks) 1024 (f .few-blocks))),
   (
     not-of _ (eq-eqb (E .blockWords * s .blocks) (length words) (f .whole)),
-    (not-of _ (and-both _ _ (le-leb 1 (s .chain) (f .some-chain)) (le-leb (s .chain) 64 (f .few-chain))), (not-of _ (f .reported), tt)),
+    (not-of _ (and-both _ _ (le-leb 1 (s .chain) (f .some-chain)) (le-leb (s .chain) chainMax (f .few-chain))), (not-of _ (f .reported), tt)),
   ),
 )
 

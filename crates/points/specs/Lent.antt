@@ -58,7 +58,7 @@ abbrev pub steppedOf : Numbers → LentStepped → List ℕ → List ℕ → Lis
 steppedOf n left taken reports table text =
     record { step = left .step; shared = reported (left .reports) (left .head) (sharedOf n taken reports); point = pointOf (left .head) table text }
 
--- where one log block more is reported, the chain has not 64
+-- where one log block more is reported, the chain has fewer than 64
 abbrev pub Lengthens : Reports → ℕ → Type 0
 Lengthens NoReport chain = Unit {0}
 Lengthens Standing chain = Unit {0}
@@ -76,12 +76,12 @@ pub record WriteTells (words : List ℕ) (s : Shared) (p : Point) (answer : Step
   pub silent : stepping one words s p .bytes ≡ []
   pub place : word ≡ storedAt one (stepping one words s p .store)
 
--- what a step of a read leaves, by an outcome of which the shared record's map is no part, and its reports none but for that: nothing is stored
+-- what a step of a read leaves, by an outcome in which the map has no say, the reports none but whether they are below the block count: nothing is stored
 pub record ReadTells (outcome : Shared → Outcome) (n : Numbers) (lent : List ℕ) (left : LentStepped) (table text bytes : List ℕ) : Type 0 where
   pub answers : (taken reports : List ℕ) → Known n reports → steppedOf n left taken reports table text ≡ answered (outcome (sharedOf n taken reports))
   pub unstored : (taken reports : List ℕ) → Known n reports → outcome (sharedOf n taken reports) .store ≡ none
   pub handed : (taken reports : List ℕ) → Known n reports → bytes ≡ bytesAfter (outcome (sharedOf n taken reports) .bytes) lent
-  pub unlinked : Lengthens (left .reports) (n .chain)
+  pub lengthens : Lengthens (left .reports) (n .chain)
   pub place : left .word ≡ 0
 
 -- what a step leaves, and which word of the image it stored
@@ -91,7 +91,7 @@ pub record StepTells (words : List ℕ) (s : Shared) (p : Point) (lent : List �
 
 -- ---- plans
 
--- the plan is that of this part of a step, for the records that these parts make
+-- the plan is that of this part of a step, for the records that these parts make with whatever reports
 abbrev pub Plans : (Edition → Memory → Shared → Point → Plan)
     → List ℕ → Numbers → List ℕ → Head → List ℕ → List ℕ → Plan → Type 0
 Plans part words n taken h table text r = (reports : List ℕ) → r ≡ part one (memory one words) (sharedOf n taken reports) (pointOf h table text)

@@ -1,8 +1,8 @@
-// Extending the chain: a block is zeroed word by word, then linked, or given back where another point was first.
+// Extending the chain: a block is zeroed word by word, then linked, or given back where another point was first, or freed where 64 are chained.
 ghost use mathlib.Core.Path.{_≡_};
 ghost use Prim.Native.Nat.{_<_};
 ghost use Rattle.words.specs.Edition.{one};
-ghost use Rattle.words.specs.Memory.{Memory, memory};
+ghost use Rattle.words.specs.Memory.{memory};
 ghost use Rattle.points.specs.Stepping.{zeroOut, link, linking, giveBack, extending};
 use crate::Head;
 use crate::Phase;
@@ -75,7 +75,7 @@ fn give_back(head: Head) -> Plan
 
 // The zeroed block is linked, unless the chain has 64 log blocks: then the write ends.
 fn linking(chain: u32, head: Head) -> Plan
-    ensures { λ r. ⌜ ((m : Memory) → r ≡ linking one m head chain) ⌝ }
+    ensures { λ r. ⌜ r ≡ linking one head chain ⌝ }
 {
     if 64 <= chain {
         return crate::commit::give_up(head, crate::LOG_FULL);
@@ -83,7 +83,7 @@ fn linking(chain: u32, head: Head) -> Plan
     link(head)
 }
 
-// 64 steps zero the block; the one after looks at the next index.
+// 64 steps zero the block; the one after looks at the next index, then at the chain's length.
 pub(crate) fn extending(image: &[u64], chain: u32, head: Head) -> Plan
     ensures { λ r. ⌜ r ≡ extending one (memory one (now (image .entry))) head chain ⌝ }
 {

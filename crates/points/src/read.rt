@@ -175,8 +175,9 @@ pub fn read_lent(
     offset: usize,
     buffer: &mut [u8],
 ) -> Count
-    ensures { λ r. ⌜ ((taken reports : List ℕ) → Known numbers reports → ReadLeaves (now (image .entry)) (sharedOf numbers taken reports) head (now (table .entry)) offset
-        (now (buffer .entry)) r (now (buffer .exit))) ⌝ }
+    ensures { λ r. ⌜ ((taken reports : List ℕ) → Known numbers reports
+        → ReadLeaves (now (image .entry)) (sharedOf numbers taken reports) head (now (table .entry)) offset (now (buffer .entry))
+        r (now (buffer .exit))) ⌝ }
 {
     let current = crate::current::settle(image, numbers, head, table, false);
     if current.reason != 0 {

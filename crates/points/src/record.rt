@@ -42,7 +42,8 @@ fn inside(blocks: u32, b: u32, n: u32) -> bool
 // 10. The shared record's block count is not 4 to 1,024, 64 times it is not the image's length, its chain length is not 1 to 64, or a reported block is
 // not below the block count.
 pub fn bad_numbers(image: &[u64], numbers: Numbers) -> bool
-    ensures { λ r. ⌜ ((taken reports : List ℕ) → Known numbers reports → r ≡ badShared one (now (image .entry)) (sharedOf numbers taken reports)) ⌝ }
+    ensures { λ r. ⌜ ((taken reports : List ℕ) → Known numbers reports
+        → r ≡ badShared one (now (image .entry)) (sharedOf numbers taken reports)) ⌝ }
 {
     !between(4, numbers.blocks, 1024)
         | (64 * numbers.blocks as usize != image.len())

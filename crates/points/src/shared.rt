@@ -43,7 +43,7 @@ pub fn report(reports: &mut [u32], number: u32, block: u32)
     }
 }
 
-// The shared record with it.
+// The shared record with another reported block for a point.
 pub(crate) fn reporting(shared: Shared, number: u32, block: u32) -> Shared
     ensures { λ r. ⌜ r ≡ reporting shared number block ⌝ }
 {

@@ -57,7 +57,8 @@ shown o =
     let x = o .point .head .write in
     stepCode (o .step) ∷ phaseNumber (x .phase) ∷ x .run ∷ x .zeroing ∷ freeCount (o .shared .taken) 8 ∷ told (o .shared)
 
--- with its run filled: at 63 a block is taken, at 64 the run is given up. (3 blocks are free; at 64 log blocks no image of 8 has them: an altered record)
+-- with its run filled: at 63 a block is taken, at 64 the run is given up. (No image of 8 blocks has
+-- so many log blocks: the record is altered.)
 abbrev pub endCases : List Event → World → List Case
 endCases es w =
     (shown (stepWith 63 w) is extending ∷ 5 ∷ 4 ∷ 5 ∷ 2 ∷ 1 ∷ 1 ∷ 1 ∷ 0 ∷ 63 ∷ [])

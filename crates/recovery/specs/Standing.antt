@@ -6,9 +6,9 @@ use Rattle.points.specs.Record.{isJoined}
 use Rattle.recovery.specs.World.{World}
 
 -- "the log block of its log place, 0 when not joined"
-abbrev pub standsAt : Bool → Point → ℕ
-standsAt true p = p .head .place .block
-standsAt false p = 0
+abbrev pub standsIn : Bool → Point → ℕ
+standsIn true p = p .head .place .block
+standsIn false p = 0
 
 abbrev pub standing : World → ℕ → ℕ
-standing w n = standsAt (isJoined (w .shared) n) (w .newest n)
+standing w n = standsIn (isJoined (w .shared) n) (w .newest n)

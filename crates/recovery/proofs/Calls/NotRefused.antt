@@ -37,7 +37,7 @@ use Rattle.recovery.proofs.Model.Span.{spans}
 use Rattle.recovery.proofs.Opening.Legal.{walk-legal}
 use Rattle.recovery.proofs.Calls.Begin.{ahead-is}
 use Rattle.recovery.proofs.Calls.Mapping.{Tied, worldOf, pointOf, writeOf, phaseIn, zeroing-phase, other-phase, reading-work}
-use Rattle.recovery.specs.Standing.{standsAt}
+use Rattle.recovery.specs.Standing.{standsIn}
 use Rattle.recovery.proofs.Calls.StepTied.{isBusy, sp}
 
 below-all : (B : ℕ) (l : List ℕ) → ((i : ℕ) → getD l i 0 < B) → all-of (λ b. ltb b B) l ≡ true
@@ -62,7 +62,7 @@ module _ {E : Edition} {L : List ℕ} (w : W.World) (bk : Book) (h : Tied E L w 
     reported = reports-below;
   })
     where
-      stands : (n : ℕ) (b : Bool) → isJoined (w .shared) n ≡ b → standsAt b (w .newest n) < w .shared .blocks
+      stands : (n : ℕ) (b : Bool) → isJoined (w .shared) n ≡ b → standsIn b (w .newest n) < w .shared .blocks
       stands n true j =
           let o = walk-in (h .inv .core .log .tail) (h .inv .points n j .place .walk) in
           in-image (w .shared .blocks) (h .inv .own) (h .inv .core .image .inside) (w .newest n .head .place .block) (rw o tt)

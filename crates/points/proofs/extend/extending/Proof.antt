@@ -39,7 +39,7 @@ returns-2 c =
     let z = zeroed next in
     let a = start z .args in
     let m = memory one (a .image .now) in
-    c .linking .ensures m ∙ sym (last-on one m (a .head) (a .chain) (le-ltb _ _ (z .if1 .left)) (is-zero _ (sym (next .next-index .ensures) ∙ c .before .if2 .taken)))
+    c .linking .ensures ∙ sym (last-on one m (a .head) (a .chain) (le-ltb _ _ (z .if1 .left)) (is-zero _ (sym (next .next-index .ensures) ∙ c .before .if2 .taken)))
 
 give-back-requires : tie.Need-give-back-requires
 give-back-requires c κs = search needs

@@ -13,7 +13,7 @@ give-up-requires c κs = search needs
 
 returns : tie.Need-returns
 unfolding linking
-returns c m =
+returns c =
     let a = c .before .before .args in
     c .give-up .ensures ∙ sym (choose-true _ (giveUp one (a .head) 20) (link one (a .head)) (le-leb chainMax (a .chain) (c .before .if1 .taken)))
 
@@ -22,7 +22,7 @@ link-requires c κs = search needs
 
 returns-2 : tie.Need-returns-2
 unfolding linking
-returns-2 c m =
+returns-2 c =
     let a = c .before .before .args in
     c .link .ensures ∙ sym (choose-false _ (giveUp one (a .head) 20) (link one (a .head)) (lt-leb chainMax (a .chain) (c .before .if1 .left)))
 

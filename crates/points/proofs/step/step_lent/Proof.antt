@@ -25,7 +25,7 @@ returns c =
     let a = start c .args in (
       λ reports known. read-leaves (a .image .now) (a .numbers) (a .taken .now) reports (pointOf (a .head) (a .table .now) (a .text .now)) (a .bytes .now)
           (c .step .result) _ _ _ known (c .step .ensures),
-      c .step .ensures .unlinked,
+      c .step .ensures .lengthens,
     )
 
 write-lent-requires : tie.Need-write-lent-requires
