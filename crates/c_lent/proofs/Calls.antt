@@ -12,6 +12,7 @@ use Rattle.log.specs.Opening.{numberOf}
 use Rattle.points.specs.declared.Head.{Head}
 use Rattle.points.specs.declared.Count as counted
 use Rattle.points.specs.declared.Numbers.{Numbers}
+use Rattle.points.specs.declared.Point.{Point}
 use Rattle.points.specs.declared.Joined.{Joined}
 use Rattle.points.specs.declared.Begun.{Begun}
 use Rattle.points.specs.declared.Stepped.{Stepped}
@@ -103,15 +104,21 @@ module _ (words : List ℕ) (s : SharedLent) (p : PointLent) where
           (shared-left xs taken (reported (y .reports) (y .head)) (reported-taken (y .reports) (y .head)) ex)
           ∙ rw (ea, eh′, e .place, e .leaves .stored, e .leaves .handed) (ap left-by (e .leaves .answers) ∙ rw (el, eh) (is-known _ _))
         where
-          o : Outcome
-          o = stepping one words (sharedOf lead (s .taken) (reportsIn s)) (pointOf h (p .table) (p .text))
+          x : Shared
+          x = sharedOf lead (s .taken) (reportsIn s)
 
-          e : StepTells words (sharedOf lead (s .taken) (reportsIn s)) (pointOf h (p .table) (p .text)) lent (steppedOf lead y taken (reportsIn s) table text) image bytes (y .word)
+          q : Point
+          q = pointOf h (p .table) (p .text)
+
+          o : Outcome
+          o = stepping one words x q
+
+          e : StepTells words x q lent (steppedOf lead y taken (reportsIn s) table text) image bytes (y .word)
           e = tells (reportsIn s) lead-known
 
           left-by : Stepped → StepLeft
-          left-by x =
-              stepLeft (answerNumbers (x .step) (storedAt one (o .store))) (after one words (o .store)) (lendShared (x .shared)) (lendPoint (x .point))
+          left-by z =
+              stepLeft (answerNumbers (z .step) (storedAt one (o .store))) (after one words (o .store)) (lendShared (z .shared)) (lendPoint (z .point))
               (bytesAfter (o .bytes) lent)
 
       -- a beginning, of a write and of a read
