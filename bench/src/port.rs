@@ -8,7 +8,6 @@ pub struct Head {
     pub length: u32,
     pub block: u32,
     pub slot: u32,
-    pub passed: u32,
     pub offset: u32,
     pub size: u32,
     pub run: u32,
@@ -26,7 +25,7 @@ pub struct Record {
 /// A point that begins a write of a whole block at offset 0.
 pub fn begun(text: &[u8; 512]) -> Record {
     let mut record = Record {
-        head: Head { number: 0, length: 0, block: 1, slot: 2, passed: 1, offset: 0, size: 512, run: 2, position: 0 },
+        head: Head { number: 0, length: 0, block: 1, slot: 2, offset: 0, size: 512, run: 2, position: 0 },
         table: [0; 256],
         text: [0; 1024],
     };
@@ -48,7 +47,6 @@ fn fits(head: &Head, table: &[u16; 256], blocks: u32) -> bool {
     below
         && (1..blocks).contains(&head.block)
         && (2..=64).contains(&head.slot)
-        && (1..=64).contains(&head.passed)
         && head.length <= 131_072
         && (1..=1_024).contains(&head.size)
         && head.offset <= 131_072 - head.size
