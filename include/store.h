@@ -264,9 +264,10 @@ static inline const uint64_t *store_view(const uint64_t *image, size_t words, co
    lies in its reported block and in so many after it. Whatever the numbers are, only words of the image are read, at most 64. */
 static inline uint32_t store_behind(const uint64_t *image, size_t words, const store_shared *shared, uint32_t number)
 {
-    uint32_t most = shared->chain < STORE_CHAIN_MOST ? shared->chain : STORE_CHAIN_MOST, behind = 0;
+    uint32_t behind = 0;
     uint64_t block = number < STORE_POINTS && ((shared->joined >> number) & 1) ? shared->reports[number] : 0;
-    while (block != 0 && block < shared->blocks && STORE_BLOCK_WORDS * block < words && behind < most) {
+    while (block != 0 && block < shared->blocks && STORE_BLOCK_WORDS * block < words && behind < shared->chain &&
+           behind < STORE_CHAIN_MOST) {
         block = image[STORE_BLOCK_WORDS * block];
         behind += block != 0;
     }

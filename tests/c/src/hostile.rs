@@ -137,9 +137,12 @@ impl Run {
     /// A record that zeroes a log block, or has just done so, in a chain that
     /// may be full.
     fn alter_zeroing(&mut self, p: usize) {
+        if self.random.once_in(2) {
+            self.alter_write(p);
+        }
         let phase = *self.random.pick(&[5, 5, 5, 1, 4]);
-        let (zeroing, position) =
-            (self.random.between(1, self.blocks()) as u32, self.random.between(60, 65) as u32);
+        let zeroing = self.random.between(1, self.blocks()) as u32;
+        let position = *self.random.pick(&[60, 63, 64, 64, 65]);
         let chain = *self.random.pick(&[1, 63, 64]);
         self.world.alter(p, |point| {
             let head = &mut point.head;
