@@ -37,12 +37,13 @@ enum {
     STORE_VIRTUAL_BLOCKS = 256,
     STORE_FILE_MOST = 131072,  /* bytes of a file */
     STORE_TEXT_MOST = 1024,    /* bytes of one write, and of one read in steps */
-    STORE_POINTS = 32          /* points, numbered 0 to 31 */
+    STORE_POINTS = 32,         /* points, numbered 0 to 31 */
+    STORE_CHAIN_MOST = 64      /* log blocks of a chain */
 };
 
 /* The version of this header: it rises when a call, a record or the image changes. A program compares it with what the library that
    it is linked with answers, before any other call: a library of another version may take its records for something else. */
-enum { STORE_VERSION = 3 };
+enum { STORE_VERSION = 4 };
 uint32_t store_version(void);
 
 /* Why a call is refused; store_reason has a sentence for each. */
@@ -86,7 +87,7 @@ static inline const char *store_reason(uint32_t number)
         "an entry of the log breaks the rules of entries",
         "two blocks of the file share a block of the image, or one is a log block",
         "a byte at or past the file's end in its last block is not 0",
-        "the shared record's block count does not fit the image",
+        "the shared record does not fit: its block count the image, its chain length 1 to 64, or a reported block the block count",
         "the point's record does not fit: a number of it lies outside its range, phase and retries too",
         "the point number is above 31",
         "the point is joined already",
@@ -94,7 +95,7 @@ static inline const char *store_reason(uint32_t number)
         "a write or a read was begun with one under way, or a step made with none",
         "the text, or the range to be read, has 0 or more than 1,024 bytes",
         "the write, or the range to be read, ends past byte 131,072, or the block asked for is above 255",
-        "the log, read on, has a wrong entry or index, or more than 64 log blocks",
+        "the log, read on, has a wrong entry or index, or more log blocks than the image has blocks",
         "no run of so many free blocks",
         "64 log blocks are full; the write is ended",
         "a log block is needed and none is free; the write is ended",
@@ -127,21 +128,23 @@ enum {
 
 /* The shared record of an opened image: one for all points. Opening makes it; loss of power may take it. */
 typedef struct store_shared {
-    uint32_t blocks;     /* the image's blocks */
-    uint32_t joined;     /* a bit for each point that is joined */
-    uint64_t taken[16];  /* a bit for each block that is taken */
+    uint32_t blocks;       /* the image's blocks */
+    uint32_t joined;       /* a bit for each point that is joined */
+    uint32_t chain;        /* the log blocks of the chain, 1 to 64 */
+    uint32_t reports[32];  /* the log block in which each point stands, 0 for one that is not joined */
+    uint64_t taken[16];    /* a bit for each block that is taken */
 } store_shared;
 
 /* The numbers of a point's record. */
 typedef struct store_head {
-    uint32_t number;               /* 0 to 31 */
-    uint32_t length;               /* the file's, as the point knows it */
-    uint32_t block, slot, passed;  /* where it stands in the log */
-    uint32_t offset, size;         /* its write or read: from which byte of the file, and how many */
-    uint32_t run;                  /* the first of the blocks that are being filled */
-    uint32_t phase, position;      /* what it is doing, one of the seven above, and at which word */
-    uint32_t zeroing;              /* the log block being zeroed */
-    uint32_t retries;              /* how often the write was moved, at most 65,535 */
+    uint32_t number;           /* 0 to 31 */
+    uint32_t length;           /* the file's, as the point knows it */
+    uint32_t block, slot;      /* where it stands in the log */
+    uint32_t offset, size;     /* its write or read: from which byte of the file, and how many */
+    uint32_t run;              /* the first of the blocks that are being filled */
+    uint32_t phase, position;  /* what it is doing, one of the seven above, and at which word */
+    uint32_t zeroing;          /* the log block being zeroed */
+    uint32_t retries;          /* how often the write was moved, at most 65,535 */
 } store_head;
 
 /* A point's record: one for each point. Joining makes it; loss of power may take it. */
@@ -169,10 +172,11 @@ typedef struct store_count {
 } store_count;
 
 /* The library takes the records as structs of arrays: each part stands at its place, the numbers side by side from the beginning on. */
-typedef char store_records_stand_so[offsetof(store_shared, joined) == 4 && offsetof(store_shared, taken) == 8 &&
-                                            sizeof(store_shared) == 136 && sizeof(store_head) == 48 &&
-                                            offsetof(store_point, table) == 48 && offsetof(store_point, text) == 560 &&
-                                            sizeof(store_point) == 1584 && offsetof(store_answer, word) == 8 &&
+typedef char store_records_stand_so[offsetof(store_shared, joined) == 4 && offsetof(store_shared, chain) == 8 &&
+                                            offsetof(store_shared, reports) == 12 && offsetof(store_shared, taken) == 144 &&
+                                            sizeof(store_shared) == 272 && sizeof(store_head) == 44 &&
+                                            offsetof(store_point, table) == 44 && offsetof(store_point, text) == 556 &&
+                                            sizeof(store_point) == 1580 && offsetof(store_answer, word) == 8 &&
                                             sizeof(store_answer) == 16 && sizeof(size_t) == 8
                                         ? 1
                                         : -1];
@@ -196,25 +200,25 @@ store_opened store_open(const uint64_t *image, size_t words, uint16_t *scratch, 
    Lent: the image, a scratch as for opening, and 256 rows. Refusals: 1 to 9. */
 store_opened store_list(const uint64_t *image, size_t words, uint16_t *scratch, size_t places, uint16_t *rows);
 
-/* Point `number` joins.
+/* Point `number` joins. The shared record reports the first log block for it.
    Lent: the image, the shared record, and memory for the point's record, which is made. Do not lend the record of a point that is
    joined: it is overwritten.
    Refusals: 10, 12, 13, 18; then *point is all zeros. */
 uint32_t store_join(const uint64_t *image, size_t words, store_shared *shared, uint32_t number, store_point *point);
 
 /* Begins a write of `size` bytes, 1 to 1,024, from byte `offset` of the file on. Nothing of it shows before a step answers
-   STORE_COMMITTED.
+   STORE_COMMITTED. The point reads up to the log's end, and the shared record reports its last block for it.
    Lent: the image, both records, and the bytes, which are copied into the record.
    Refusals: 10, 11, 14, 15, 16, 17, 18, 19. */
 uint32_t store_begin(const uint64_t *image, size_t words, store_shared *shared, store_point *point, size_t offset,
                      const uint8_t *bytes, size_t size);
 
 /* Begins a read of `size` bytes, 1 to 1,024, from byte `offset` of the file on, in steps: the other points need not wait for it. It may
-   pass the file's end, and takes no block. (store_read reads at once.)
+   pass the file's end, and takes no block. (store_read reads at once.) The point reads up to the log's end, and the shared record
+   reports its last block for it.
    Lent: the image and both records.
    Refusals: 10, 11, 14, 15, 16, 17, 18. */
-uint32_t store_begin_read(const uint64_t *image, size_t words, const store_shared *shared, store_point *point, size_t offset,
-                          size_t size);
+uint32_t store_begin_read(const uint64_t *image, size_t words, store_shared *shared, store_point *point, size_t offset, size_t size);
 
 /* A step of the point's write or read; other points may take steps between.
    A write: at most one word of the image is stored. Step on until STORE_COMMITTED or STORE_REFUSED; a point that steps alone is done
@@ -223,13 +227,16 @@ uint32_t store_begin_read(const uint64_t *image, size_t words, const store_share
    step copies a word, and the last one looks at what was committed meanwhile: if it covers a block of the range, or lengthens the file
    where the range ended past its end, the step answers STORE_MOVED and the read begins again; else STORE_BYTES, and the bytes are the
    file's as of that step, 0 past its end.
+   The shared record reports where the point stands after STORE_MOVED, where a read is done, and where a zeroed block is linked to the
+   chain, which is one longer then.
    Lent: the image, both records, and `bytes`, room for 1,024 bytes. With STORE_BYTES the read's come to its front; no other step touches
    it, nor what lies behind them, so one room serves all points.
    Refusals, as value of STORE_REFUSED: 10, 11, 14, 15, 18, after which the write or the read is still under way; 20, 21, which end the
    write. */
 store_answer store_step(uint64_t *image, size_t words, store_shared *shared, store_point *point, uint8_t *bytes);
 
-/* The point leaves; a write or a read that was under way is given up, and a write's blocks become free.
+/* The point leaves; a write or a read that was under way is given up, and a write's blocks become free. The shared record reports 0
+   for it.
    Lent: the image, the shared record, and the point's record, which is of no use afterwards. Refusals: 10, 11, 14. */
 uint32_t store_leave(const uint64_t *image, size_t words, store_shared *shared, const store_point *point);
 
@@ -251,6 +258,20 @@ static inline const uint64_t *store_view(const uint64_t *image, size_t words, co
 {
     store_count found = store_locate(image, words, shared, point, block);
     return found.refused ? (const uint64_t *)0 : image + (size_t)STORE_BLOCK_WORDS * found.count;
+}
+
+/* How many log blocks a point stands behind the last one of the chain, 0 for a point that is not joined: what it has not read of the log
+   lies in its reported block and in so many after it. Whatever the numbers are, only words of the image are read, at most 64. */
+static inline uint32_t store_behind(const uint64_t *image, size_t words, const store_shared *shared, uint32_t number)
+{
+    uint32_t behind = 0;
+    uint64_t block = number < STORE_POINTS && ((shared->joined >> number) & 1) ? shared->reports[number] : 0;
+    while (block != 0 && block < shared->blocks && STORE_BLOCK_WORDS * block < words && behind < shared->chain &&
+           behind < STORE_CHAIN_MOST) {
+        block = image[STORE_BLOCK_WORDS * block];
+        behind += block != 0;
+    }
+    return behind;
 }
 
 #ifdef __cplusplus

@@ -168,13 +168,14 @@ fn fill(run: &mut Run, mut work: impl FnMut(usize) + 'static) -> Place {
 /// The plain Rust port with its image.
 pub struct Port {
     image: Vec<u64>,
+    shared: port::Shared,
     record: Record,
 }
 
 impl Port {
     pub fn new() -> Port {
         let text = text_of(512).try_into().unwrap();
-        Port { image: vec![0; 65_536], record: port::begun(&text) }
+        Port { image: vec![0; 65_536], shared: port::opened(), record: port::begun(&text) }
     }
 
     pub fn rewind(&mut self) {
@@ -182,11 +183,11 @@ impl Port {
     }
 
     pub fn step_by_value(&mut self) {
-        self.record = port::step_by_value(&mut self.image, 1, self.record).expect("a fill");
+        self.record = port::step_by_value(&mut self.image, &self.shared, self.record).expect("a fill");
     }
 
     pub fn step_by_reference(&mut self) {
-        assert!(port::step_by_reference(&mut self.image, 1, &mut self.record), "a fill");
+        assert!(port::step_by_reference(&mut self.image, &self.shared, &mut self.record), "a fill");
     }
 
     fn fill_by_value(&mut self, times: usize) {

@@ -114,7 +114,8 @@ impl Store for Second {
     }
 
     fn begin_read(&mut self, number: usize, offset: usize, size: usize) {
-        self.points[number] = begin_read(&self.image, &self.shared, &self.points[number], offset, size).unwrap();
+        (self.shared, self.points[number]) =
+            begin_read(&self.image, &self.shared, &self.points[number], offset, size).unwrap();
     }
 
     fn read_in_steps(&mut self, number: usize, offset: usize, buffer: &mut [u8]) {

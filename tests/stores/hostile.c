@@ -1,7 +1,7 @@
 /* Hostile runs: words of the image, fields of the records and arguments become anything, then any call is made. */
 #include "runs.h"
 
-enum { ACTS = 48 }; /* of a run */
+enum { ACTS = 48, HEAD = sizeof(store_head) / sizeof(uint32_t) }; /* of a run; numbers of a head */
 
 /* A number at or beside the edge of some range, or any. */
 static uint32_t a_number(void)
@@ -56,12 +56,19 @@ static size_t a_place(const store_head *head)
 
 static void alter_shared(void)
 {
-    switch (below(4)) {
+    switch (below(7)) {
     case 0:
         shared.blocks = a_number();
         break;
     case 1:
         shared.joined = (uint32_t)any();
+        break;
+    case 2:
+        shared.chain = below(2) ? a_number() : 62 + (uint32_t)below(4);
+        break;
+    case 3:
+    case 4:
+        shared.reports[below(STORE_POINTS)] = (uint32_t)(below(2) ? a_number() : below(words / STORE_BLOCK_WORDS + 1));
         break;
     default:
         shared.taken[below(16)] = below(3) ? any() : UINT64_MAX;
@@ -84,8 +91,6 @@ static void alter_write(store_head *head)
     head->position = below(2) ? most : (uint32_t)below(most + 2);
     if (head->phase == STORE_ZEROING || below(4) == 0)
         head->slot = STORE_BLOCK_WORDS;
-    if (below(8) == 0)
-        head->passed = 62 + (uint32_t)below(4);
 }
 
 /* One alteration of the point's record, of its numbers, its table or its text. */
@@ -104,12 +109,12 @@ static void alter_point(store_point *point)
         point->text[below(1024)] ^= 255;
         break;
     case 3:
-        for (size_t i = 0; i < 12; i++)
+        for (size_t i = 0; i < HEAD; i++)
             numbers[i] = a_number();
         break;
     case 4:
     case 5:
-        numbers[below(12)] = a_number();
+        numbers[below(HEAD)] = a_number();
         break;
     default:
         alter_write(&point->head);

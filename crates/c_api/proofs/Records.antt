@@ -63,16 +63,16 @@ abbrev pub numbersRef : RefT SharedRecord → Names (Shared .ms) → RefT (List 
 numbersRef s ns = part (s .ptr) 0 (ns .0 .1) (s .now .numbers)
 
 abbrev pub takenRef : RefT SharedRecord → Names (Shared .ms) → RefT (List ℕ)
-takenRef s ns = part (s .ptr) 8 (ns .1 .0 .1) (s .now .taken)
+takenRef s ns = part (s .ptr) 144 (ns .1 .0 .1) (s .now .taken)
 
 abbrev pub headRef : RefT PointRecord → Names (Point .ms) → RefT (List ℕ)
 headRef p ns = part (p .ptr) 0 (ns .0 .1) (p .now .head)
 
 abbrev pub tableRef : RefT PointRecord → Names (Point .ms) → RefT (List ℕ)
-tableRef p ns = part (p .ptr) 48 (ns .1 .0 .1) (p .now .table)
+tableRef p ns = part (p .ptr) 44 (ns .1 .0 .1) (p .now .table)
 
 abbrev pub textRef : RefT PointRecord → Names (Point .ms) → RefT (List ℕ)
-textRef p ns = part (p .ptr) 560 (ns .1 .1 .0 .1) (p .now .text)
+textRef p ns = part (p .ptr) 556 (ns .1 .1 .0 .1) (p .now .text)
 
 -- the records of their fields' last values
 abbrev pub sharedAt : {X : Type 0} → List ℕ × (List ℕ × X) → SharedRecord

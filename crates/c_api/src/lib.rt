@@ -4,24 +4,24 @@ ghost use mathlib.Core.Path.{_≡_};
 ghost use Rattle.words.specs.Edition.{one};
 ghost use Rattle.log.specs.Opening.{layoutRefusal, layout};
 ghost use Rattle.log.specs.Listing.{rowsOf};
-ghost use Rattle.c_lent.specs.Calls.{OpensFor, left, readBegun, stepLeft, sharedLeft, readLeft};
+ghost use Rattle.c_lent.specs.Calls.{OpensFor, left, stepLeft, sharedLeft, readLeft};
 ghost use Rattle.c_lent.specs.Calls.{sharedFor, joinFor, beginFor, beginReadFor, stepFor, leaveFor, readFor, locateFor};
 ghost use Rattle.c_api.specs.Records.{version, sharedParts, pointParts, textlessParts};
 use c_lent::Answer;
 use c_lent::Count;
 use c_lent::Opened;
 
-// The shared record: blocks and joined points, and the map. In C the two numbers have names.
+// The shared record: blocks, joined points, chain length and the 32 reports, and the map. In C the numbers have names.
 #[repr(C)]
 pub struct SharedRecord {
-    pub numbers: [u32; 2],
+    pub numbers: [u32; 35],
     pub taken: [u64; 16],
 }
 
-// A point's record: its twelve numbers, its table and its text.
+// A point's record: its eleven numbers, its table and its text.
 #[repr(C)]
 pub struct PointRecord {
-    pub head: [u32; 12],
+    pub head: [u32; 11],
     pub table: [u16; 256],
     pub text: [u8; 1024],
 }
@@ -31,7 +31,7 @@ pub struct PointRecord {
 pub extern "C" fn store_version() -> u32
     ensures { λ r. ⌜ r ≡ version ⌝ }
 {
-    3
+    4
 }
 
 #[no_mangle]
@@ -151,17 +151,18 @@ pub extern "C" fn store_begin(
 #[no_mangle]
 pub extern "C" fn store_begin_read(
     image: &[u64],
-    shared: &SharedRecord,
+    shared: &mut SharedRecord,
     point: &mut PointRecord,
     offset: usize,
     size: usize,
 ) -> u32
-    ensures { λ r. ⌜ readBegun r (pointParts (now (point .exit)))
+    ensures { λ r. ⌜ left r (sharedParts (now (shared .exit))) (pointParts (now (point .exit)))
         ≡ beginReadFor (now (image .entry)) (sharedParts (now (shared .entry))) (pointParts (now (point .entry))) offset size ⌝ }
 {
     c_lent::begin_read(
         image,
-        &shared.numbers,
+        &mut shared.numbers,
+        &mut shared.taken,
         &mut point.head,
         &mut point.table,
         &mut point.text,

@@ -37,6 +37,6 @@ number-back (suc (suc (suc (suc (suc (suc zero)))))) l = refl
 number-back (suc (suc (suc (suc (suc (suc (suc n))))))) l = absurd (omega arith)
 
 pub numbers-back :
-    (a b c d e f g h phase i j k : ℕ) → let xs = a ∷ b ∷ c ∷ d ∷ e ∷ f ∷ g ∷ h ∷ phase ∷ i ∷ j ∷ k ∷ [] in
+    (a b c d e f g phase h i j : ℕ) → let xs = a ∷ b ∷ c ∷ d ∷ e ∷ f ∷ g ∷ phase ∷ h ∷ i ∷ j ∷ [] in
     isKnown xs ≡ true → headNumbers (headFrom xs) ≡ xs
-numbers-back a b c d e f g h phase i j k known = rw (number-back phase (leb-true phase 6 (and-left _ _ known)))
+numbers-back a b c d e f g phase h i j known = rw (number-back phase (leb-true phase 6 (and-left _ _ known)))

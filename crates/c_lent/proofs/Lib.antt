@@ -1,3 +1,4 @@
--- Laws of the calls in numbers. Heads: a record and its numbers. Calls: the ways out of each call.
+-- Laws of the calls in numbers. Heads, Shared: a record and its numbers. Calls: the ways out of each call.
 pub mod Heads
+pub mod Shared
 pub mod Calls

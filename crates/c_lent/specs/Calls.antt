@@ -48,14 +48,6 @@ left n s p = record { refused = n; shared = s; point = p }
 abbrev pub pointLeft : Reply → Shared → Point → PointLeft
 pointLeft reply s p = left (numberOf reply) (lendShared s) (lendPoint p)
 
--- the refusal's number, and the point's record: beginning a read changes nothing else
-pub record ReadBegun : Type 0 where
-  pub refused : ℕ
-  pub point : PointLent
-
-abbrev pub readBegun : ℕ → PointLent → ReadBegun
-readBegun n p = record { refused = n; point = p }
-
 -- a step's answer, the image, both records and the lent bytes
 pub record StepLeft : Type 0 where
   pub answer : Answer
@@ -105,26 +97,22 @@ module _ (words : List ℕ) (s : SharedLent) (p : PointLent) where
   unfoldable pub ifKnown : {X : Type 0} → X → (ℕ → X) → X
   ifKnown served refused = elim (isKnown (p .head)) [ true ↦ served | false ↦ refused (unknown words (s .numbers) (s .taken)) ]
 
-  -- a beginning and a step change the map alone of the shared record (points/proofs/Begins `begin-map`, CarriedOut `step-map`): its numbers stay
-  abbrev withMap : Shared → SharedLent
-  withMap t = record { numbers = s .numbers; taken = t .taken }
-
   abbrev pub beginFor : ℕ → List ℕ → PointLeft
   beginFor offset bytes =
       let b = beginning one words (sharedIn s) (pointIn p) offset bytes in
-      ifKnown (left (numberOf (b .reply)) (withMap (b .shared)) (lendPoint (b .point))) (λ n. left n s p)
+      ifKnown (pointLeft (b .reply) (b .shared) (b .point)) (λ n. left n s p)
 
-  abbrev pub beginReadFor : ℕ → ℕ → ReadBegun
+  abbrev pub beginReadFor : ℕ → ℕ → PointLeft
   beginReadFor offset size =
       let b = beginningRead one words (sharedIn s) (pointIn p) offset size in
-      ifKnown (readBegun (numberOf (b .reply)) (lendPoint (b .point))) (λ n. readBegun n p)
+      ifKnown (pointLeft (b .reply) (b .shared) (b .point)) (λ n. left n s p)
 
   -- of the bytes lent to a step those that a read answers come first, and the others are as they were
   abbrev pub stepFor : List ℕ → StepLeft
   stepFor lent =
       let o = stepping one words (sharedIn s) (pointIn p) in
       let answer = answerNumbers (o .step) (storedAt one (o .store)) in
-      ifKnown (stepLeft answer (after one words (o .store)) (withMap (o .shared)) (lendPoint (o .point)) (bytesAfter (o .bytes) lent))
+      ifKnown (stepLeft answer (after one words (o .store)) (lendShared (o .shared)) (lendPoint (o .point)) (bytesAfter (o .bytes) lent))
       (λ n. stepLeft (answerNumbers (Refused n) 0) words s p lent)
 
   abbrev pub leaveFor : SharedLeft

@@ -2,7 +2,7 @@
 use Prim.Native.Nat.{ℕ}
 use mathlib.Core.Bool.{Bool, _&&_}
 use mathlib.Core.List.{List, [], _∷_}
-use lib.ListN.{getD}
+use lib.ListN.{getD, drop}
 use lib.Dec.{leb}
 use denote.Ref.{RefT, now}
 use Rattle.log.specs.declared.Shared.{Shared}
@@ -13,7 +13,7 @@ use Rattle.points.specs.declared.Head.{Head}
 use Rattle.points.specs.declared.Numbers.{Numbers}
 use Rattle.points.specs.declared.Point.{Point}
 use Rattle.points.specs.declared.Count as counted
-use Rattle.points.specs.Record.{phaseNumber, phaseOf, noText, pointOf}
+use Rattle.points.specs.Record.{phaseNumber, phaseOf, noText, pointOf, allBelow}
 use Rattle.points.specs.Stepping.{stepKind, stepValue}
 use Rattle.points.specs.Search.{sharedOf}
 use Rattle.c_lent.specs.declared.Opened.{Opened}
@@ -33,7 +33,7 @@ countNumbers c = record { refused = numberOf (c .reply); count = c .count }
 -- a head's numbers, in the order of C's record
 abbrev pub headNumbers : Head → List ℕ
 headNumbers h =
-    h .number ∷ h .length ∷ h .place .block ∷ h .place .slot ∷ h .place .passed ∷ h .write .offset ∷ h .write .size ∷ h .write .run
+    h .number ∷ h .length ∷ h .place .block ∷ h .place .slot ∷ h .write .offset ∷ h .write .size ∷ h .write .run
     ∷ phaseNumber (h .write .phase) ∷ h .write .position ∷ h .write .zeroing ∷ h .write .retries ∷ []
 
 abbrev pub headFrom : List ℕ → Head
@@ -41,41 +41,45 @@ headFrom xs =
     record {
       number = getD xs 0 0;
       length = getD xs 1 0;
-      place = record { block = getD xs 2 0; slot = getD xs 3 0; passed = getD xs 4 0 };
+      place = record { block = getD xs 2 0; slot = getD xs 3 0 };
       write =
           record {
-            offset = getD xs 5 0;
-            size = getD xs 6 0;
-            run = getD xs 7 0;
-            phase = phaseOf (getD xs 8 0);
-            position = getD xs 9 0;
-            zeroing = getD xs 10 0;
-            retries = getD xs 11 0;
+            offset = getD xs 4 0;
+            size = getD xs 5 0;
+            run = getD xs 6 0;
+            phase = phaseOf (getD xs 7 0);
+            position = getD xs 8 0;
+            zeroing = getD xs 9 0;
+            retries = getD xs 10 0;
           };
     }
 
 -- whether numbers are those of a head: the phase is one of seven, and the retry count is at most 65,535
 abbrev pub isKnown : List ℕ → Bool
-isKnown xs = leb (getD xs 8 0) 6 && leb (getD xs 11 0) 65535
+isKnown xs = leb (getD xs 7 0) 6 && leb (getD xs 10 0) 65535
 
--- the shared record's numbers, beside its map
+-- the shared record's numbers, beside its map: the reports come last
 abbrev pub sharedNumbers : Shared → List ℕ
-sharedNumbers s = s .blocks ∷ s .joined ∷ []
+sharedNumbers s = s .blocks ∷ s .joined ∷ s .chain ∷ s .reports
+
+abbrev pub reportsFrom : List ℕ → List ℕ
+reportsFrom xs = drop 3 xs
 
 abbrev pub leadFrom : List ℕ → Numbers
-leadFrom xs = record { blocks = getD xs 0 0; joined = getD xs 1 0 }
+leadFrom xs =
+    record { blocks = getD xs 0 0; joined = getD xs 1 0; chain = getD xs 2 0; inside = allBelow (getD xs 0 0) (reportsFrom xs) }
 
 abbrev pub sharedFrom : List ℕ → List ℕ → Shared
-sharedFrom xs taken = sharedOf (leadFrom xs) taken
+sharedFrom xs taken = sharedOf (leadFrom xs) taken (reportsFrom xs)
 
 -- ---- records as they are lent
 
--- the shared record: its two numbers, and its map
+-- the shared record: its numbers, and its map
 pub record SharedLent : Type 0 where
   pub numbers : List ℕ
   pub taken : List ℕ
 
--- a point's record: its twelve numbers, its table and its text
+-- a point's record: its eleven numbers, its table and its text
 pub record PointLent : Type 0 where
   pub head : List ℕ
   pub table : List ℕ

@@ -1,10 +1,9 @@
-// The calls with records and answers in numbers, and each record lent in parts, arrays all of them: `shared` is blocks and joined points, `taken`
-// the map; `head` the twelve numbers of a point's record, beside `table` and `text`. Crate `c_api` exports them to C, on whole records.
+// The calls with records and answers in numbers, and each record lent in parts, arrays all of them: `shared` is blocks, joined points, chain length and
+// the 32 reports, `taken` the map; `head` the eleven numbers of a point's record, beside `table` and `text`. Crate `c_api` exports them to C, on whole
+// records.
 ghost use mathlib.Core.Path.{_≡_};
-ghost use mathlib.Core.List.{List};
-ghost use Prim.Native.Nat.{ℕ};
-ghost use Rattle.c_lent.specs.Numbers.{sharedLent, sharedAs, pointLent, textless};
-ghost use Rattle.c_lent.specs.Calls.{OpensFor, left, readBegun, stepLeft, sharedLeft, readLeft};
+ghost use Rattle.c_lent.specs.Numbers.{sharedLent, pointLent, textless};
+ghost use Rattle.c_lent.specs.Calls.{OpensFor, left, stepLeft, sharedLeft, readLeft};
 ghost use Rattle.c_lent.specs.Calls.{sharedFor, joinFor, beginFor, beginReadFor, stepFor, leaveFor, readFor, locateFor};
 use points::StepAnswer;
 
@@ -37,7 +36,7 @@ pub mod numbers;
 pub fn open(
     image: &[u64],
     scratch: &mut [u16],
-    shared: &mut [u32; 2],
+    shared: &mut [u32; 35],
     taken: &mut [u64; 16],
 ) -> Opened
     ensures { λ r. ⌜ OpensFor (now (image .entry)) (now (scratch .entry)) r (now (scratch .exit))
@@ -46,17 +45,17 @@ pub fn open(
     let opened = log::open::open(image, scratch);
     let kept = opened.shared;
     let map = kept.taken;
-    *shared = numbers::of_shared(kept);
+    numbers::put_shared(shared, kept);
     *taken = map;
     numbers::of_opened(opened)
 }
 
 pub fn join(
     image: &[u64],
-    shared: &mut [u32; 2],
+    shared: &mut [u32; 35],
     taken: &mut [u64; 16],
     number: u32,
-    head: &mut [u32; 12],
+    head: &mut [u32; 11],
     table: &mut [u16; 256],
     text: &mut [u8; 1024],
 ) -> u32
@@ -71,7 +70,7 @@ pub fn join(
     let left = point.head;
     let own_table = point.table;
     let own_text = point.text;
-    *shared = numbers::of_shared(kept);
+    numbers::put_shared(shared, kept);
     *taken = map;
     *head = numbers::of_head(left);
     *table = own_table;
@@ -81,9 +80,9 @@ pub fn join(
 
 pub fn begin(
     image: &[u64],
-    shared: &mut [u32; 2],
+    shared: &mut [u32; 35],
     taken: &mut [u64; 16],
-    head: &mut [u32; 12],
+    head: &mut [u32; 11],
     table: &mut [u16; 256],
     text: &mut [u8; 1024],
     offset: usize,
@@ -107,22 +106,24 @@ pub fn begin(
     );
     let reply = begun.reply;
     let left = begun.head;
+    numbers::put_begun(shared, reply, left);
     *head = numbers::of_head(left);
     numbers::of_reply(reply)
 }
 
-// Beginning a read: of the shared record no more than its numbers is looked at, and nothing changed.
+// Beginning a read: the map is not looked at.
 pub fn begin_read(
     image: &[u64],
-    shared: &[u32; 2],
-    head: &mut [u32; 12],
+    shared: &mut [u32; 35],
+    taken: &mut [u64; 16],
+    head: &mut [u32; 11],
     table: &mut [u16; 256],
     text: &mut [u8; 1024],
     offset: usize,
     size: usize,
 ) -> u32
-    ensures { λ r. ⌜ ((taken : List ℕ) → readBegun r (pointLent (head .exit) (table .exit) (text .exit)) ≡ beginReadFor (now (image .entry))
-        (sharedAs (now (shared .entry)) taken) (pointLent (head .entry) (table .entry) (text .entry)) offset size) ⌝ }
+    ensures { λ r. ⌜ left r (sharedLent (shared .exit) (taken .exit)) (pointLent (head .exit) (table .exit) (text .exit)) ≡ beginReadFor
+        (now (image .entry)) (sharedLent (shared .entry) (taken .entry)) (pointLent (head .entry) (table .entry) (text .entry)) offset size ⌝ }
 {
     if !numbers::is_known(head) {
         return numbers::unknown(image, shared);
@@ -138,6 +139,7 @@ pub fn begin_read(
     );
     let reply = begun.reply;
     let left = begun.head;
+    numbers::put_begun(shared, reply, left);
     *head = numbers::of_head(left);
     numbers::of_reply(reply)
 }
@@ -145,9 +147,9 @@ pub fn begin_read(
 // A step of a write or of a read. The bytes that the last step of a read answers come to the front of `bytes`; no other step touches it.
 pub fn step(
     image: &mut [u64],
-    shared: &mut [u32; 2],
+    shared: &mut [u32; 35],
     taken: &mut [u64; 16],
-    head: &mut [u32; 12],
+    head: &mut [u32; 11],
     table: &mut [u16; 256],
     text: &mut [u8; 1024],
     bytes: &mut [u8; 1024],
@@ -171,15 +173,17 @@ pub fn step(
     );
     let step = stepped.step;
     let left = stepped.head;
+    let reports = stepped.reports;
+    numbers::put_reported(shared, reports, left);
     *head = numbers::of_head(left);
     numbers::of_step(step, stepped.word)
 }
 
 pub fn leave(
     image: &[u64],
-    shared: &mut [u32; 2],
+    shared: &mut [u32; 35],
     taken: &mut [u64; 16],
-    head: &[u32; 12],
+    head: &[u32; 11],
     table: &[u16; 256],
 ) -> u32
     ensures { λ r. ⌜ sharedLeft r (sharedLent (shared .exit) (taken .exit))
@@ -197,16 +201,16 @@ pub fn leave(
     let reply = left.reply;
     let kept = left.shared;
     let map = kept.taken;
-    *shared = numbers::of_shared(kept);
+    numbers::put_shared(shared, kept);
     *taken = map;
     numbers::of_reply(reply)
 }
 
 pub fn read(
     image: &[u64],
-    shared: &[u32; 2],
+    shared: &[u32; 35],
     taken: &[u64; 16],
-    head: &[u32; 12],
+    head: &[u32; 11],
     table: &[u16; 256],
     offset: usize,
     buffer: &mut [u8],
@@ -229,9 +233,9 @@ pub fn read(
 
 pub fn locate(
     image: &[u64],
-    shared: &[u32; 2],
+    shared: &[u32; 35],
     taken: &[u64; 16],
-    head: &[u32; 12],
+    head: &[u32; 11],
     table: &[u16; 256],
     block: usize,
 ) -> Count

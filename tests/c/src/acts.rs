@@ -209,6 +209,8 @@ impl Run {
     pub fn look(&mut self) -> Done {
         let places = [self.places(true), self.places(false)].concat();
         let (words, p) = (self.words(), self.a_place(&places));
+        let number = self.random.below(33) as u32;
+        self.world.behind(words, number)?;
         if self.random.once_in(2) {
             let offset = self.offset();
             let room = *self.random.pick(&[0, 1, 9, 512, 3_000, 140_000]);

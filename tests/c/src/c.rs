@@ -8,6 +8,8 @@ use std::mem::{align_of, offset_of, size_of};
 pub struct Shared {
     pub blocks: u32,
     pub joined: u32,
+    pub chain: u32,
+    pub reports: [u32; 32],
     pub taken: [u64; 16],
 }
 
@@ -18,7 +20,6 @@ pub struct Head {
     pub length: u32,
     pub block: u32,
     pub slot: u32,
-    pub passed: u32,
     pub offset: u32,
     pub size: u32,
     pub run: u32,
@@ -61,10 +62,10 @@ pub struct Count {
 }
 
 const _: () = {
-    assert!(size_of::<Shared>() == 136 && align_of::<Shared>() == 8);
-    assert!(offset_of!(Shared, joined) == 4 && offset_of!(Shared, taken) == 8);
-    assert!(size_of::<Head>() == 48 && align_of::<Head>() == 4 && offset_of!(Head, retries) == 44);
-    assert!(size_of::<Point>() == 1_584 && offset_of!(Point, table) == 48 && offset_of!(Point, text) == 560);
+    assert!(size_of::<Shared>() == 272 && align_of::<Shared>() == 8 && offset_of!(Shared, joined) == 4);
+    assert!(offset_of!(Shared, chain) == 8 && offset_of!(Shared, reports) == 12 && offset_of!(Shared, taken) == 144);
+    assert!(size_of::<Head>() == 44 && align_of::<Head>() == 4 && offset_of!(Head, retries) == 40);
+    assert!(size_of::<Point>() == 1_580 && offset_of!(Point, table) == 44 && offset_of!(Point, text) == 556);
     assert!(size_of::<Opened>() == 16 && size_of::<Answer>() == 16 && size_of::<Count>() == 8);
 };
 
@@ -118,7 +119,7 @@ extern "C" {
     pub fn shim_begin_read(
         image: *const u64,
         words: usize,
-        shared: *const Shared,
+        shared: *mut Shared,
         point: *mut Point,
         offset: usize,
         size: usize,
@@ -154,6 +155,7 @@ extern "C" {
         point: *const Point,
         block: usize,
     ) -> *const u64;
+    pub fn shim_behind(image: *const u64, words: usize, shared: *const Shared, number: u32) -> u32;
     pub fn shim_reserve(bytes: usize) -> *mut u8;
     pub fn shim_release(found: *mut u8, bytes: usize);
 }

@@ -25,14 +25,18 @@ fn shared_of(shared: &Shared) -> record::Shared {
         blocks: shared.blocks as usize,
         map: shared.taken,
         joined: shared.joined,
+        chain: shared.chain as usize,
+        reports: shared.reports.map(|block| block as usize),
     }
 }
 
 fn c_shared(shared: &record::Shared) -> Shared {
     Shared {
         blocks: shared.blocks as u32,
-        taken: shared.map,
         joined: shared.joined,
+        chain: shared.chain as u32,
+        reports: shared.reports.map(|block| block as u32),
+        taken: shared.map,
     }
 }
 
@@ -51,7 +55,6 @@ fn record_of(words: usize, shared: &Shared, point: &Point) -> Result<Record, Ref
             length: head.length as usize,
             block: head.block as usize,
             slot: head.slot as usize,
-            passed: head.passed as usize,
         },
         write: record::Write {
             offset: head.offset as usize,
@@ -73,7 +76,6 @@ fn c_point(record: &Record) -> Point {
         length: view.length as u32,
         block: view.block as u32,
         slot: view.slot as u32,
-        passed: view.passed as u32,
         offset: write.offset as u32,
         size: write.text_length as u32,
         run: write.run as u32,
@@ -144,11 +146,13 @@ pub fn begin(image: &[u64], shared: &mut Shared, point: &mut Point, offset: usiz
     }))
 }
 
-/// Beginning a read: the shared record stays as it is.
-pub fn begin_read(image: &[u64], shared: &Shared, point: &mut Point, offset: usize, size: usize) -> u32 {
+pub fn begin_read(image: &[u64], shared: &mut Shared, point: &mut Point, offset: usize, size: usize) -> u32 {
     let record = record_of(image.len(), shared, point);
     let begun = record.and_then(|record| reading::begin_read(image, &shared_of(shared), &record, offset, size));
-    refusal(begun.map(|record| *point = c_point(&record)))
+    refusal(begun.map(|(after, record)| {
+        *shared = c_shared(&after);
+        *point = c_point(&record);
+    }))
 }
 
 /// A step; a read's bytes come to the front of `bytes`.
@@ -198,6 +202,22 @@ pub fn read(image: &[u64], shared: &Shared, point: &Point, offset: usize, buffer
 pub fn locate(image: &[u64], shared: &Shared, point: &Point, block: usize) -> Count {
     let record = record_of(image.len(), shared, point);
     count(record.and_then(|record| calls::locate(image, &shared_of(shared), &record, block)))
+}
+
+/// How many log blocks a point is behind: those that come after its reported
+/// block, as far as next indexes lead inside the image, and no more than the
+/// chain has.
+pub fn behind(image: &[u64], shared: &Shared, number: u32) -> u32 {
+    if !shared_of(shared).has_joined(number as usize) {
+        return 0;
+    }
+    let next = |&block: &u64| {
+        let is_inside = block > 0 && block < u64::from(shared.blocks) && 64 * block < image.len() as u64;
+        is_inside.then(|| image[64 * block as usize])
+    };
+    let from = u64::from(shared.reports[number as usize]);
+    let after = std::iter::successors(Some(from), next).skip(1).take_while(|&block| block != 0);
+    after.take(shared.chain.min(64) as usize).count() as u32
 }
 
 /// Where the part begins, if it is not empty.

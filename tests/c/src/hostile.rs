@@ -72,7 +72,7 @@ impl Run {
 
     /// Changes one field of the record.
     fn alter_field(&mut self, p: usize) {
-        let (field, value) = (self.random.below(12), self.a_number());
+        let (field, value) = (self.random.below(11), self.a_number());
         self.world.alter(p, |point| {
             let head = &mut point.head;
             match field {
@@ -80,13 +80,12 @@ impl Run {
                 1 => head.length = value,
                 2 => head.block = value,
                 3 => head.slot = value,
-                4 => head.passed = value,
-                5 => head.offset = value,
-                6 => head.size = value,
-                7 => head.run = value,
-                8 => head.phase = value,
-                9 => head.position = value,
-                10 => head.zeroing = value,
+                4 => head.offset = value,
+                5 => head.size = value,
+                6 => head.run = value,
+                7 => head.phase = value,
+                8 => head.position = value,
+                9 => head.zeroing = value,
                 _ => head.retries = value,
             }
         });
@@ -94,12 +93,16 @@ impl Run {
 
     fn alter_shared(&mut self) {
         let (value, word) = (self.a_number(), self.random.any());
-        let (field, i) = (self.random.below(5), self.random.below(16));
+        let (field, i) = (self.random.below(8), self.random.below(16));
+        let (p, chain) = (self.random.below(32), *self.random.pick(&[0, 1, 2, 63, 64, 65, value]));
+        let report = *self.random.pick(&[0, 1, self.blocks() as u32 - 1, self.blocks() as u32, value]);
         self.world.alter_shared(|shared| match field {
             0 => shared.blocks = value,
             1 => shared.joined = value,
             2 => shared.taken = [u64::MAX; 16],
             3 => shared.taken[0] = word,
+            4 => shared.chain = chain,
+            5 | 6 => shared.reports[p] = report,
             _ => shared.taken[i] = word,
         });
     }
@@ -131,17 +134,21 @@ impl Run {
         });
     }
 
-    /// A record that zeroes a log block, or has just done so.
+    /// A record that zeroes a log block, or has just done so, in a chain that
+    /// may be full.
     fn alter_zeroing(&mut self, p: usize) {
+        if self.random.once_in(2) {
+            self.alter_write(p);
+        }
         let phase = *self.random.pick(&[5, 5, 5, 1, 4]);
-        let (zeroing, position) =
-            (self.random.between(1, self.blocks()) as u32, self.random.between(60, 65) as u32);
-        let passed = *self.random.pick(&[1, 63, 64]);
+        let zeroing = self.random.between(1, self.blocks()) as u32;
+        let position = *self.random.pick(&[60, 63, 64, 64, 65]);
+        let chain = *self.random.pick(&[1, 63, 64]);
         self.world.alter(p, |point| {
             let head = &mut point.head;
-            (head.slot, head.phase, head.zeroing) = (64, phase, zeroing);
-            (head.position, head.passed) = (position, passed);
+            (head.slot, head.phase, head.zeroing, head.position) = (64, phase, zeroing, position);
         });
+        self.world.alter_shared(|shared| shared.chain = chain);
     }
 
     /// All numbers of the record become anything.
@@ -198,9 +205,10 @@ impl Run {
         }
         let (words, offset) = (self.usual(), self.offset());
         for _ in 0..self.random.between(1, 4) {
-            match self.random.below(9) {
+            match self.random.below(10) {
                 0 => self.world.begin(words, p, offset, &[5; 600], 600).map(drop)?,
                 8 => self.world.begin_read(words, p, offset, 600).map(drop)?,
+                9 => self.world.behind(words, self.random.below(33) as u32)?,
                 1 => self.world.read(words, p, offset, 700).map(drop)?,
                 2 => self.world.leave(words, p).map(drop)?,
                 3 => self.world.view(words, p, offset / 512)?,

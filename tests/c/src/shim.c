@@ -9,29 +9,30 @@
 #define PLACE_IS(type, field, width, place) \
     _Static_assert(offsetof(type, field) == (place) && sizeof(((type *)0)->field) == (width), "the place of " #type "." #field)
 
-SIZE_IS(store_shared, 136, 8);
+SIZE_IS(store_shared, 272, 8);
 PLACE_IS(store_shared, blocks, 4, 0);
 PLACE_IS(store_shared, joined, 4, 4);
-PLACE_IS(store_shared, taken, 128, 8);
+PLACE_IS(store_shared, chain, 4, 8);
+PLACE_IS(store_shared, reports, 128, 12);
+PLACE_IS(store_shared, taken, 128, 144);
 
-SIZE_IS(store_head, 48, 4);
+SIZE_IS(store_head, 44, 4);
 PLACE_IS(store_head, number, 4, 0);
 PLACE_IS(store_head, length, 4, 4);
 PLACE_IS(store_head, block, 4, 8);
 PLACE_IS(store_head, slot, 4, 12);
-PLACE_IS(store_head, passed, 4, 16);
-PLACE_IS(store_head, offset, 4, 20);
-PLACE_IS(store_head, size, 4, 24);
-PLACE_IS(store_head, run, 4, 28);
-PLACE_IS(store_head, phase, 4, 32);
-PLACE_IS(store_head, position, 4, 36);
-PLACE_IS(store_head, zeroing, 4, 40);
-PLACE_IS(store_head, retries, 4, 44);
+PLACE_IS(store_head, offset, 4, 16);
+PLACE_IS(store_head, size, 4, 20);
+PLACE_IS(store_head, run, 4, 24);
+PLACE_IS(store_head, phase, 4, 28);
+PLACE_IS(store_head, position, 4, 32);
+PLACE_IS(store_head, zeroing, 4, 36);
+PLACE_IS(store_head, retries, 4, 40);
 
-SIZE_IS(store_point, 1584, 4);
-PLACE_IS(store_point, head, 48, 0);
-PLACE_IS(store_point, table, 512, 48);
-PLACE_IS(store_point, text, 1024, 560);
+SIZE_IS(store_point, 1580, 4);
+PLACE_IS(store_point, head, 44, 0);
+PLACE_IS(store_point, table, 512, 44);
+PLACE_IS(store_point, text, 1024, 556);
 
 SIZE_IS(store_opened, 16, 4);
 PLACE_IS(store_opened, refused, 4, 0);
@@ -74,8 +75,7 @@ uint32_t shim_begin(const uint64_t *image, size_t words, store_shared *shared, s
     return store_begin(image, words, shared, point, offset, bytes, size);
 }
 
-uint32_t shim_begin_read(const uint64_t *image, size_t words, const store_shared *shared, store_point *point, size_t offset,
-                         size_t size)
+uint32_t shim_begin_read(const uint64_t *image, size_t words, store_shared *shared, store_point *point, size_t offset, size_t size)
 {
     return store_begin_read(image, words, shared, point, offset, size);
 }
@@ -104,6 +104,11 @@ store_count shim_locate(const uint64_t *image, size_t words, const store_shared 
 const uint64_t *shim_view(const uint64_t *image, size_t words, const store_shared *shared, const store_point *point, size_t block)
 {
     return store_view(image, words, shared, point, block);
+}
+
+uint32_t shim_behind(const uint64_t *image, size_t words, const store_shared *shared, uint32_t number)
+{
+    return store_behind(image, words, shared, number);
 }
 
 /* Addresses for lengths of more than 32 bits: all zeros, no memory until something is stored. Null where there are none. */

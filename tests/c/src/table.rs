@@ -6,7 +6,7 @@ use second::tally::Tally;
 use crate::c::*;
 
 /// Each call with its answers and the refusals that the header lists for it.
-pub const CALLS: [(&str, &[&str], &[u32]); 11] = [
+pub const CALLS: [(&str, &[&str], &[u32]); 12] = [
     ("lay_out", &["done"], &[1]),
     ("open", &["done"], &[1, 2, 3, 4, 5, 6, 7, 8, 9]),
     ("list", &["done"], &[1, 2, 3, 4, 5, 6, 7, 8, 9]),
@@ -22,11 +22,13 @@ pub const CALLS: [(&str, &[&str], &[u32]); 11] = [
     ("read", &["done"], &[10, 11, 14, 18]),
     ("locate", &["done"], &[10, 11, 14, 17, 18, 22]),
     ("view", &["done"], &[10, 11, 14, 17, 18, 22]),
+    ("behind", &["by none", "by some"], &[]),
 ];
 
-const TURNS: [&str; 9] = [
+const TURNS: [&str; 10] = [
     "linked",
     "lost link",
+    "20 at the link",
     "refills nothing",
     "refills first",
     "refills last",
@@ -90,6 +92,7 @@ impl Counting for Tally {
         let turn = match (answer.kind, after.phase) {
             (STORED, 1) if was_zeroing => "linked",
             (MOVED, _) if was_zeroing => "lost link",
+            (REFUSED, _) if was_zeroing && answer.value == 20 => "20 at the link",
             (MOVED, 1) => "refills nothing",
             (MOVED, 2) => "refills first",
             (MOVED, 3) => "refills last",

@@ -316,6 +316,18 @@ impl World {
         Ok(())
     }
 
+    /// How many log blocks a point is behind.
+    pub fn behind(&mut self, words: usize, number: u32) -> Result<(), String> {
+        self.last = ("behind", [words, number as usize, 0, 0]);
+        let (image, shared, _) = self.there(0);
+        let there = unsafe { shim_behind(image, words, shared, number) };
+        let (image, shared, _) = self.here(words, 0);
+        let here = expected::behind(image, shared, number);
+        self.agree(there, here)?;
+        self.tally.count("behind", if here == 0 { "by none" } else { "by some" });
+        Ok(())
+    }
+
     /// Counts a call with a point's record.
     fn count(&mut self, call: &str, words: usize, before: &Head, refused: u32) {
         self.count_image(words);

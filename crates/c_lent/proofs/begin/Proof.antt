@@ -7,7 +7,7 @@ use Rattle.c_lent.proofs.begin.Tie as tie
 
 -- the way back, call by call
 abbrev begun : tie.After-of-reply → tie.After-begin-lent
-begun c = c .before .before .before
+begun c = c .before .before .before .before .before
 
 abbrev headed : tie.After-begin-lent → tie.After-head
 headed c = c .before .before .before
@@ -43,6 +43,9 @@ head-requires c κs = let t = tested (c .before .before) in tests-known (t .befo
 begin-lent-requires : tie.Need-begin-lent-requires
 begin-lent-requires c κs = search needs
 
+put-begun-requires : tie.Need-put-begun-requires
+put-begun-requires c κs = search needs
+
 of-head-requires : tie.Need-of-head-requires
 of-head-requires c κs = search needs
 
@@ -58,8 +61,8 @@ returns-2 c =
     let a = start (t .before) .args in
     let y = b .begin-lent in
     begin-known (a .image .now) (sharedLent (a .shared) (a .taken)) (pointLent (a .head) (a .table) (a .text))
-    (tests-known (t .before .is-known .ensures) (t .if1 .left)) _ (h .head .ensures) _ (l .lead .ensures) (a .offset) (a .bytes .now)
-    (y .result) _ _ _ (y .ensures) _ (c .of-reply .ensures) _ (c .before .of-head .ensures)
+    (tests-known (t .before .is-known .ensures) (t .if1 .left)) _ (h .head .ensures) _ (l .lead .ensures) (a .offset) (y .result) _ _
+    _ (c .of-reply .ensures) _ (c .before .of-head .ensures) _ (c .before .before .put-begun .ensures) (a .bytes .now) _ (y .ensures)
 
 pub begin-spec : {M : Type 1} → statement M
 begin-spec =
@@ -71,6 +74,7 @@ begin-spec =
     lead-requires
     head-requires
     begin-lent-requires
+    put-begun-requires
     of-head-requires
     of-reply-requires
     returns-2)

@@ -1,5 +1,5 @@
--- `c_lent::begin_read`: refused where the record's numbers are none, else as the call answers; whatever the map is. Assumes nothing.
-use Rattle.c_lent.specs.Numbers.{sharedAs, pointLent}
+-- `c_lent::begin_read`: refused where the record's numbers are none, else as the call answers. Assumes nothing.
+use Rattle.c_lent.specs.Numbers.{sharedLent, pointLent}
 use Rattle.c_lent.proofs.Calls.{tests-none, tests-known, is-none, begin-read-known}
 use borrow.Author.Needs.{needs}
 use Rattle.c_lent.proofs.begin_read.Statement.{statement}
@@ -7,7 +7,7 @@ use Rattle.c_lent.proofs.begin_read.Tie as tie
 
 -- the way back, call by call
 abbrev begun : tie.After-of-reply → tie.After-begin-read-lent
-begun c = c .before .before .before
+begun c = c .before .before .before .before .before
 
 abbrev headed : tie.After-begin-read-lent → tie.After-head
 headed c = c .before .before .before
@@ -16,7 +16,7 @@ abbrev led : tie.After-head → tie.After-lead
 led c = c .before .before
 
 abbrev tested : tie.After-lead → tie.Else1
-tested c = c .before
+tested c = c .before .before
 
 abbrev start : tie.After-is-known → tie.Start
 start c = c .before .before .before
@@ -28,11 +28,11 @@ unknown-requires : tie.Need-unknown-requires
 unknown-requires c κs = search needs
 
 returns : tie.Need-returns
-returns c taken =
-    let t = c .before in
+returns c =
+    let t = c .before .before in
     let a = start (t .before) .args in
-    is-none (a .image .now) (sharedAs (a .shared .now) taken) (pointLent (a .head) (a .table) (a .text)) _ _
-    (tests-none (t .before .is-known .ensures) (t .if1 .taken)) _ (c .unknown .ensures taken)
+    is-none (a .image .now) (sharedLent (a .shared) (a .taken)) (pointLent (a .head) (a .table) (a .text)) _ _
+    (tests-none (t .before .is-known .ensures) (t .if1 .taken)) _ (c .unknown .ensures (a .taken .now))
 
 lead-requires : tie.Need-lead-requires
 lead-requires c κs = search needs
@@ -43,6 +43,9 @@ head-requires c κs = let t = tested (c .before) in tests-known (t .before .is-k
 begin-read-lent-requires : tie.Need-begin-read-lent-requires
 begin-read-lent-requires c κs = search needs
 
+put-begun-requires : tie.Need-put-begun-requires
+put-begun-requires c κs = search needs
+
 of-head-requires : tie.Need-of-head-requires
 of-head-requires c κs = search needs
 
@@ -50,16 +53,16 @@ of-reply-requires : tie.Need-of-reply-requires
 of-reply-requires c κs = search needs
 
 returns-2 : tie.Need-returns-2
-returns-2 c taken =
+returns-2 c =
     let b = begun c in
     let h = headed b in
     let l = led h in
     let t = tested l in
     let a = start (t .before) .args in
     let y = b .begin-read-lent in
-    begin-read-known (a .image .now) (sharedAs (a .shared .now) taken) (pointLent (a .head) (a .table) (a .text))
-    (tests-known (t .before .is-known .ensures) (t .if1 .left)) _ (h .head .ensures) _ (l .lead .ensures) (a .offset) (a .size)
-    (y .result) _ _ (y .ensures taken) _ (c .of-reply .ensures) _ (c .before .of-head .ensures)
+    begin-read-known (a .image .now) (sharedLent (a .shared) (a .taken)) (pointLent (a .head) (a .table) (a .text))
+    (tests-known (t .before .is-known .ensures) (t .if1 .left)) _ (h .head .ensures) _ (l .lead .ensures) (a .offset) (y .result) _ _
+    _ (c .of-reply .ensures) _ (c .before .of-head .ensures) _ (c .before .before .put-begun .ensures) (a .size) (y .ensures (a .taken .now))
 
 pub begin-read-spec : {M : Type 1} → statement M
 begin-read-spec =
@@ -71,6 +74,7 @@ begin-read-spec =
     lead-requires
     head-requires
     begin-read-lent-requires
+    put-begun-requires
     of-head-requires
     of-reply-requires
     returns-2)

@@ -7,7 +7,7 @@ use Rattle.c_lent.proofs.join.Tie as tie
 
 -- the way back, call by call
 abbrev copied : tie.After-of-reply → tie.After-left
-copied c = c .before .before .before .before .before
+copied c = c .before .before .before .before .before .before
 
 abbrev joined : tie.After-left → tie.After-join
 joined c = c .before .before .before .before
@@ -21,8 +21,8 @@ shared-requires c κs = search needs
 join-requires : tie.Need-join-requires
 join-requires c κs = search needs
 
-of-shared-requires : tie.Need-of-shared-requires
-of-shared-requires c κs = search needs
+put-shared-requires : tie.Need-put-shared-requires
+put-shared-requires c κs = search needs
 
 of-head-requires : tie.Need-of-head-requires
 of-head-requires c κs = search needs
@@ -35,7 +35,7 @@ returns c =
     let j = joined (copied c) in
     let a = start j .args in
     join-as (a .image .now) (sharedLent (a .shared) (a .taken)) (a .number) _ (j .before .shared .ensures) (j .join .result) (j .join .ensures)
-    _ (c .of-reply .ensures) _ _ (c .before .before .of-shared .ensures) (c .before .of-head .ensures)
+    _ (c .of-reply .ensures) _ _ (c .before .before .put-shared .ensures) (c .before .of-head .ensures)
 
 pub join-spec : {M : Type 1} → statement M
 join-spec =
@@ -43,7 +43,7 @@ join-spec =
     (tie.spec
     shared-requires
     join-requires
-    of-shared-requires
+    put-shared-requires
     of-head-requires
     of-reply-requires
     returns)

@@ -8,7 +8,7 @@ use Rattle.c_lent.proofs.leave.Tie as tie
 
 -- the way back, call by call
 abbrev gone : tie.After-of-reply → tie.After-leave-lent
-gone c = c .before .before .before .before
+gone c = c .before .before .before .before .before
 
 abbrev shared : tie.After-leave-lent → tie.After-shared
 shared c = c .before .before
@@ -41,8 +41,8 @@ head-requires c κs = let t = tested c in tests-known (t .before .is-known .ensu
 leave-lent-requires : tie.Need-leave-lent-requires
 leave-lent-requires c κs = search needs
 
-of-shared-requires : tie.Need-of-shared-requires
-of-shared-requires c κs = search needs
+put-shared-requires : tie.Need-put-shared-requires
+put-shared-requires c κs = search needs
 
 of-reply-requires : tie.Need-of-reply-requires
 of-reply-requires c κs = search needs
@@ -55,7 +55,7 @@ returns-2 c =
     let a = start (t .before) .args in
     leave-known (a .image .now) (sharedLent (a .shared) (a .taken)) (textless (a .head) (a .table))
     (tests-known (t .before .is-known .ensures) (t .if1 .left)) _ (l .before .head .ensures) _ (s .shared .ensures)
-    (l .leave-lent .result) (l .leave-lent .ensures noText) _ (c .of-reply .ensures) _ (c .before .of-shared .ensures)
+    (l .leave-lent .result) (l .leave-lent .ensures noText) _ (c .of-reply .ensures) _ (c .before .put-shared .ensures)
 
 pub leave-spec : {M : Type 1} → statement M
 leave-spec =
@@ -67,6 +67,6 @@ leave-spec =
     shared-requires
     head-requires
     leave-lent-requires
-    of-shared-requires
+    put-shared-requires
     of-reply-requires
     returns-2)

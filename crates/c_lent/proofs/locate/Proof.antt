@@ -1,7 +1,5 @@
 -- `c_lent::locate`: refused where the record's numbers are none, else as the call answers. Assumes nothing.
-use mathlib.Core.Path.{_∙_, ap}
-use Rattle.points.specs.declared.Numbers.{Numbers}
-use Rattle.points.specs.Search.{sharedOf}
+use mathlib.Core.Path.{_∙_}
 use Rattle.c_lent.specs.Numbers.{sharedLent, textless}
 use Rattle.c_lent.proofs.Calls.{tests-none, tests-known, is-none, locate-known}
 use borrow.Author.Needs.{needs}
@@ -47,9 +45,8 @@ returns-2 c =
     let s = h .before in
     let t = s .before in
     let a = start (t .before) .args in
-    let shared = ap (λ (n : Numbers). sharedOf n (a .taken .now)) (s .lead .ensures) in
     locate-known (a .image .now) (sharedLent (a .shared) (a .taken)) (textless (a .head) (a .table))
-    (tests-known (t .before .is-known .ensures) (t .if1 .left)) _ (h .head .ensures) _ shared (a .block)
+    (tests-known (t .before .is-known .ensures) (t .if1 .left)) _ (h .head .ensures) _ (s .lead .ensures) (a .block)
     _ _ (c .before .locate-lent .ensures (a .taken .now)) (c .of-count .ensures)
 
 pub locate-spec : {M : Type 1} → statement M

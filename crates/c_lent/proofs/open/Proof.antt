@@ -9,8 +9,8 @@ use Rattle.c_lent.proofs.open.Tie as tie
 open-requires : tie.Need-open-requires
 open-requires c κs = search needs
 
-of-shared-requires : tie.Need-of-shared-requires
-of-shared-requires c κs = search needs
+put-shared-requires : tie.Need-put-shared-requires
+put-shared-requires c κs = search needs
 
 of-opened-requires : tie.Need-of-opened-requires
 of-opened-requires c κs = search needs
@@ -20,9 +20,9 @@ same-length c = search needs
 
 returns : tie.Need-returns
 returns c =
-    let o = c .before .before .before .before .before .before .«open» in (
+    let o = c .before .before .before .before .before .before .before .«open» in (
       record { answers = c .of-opened .ensures ∙ ap openedNumbers (o .ensures .0); marks = o .ensures .1 },
-      rw (c .before .of-shared .ensures) (ap (λ (x : Opened). lendShared (x .shared)) (o .ensures .0)),
+      rw (c .before .put-shared .ensures) (ap (λ (x : Opened). lendShared (x .shared)) (o .ensures .0)),
     )
 
 pub open-spec : {M : Type 1} → statement M
@@ -30,7 +30,7 @@ open-spec =
     tie.close
     (tie.spec
     open-requires
-    of-shared-requires
+    put-shared-requires
     of-opened-requires
     same-length
     returns)

@@ -1,7 +1,4 @@
 -- `c_lent::read`: refused where the record's numbers are none, and the buffer untouched; else as the call answers. Assumes nothing.
-use mathlib.Core.Path.{ap}
-use Rattle.points.specs.declared.Numbers.{Numbers}
-use Rattle.points.specs.Search.{sharedOf}
 use Rattle.c_lent.specs.Numbers.{sharedLent, textless}
 use Rattle.c_lent.proofs.Calls.{tests-none, tests-known, is-none, read-known}
 use borrow.Author.Needs.{needs}
@@ -57,11 +54,9 @@ returns-2 c =
     let s = h .before in
     let t = s .before in
     let a = start (t .before) .args in
-    let shared = ap (λ (n : Numbers). sharedOf n (a .taken .now)) (s .lead .ensures) in
-    let now = r .read-lent .ensures (a .taken .now) in
     read-known (a .image .now) (sharedLent (a .shared) (a .taken)) (textless (a .head) (a .table))
-    (tests-known (t .before .is-known .ensures) (t .if1 .left)) _ (h .head .ensures) _ shared (a .offset) (a .buffer .now)
-    _ _ _ (now .count) (now .bytes) (c .of-count .ensures)
+    (tests-known (t .before .is-known .ensures) (t .if1 .left)) _ (h .head .ensures) _ (s .lead .ensures) (a .offset) (a .buffer .now)
+    _ _ _ (r .read-lent .ensures (a .taken .now)) (c .of-count .ensures)
 
 pub read-spec : {M : Type 1} → statement M
 read-spec =

@@ -7,7 +7,7 @@ use Rattle.c_lent.proofs.step.Tie as tie
 
 -- the way back, call by call
 abbrev stepped : tie.After-of-step2 → tie.After-step-lent
-stepped c = c .before .before .before .before .before
+stepped c = c .before .before .before .before .before .before .before
 
 abbrev headed : tie.After-step-lent → tie.After-head
 headed c = c .before .before .before .before
@@ -50,6 +50,11 @@ head-requires c κs = let t = tested (c .before .before .before) in tests-known 
 step-lent-requires : tie.Need-step-lent-requires
 step-lent-requires c κs = search needs
 
+put-reported-requires : tie.Need-put-reported-requires
+put-reported-requires c κs =
+    let s = c .before .before .before .before in
+    (search needs, rw (led (headed s) .lead .ensures) at (s .step-lent .ensures .1))
+
 of-head-requires : tie.Need-of-head-requires
 of-head-requires c κs = search needs
 
@@ -69,8 +74,8 @@ returns-2 c =
     let y = s .step-lent in
     step-known (a .image .now) (sharedLent (a .shared) (a .taken)) (pointLent (a .head) (a .table) (a .text))
     (tests-known (t .before .is-known .ensures) (t .if1 .left)) _ (h .head .ensures) _ (l .lead .ensures) (a .bytes .now)
-    (y .result) (y .last .1 .1 .0) (y .last .1 .1 .1 .1 .0) (y .last .1 .1 .1 .1 .1 .0) _ (y .last .1 .1 .1 .1 .1 .1 .0) (y .ensures)
-    _ (c .of-step2 .ensures) _ (c .before .of-head .ensures)
+    (y .result) (y .last .1 .1 .0) (y .last .1 .1 .1 .1 .0) (y .last .1 .1 .1 .1 .1 .0) _ (y .last .1 .1 .1 .1 .1 .1 .0) (y .ensures .0)
+    _ (c .of-step2 .ensures) _ (c .before .of-head .ensures) _ (c .before .before .put-reported .ensures)
 
 pub step-spec : {M : Type 1} → statement M
 step-spec =
@@ -84,6 +89,7 @@ step-spec =
     lead-requires
     head-requires
     step-lent-requires
+    put-reported-requires
     of-head-requires
     of-step-requires-2
     same-length-2
