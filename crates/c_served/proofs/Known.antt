@@ -48,7 +48,7 @@ few-known : (h : Head) → Few h → isKnown (headNumbers h) ≡ true
 few-known h l = and-both _ _ (le-leb (phaseNumber (h .write .phase)) 6 (phase-few (h .write .phase))) (le-leb (h .write .retries) 65535 l)
 
 known-few : (xs : List ℕ) → isKnown xs ≡ true → Few (headFrom xs)
-known-few xs e = leb-true (getD xs 11 0) 65535 (and-right (leb (getD xs 8 0) 6) (leb (getD xs 11 0) 65535) e)
+known-few xs e = leb-true (getD xs 10 0) 65535 (and-right (leb (getD xs 7 0) 6) (leb (getD xs 10 0) 65535) e)
 
 -- whichever way a call goes by its refusal's number
 either : {A : Type 0} (P : A → Type 0) (n : ℕ) (x : A) (y : ℕ → A) → P x → ((k : ℕ) → P (y k)) → P (elim n [ zero ↦ x | suc k ↦ y k ])
@@ -94,7 +94,7 @@ module _ (E : Edition) (I : List ℕ) (s : Shared) where
           fills = λ k. few;
           commits = omega arith;
           zeroes = λ z. few;
-          links = few;
+          links = λ _. few;
           gives-back = omega arith;
           extends = λ b. few;
           gives-up = λ k e. omega arith;

@@ -11,13 +11,12 @@ use Rattle.words.proofs.Choice.{choose-true}
 use Rattle.log.specs.declared.Reply.{Reply}
 use Rattle.log.specs.declared.Reply.the-variants.{Done}
 use Rattle.log.specs.Opening.{openRefusal, opened, replyOf, numberOf}
+use Rattle.points.specs.declared.Begun.{Begun}
 use Rattle.points.specs.Record.{pointOf, unfit}
 use Rattle.points.specs.Calls.{joinRefusal, joining, beginRefusal, beginning, beginReadRefusal, beginningRead, leaving}
 use Rattle.points.specs.Plan.{answered, storedAt}
 use Rattle.points.specs.Stepping.{stepping, bytesAfter}
 use Rattle.points.specs.Reading.{readRefusal, reading, locateRefusal, locating}
-use Rattle.points.proofs.Replies.{begin-map, begin-read-shared}
-use Rattle.points.proofs.CarriedOut.{step-map}
 use Rattle.points.proofs.StoredAt.{told-none}
 use Rattle.log.proofs.Replies.{number-back, opened-replies}
 use Rattle.points.proofs.Replies.{join-replies, begin-replies, begin-read-replies, leave-replies}
@@ -27,9 +26,9 @@ use Rattle.c_lent.specs.Numbers.{SharedLent, PointLent, sharedIn, pointIn, lend
 use Rattle.c_lent.specs.Numbers.{openedNumbers, answerNumbers, countNumbers}
 use Rattle.c_lent.specs.declared.Opened.{Opened}
 use Rattle.c_lent.specs.declared.Count.{Count}
-use Rattle.c_lent.specs.Calls.{PointLeft, ReadBegun, StepLeft, SharedLeft, ReadLeft, left, readBegun, stepLeft, sharedLeft, ifKnown}
+use Rattle.c_lent.specs.Calls.{PointLeft, StepLeft, SharedLeft, ReadLeft, pointLeft, stepLeft, sharedLeft, ifKnown}
 use Rattle.c_lent.specs.Calls.{sharedFor, joinFor, beginFor, beginReadFor, stepFor, leaveFor, readFor, locateFor}
-use Rattle.c_served.specs.Served.{joinedFrom, begunFrom, readBegunFrom, steppedFrom, leftFrom, countFrom}
+use Rattle.c_served.specs.Served.{joinedFrom, begunFrom, steppedFrom, leftFrom, countFrom}
 use Rattle.c_served.specs.Served.{OpenServedFor, JoinServedFor, BeginServedFor, BeginReadServedFor, StepServedFor}
 use Rattle.c_served.specs.Served.{LeaveServedFor, ReadServedFor, LocateServedFor}
 use Rattle.c_served.proofs.Back.{is-answer, answer-back, reply-back, shared-back, point-back}
@@ -49,6 +48,9 @@ open-for words scratch r s e f =
   where
     done : (r : Reply) (n : ℕ) → r ≡ replyOf n → numberOf r ≡ 0 → r ≡ Done
     done r n e z = let m : n ≡ 0 = sym (number-back n) ∙ ap numberOf (sym e) ∙ z in e ∙ ap replyOf m
+
+begun-back : (b : Begun) (why : ℕ) → b .reply ≡ replyOf why → begunFrom (pointLeft (b .reply) (b .shared) (b .point)) ≡ b
+begun-back b why e = rw (reply-back (b .reply) why e, point-back (b .point))
 
 module _ (words : List ℕ) (s : SharedLent) where
   pub join-for : (number : ℕ) (l : PointLeft) → l ≡ joinFor words s number → JoinServedFor words s number l
@@ -70,30 +72,21 @@ module _ (words : List ℕ) (s : SharedLent) where
     unfolding BeginServedFor
     begin-for offset bytes l e known =
         let b = beginning one words (sharedIn s) (pointIn p) offset bytes in
-        let served = left (numberOf (b .reply)) (record { numbers = s .numbers; taken = b .shared .taken }) (lendPoint (b .point)) in
         let why = beginRefusal one words (sharedIn s) (headFrom (p .head)) (p .table) offset (length bytes) in
-        let back : begunFrom served ≡ b =
-        rw (
-          reply-back (b .reply) why (begin-replies one words (sharedIn s) (pointIn p) offset bytes),
-          point-back (b .point),
-          begin-map one words (sharedIn s) (pointIn p) offset bytes,
-        ) in
+        let back : begunFrom (pointLeft (b .reply) (b .shared) (b .point)) ≡ b =
+        begun-back b why (begin-replies one words (sharedIn s) (pointIn p) offset bytes) in
         rw (e ∙ is-known _ _ known) (
           begin-known one words (sharedIn s) (p .head) (p .table) (p .text) known offset bytes,
           begin-served words (sharedIn s) (pointIn p) offset bytes _ back,
         )
 
-    pub begin-read-for : (offset size : ℕ) (l : ReadBegun) → l ≡ beginReadFor words s p offset size → BeginReadServedFor words s p offset size l
+    pub begin-read-for : (offset size : ℕ) (l : PointLeft) → l ≡ beginReadFor words s p offset size → BeginReadServedFor words s p offset size l
     unfolding BeginReadServedFor
     begin-read-for offset size l e known =
         let b = beginningRead one words (sharedIn s) (pointIn p) offset size in
         let why = beginReadRefusal one words (sharedIn s) (headFrom (p .head)) (p .table) offset size in
-        let back : readBegunFrom s (readBegun (numberOf (b .reply)) (lendPoint (b .point))) ≡ b =
-        λ i. record {
-          reply = reply-back (b .reply) why (begin-read-replies one words (sharedIn s) (pointIn p) offset size) i;
-          shared = sym (begin-read-shared one words (sharedIn s) (pointIn p) offset size) i;
-          point = point-back (b .point) i;
-        } in
+        let back : begunFrom (pointLeft (b .reply) (b .shared) (b .point)) ≡ b =
+        begun-back b why (begin-read-replies one words (sharedIn s) (pointIn p) offset size) in
         rw (e ∙ is-known _ _ known) (
           begin-read-known one words (sharedIn s) (p .head) (p .table) (p .text) known offset size,
           begin-read-served words (sharedIn s) (pointIn p) offset size _ back,
@@ -104,11 +97,8 @@ module _ (words : List ℕ) (s : SharedLent) where
     step-for lent l e known =
         let o = stepping one words (sharedIn s) (pointIn p) in
         let answer = answerNumbers (o .step) (storedAt one (o .store)) in
-        let served =
-        stepLeft answer (after one words (o .store)) (record { numbers = s .numbers; taken = o .shared .taken }) (lendPoint (o .point))
-        (bytesAfter (o .bytes) lent) in
-        let back : steppedFrom served ≡ answered o =
-        rw (answer-back (o .step), point-back (o .point), step-map one words (sharedIn s) (pointIn p)) in
+        let served = stepLeft answer (after one words (o .store)) (lendShared (o .shared)) (lendPoint (o .point)) (bytesAfter (o .bytes) lent) in
+        let back : steppedFrom served ≡ answered o = rw (answer-back (o .step), point-back (o .point)) in
         rw (e ∙ is-known _ _ known) (
           step-known one words (sharedIn s) (p .head) (p .table) (p .text) known,
           is-answer (o .step),

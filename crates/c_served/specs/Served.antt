@@ -22,7 +22,7 @@ use Rattle.recovery.specs.History.{openWorld}
 use Rattle.recovery.specs.Served.{JoinServed, BeginServed, BeginReadServed, StepServed, LeaveServed, ReadServed, LocateServed}
 use Rattle.c_lent.specs.declared.Count.{Count}
 use Rattle.c_lent.specs.Numbers.{SharedLent, PointLent, sharedIn, pointIn, headFrom, isKnown}
-use Rattle.c_lent.specs.Calls.{PointLeft, ReadBegun, StepLeft, SharedLeft, ReadLeft}
+use Rattle.c_lent.specs.Calls.{PointLeft, StepLeft, SharedLeft, ReadLeft}
 
 -- ---- answers, read back from their numbers
 
@@ -46,10 +46,6 @@ joinedFrom l = record { reply = replyOf (l .refused); shared = sharedIn (l .shar
 
 abbrev pub begunFrom : PointLeft → Begun
 begunFrom l = record { reply = replyOf (l .refused); shared = sharedIn (l .shared); point = pointIn (l .point) }
-
--- beginning a read leaves the shared record as it was
-abbrev pub readBegunFrom : SharedLent → ReadBegun → Begun
-readBegunFrom s l = record { reply = replyOf (l .refused); shared = sharedIn s; point = pointIn (l .point) }
 
 abbrev pub steppedFrom : StepLeft → Stepped
 steppedFrom l = record { step = answerOf (l .answer .kind) (l .answer .value); shared = sharedIn (l .shared); point = pointIn (l .point) }
@@ -81,10 +77,9 @@ module _ (words : List ℕ) (s : SharedLent) where
     BeginServedFor offset bytes l =
         isKnown (p .head) ≡ true → (isKnown (l .point .head) ≡ true) × BeginServed one words (sharedIn s) (pointIn p) offset bytes (begunFrom l)
 
-    unfoldable pub BeginReadServedFor : ℕ → ℕ → ReadBegun → Type 0
+    unfoldable pub BeginReadServedFor : ℕ → ℕ → PointLeft → Type 0
     BeginReadServedFor offset size l =
-        isKnown (p .head) ≡ true
-        → (isKnown (l .point .head) ≡ true) × BeginReadServed one words (sharedIn s) (pointIn p) offset size (readBegunFrom s l)
+        isKnown (p .head) ≡ true → (isKnown (l .point .head) ≡ true) × BeginReadServed one words (sharedIn s) (pointIn p) offset size (begunFrom l)
 
     -- with the bytes that were lent
     unfoldable pub StepServedFor : List ℕ → StepLeft → Type 0

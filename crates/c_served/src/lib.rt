@@ -1,9 +1,7 @@
 // The calls for C, each with what it leaves in a list of calls as its contract: the claims of `recovery` hold of what C calls. Opening, reading and locating
 // are beside them, as in recovery/src/code.rt. Nothing here runs.
-ghost use mathlib.Core.List.{List};
-ghost use Prim.Native.Nat.{ℕ};
-ghost use Rattle.c_lent.specs.Numbers.{sharedLent, sharedAs, pointLent, textless};
-ghost use Rattle.c_lent.specs.Calls.{left, readBegun, stepLeft, sharedLeft, readLeft};
+ghost use Rattle.c_lent.specs.Numbers.{sharedLent, pointLent, textless};
+ghost use Rattle.c_lent.specs.Calls.{left, stepLeft, sharedLeft, readLeft};
 ghost use Rattle.c_served.specs.Served.{OpenServedFor, JoinServedFor, BeginServedFor, BeginReadServedFor, StepServedFor};
 ghost use Rattle.c_served.specs.Served.{LeaveServedFor, ReadServedFor, LocateServedFor};
 use c_lent::Answer;
@@ -13,7 +11,7 @@ use c_lent::Opened;
 pub fn open(
     image: &[u64],
     scratch: &mut [u16],
-    shared: &mut [u32; 2],
+    shared: &mut [u32; 35],
     taken: &mut [u64; 16],
 ) -> Opened
     ensures { λ r. ⌜ OpenServedFor (now (image .entry)) (now (scratch .entry)) (r .refused) (sharedLent (shared .exit) (taken .exit)) ⌝ }
@@ -23,10 +21,10 @@ pub fn open(
 
 pub fn join(
     image: &[u64],
-    shared: &mut [u32; 2],
+    shared: &mut [u32; 35],
     taken: &mut [u64; 16],
     number: u32,
-    head: &mut [u32; 12],
+    head: &mut [u32; 11],
     table: &mut [u16; 256],
     text: &mut [u8; 1024],
 ) -> u32
@@ -38,9 +36,9 @@ pub fn join(
 
 pub fn begin(
     image: &[u64],
-    shared: &mut [u32; 2],
+    shared: &mut [u32; 35],
     taken: &mut [u64; 16],
-    head: &mut [u32; 12],
+    head: &mut [u32; 11],
     table: &mut [u16; 256],
     text: &mut [u8; 1024],
     offset: usize,
@@ -54,24 +52,25 @@ pub fn begin(
 
 pub fn begin_read(
     image: &[u64],
-    shared: &[u32; 2],
-    head: &mut [u32; 12],
+    shared: &mut [u32; 35],
+    taken: &mut [u64; 16],
+    head: &mut [u32; 11],
     table: &mut [u16; 256],
     text: &mut [u8; 1024],
     offset: usize,
     size: usize,
 ) -> u32
-    ensures { λ r. ⌜ ((taken : List ℕ) → BeginReadServedFor (now (image .entry)) (sharedAs (now (shared .entry)) taken)
-        (pointLent (head .entry) (table .entry) (text .entry)) offset size (readBegun r (pointLent (head .exit) (table .exit) (text .exit)))) ⌝ }
+    ensures { λ r. ⌜ BeginReadServedFor (now (image .entry)) (sharedLent (shared .entry) (taken .entry)) (pointLent (head .entry) (table .entry) (text .entry))
+        offset size (left r (sharedLent (shared .exit) (taken .exit)) (pointLent (head .exit) (table .exit) (text .exit))) ⌝ }
 {
-    c_lent::begin_read(image, shared, head, table, text, offset, size)
+    c_lent::begin_read(image, shared, taken, head, table, text, offset, size)
 }
 
 pub fn step(
     image: &mut [u64],
-    shared: &mut [u32; 2],
+    shared: &mut [u32; 35],
     taken: &mut [u64; 16],
-    head: &mut [u32; 12],
+    head: &mut [u32; 11],
     table: &mut [u16; 256],
     text: &mut [u8; 1024],
     bytes: &mut [u8; 1024],
@@ -85,9 +84,9 @@ pub fn step(
 
 pub fn leave(
     image: &[u64],
-    shared: &mut [u32; 2],
+    shared: &mut [u32; 35],
     taken: &mut [u64; 16],
-    head: &[u32; 12],
+    head: &[u32; 11],
     table: &[u16; 256],
 ) -> u32
     ensures { λ r. ⌜ LeaveServedFor (now (image .entry)) (sharedLent (shared .entry) (taken .entry)) (textless (head .entry) (table .entry))
@@ -98,9 +97,9 @@ pub fn leave(
 
 pub fn read(
     image: &[u64],
-    shared: &[u32; 2],
+    shared: &[u32; 35],
     taken: &[u64; 16],
-    head: &[u32; 12],
+    head: &[u32; 11],
     table: &[u16; 256],
     offset: usize,
     buffer: &mut [u8],
@@ -113,9 +112,9 @@ pub fn read(
 
 pub fn locate(
     image: &[u64],
-    shared: &[u32; 2],
+    shared: &[u32; 35],
     taken: &[u64; 16],
-    head: &[u32; 12],
+    head: &[u32; 11],
     table: &[u16; 256],
     block: usize,
 ) -> Count
