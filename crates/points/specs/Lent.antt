@@ -44,6 +44,11 @@ use Rattle.points.specs.Reading.{seen}
 
 -- ---- answers: the record is the head that is answered, with the arrays as they are left
 
+-- a count, one more where it is so
+abbrev pub counted : ℕ → Bool → ℕ
+counted n true = suc n
+counted n false = n
+
 -- a beginning that is done reports where the point stands
 abbrev pub begunShared : Reply → Head → Shared → Shared
 begunShared Done h s = reportingPlace h s

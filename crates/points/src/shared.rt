@@ -2,10 +2,11 @@
 ghost use mathlib.Core.Path.{_≡_};
 ghost use mathlib.Core.Bool.{true, false};
 ghost use mathlib.Core.List.{[], _∷_};
-ghost use Prim.Native.Nat.{_<_};
-ghost use lib.ListN.{set};
+ghost use Prim.Native.Nat.{suc, _<_, _≤_};
+ghost use lib.ListN.{length, set};
 ghost use Rattle.words.specs.BlockMap.{withBit, setAll};
 ghost use Rattle.points.specs.Record.{allBelow};
+ghost use Rattle.points.specs.Lent.{counted};
 ghost use Rattle.points.specs.Search.{withJoined, withTaken, reporting, lengthening, numbersOf};
 ghost use Rattle.points.specs.Plan.{reported};
 ghost use Rattle.points.specs.Lent.{begunShared, Lengthens};
@@ -102,15 +103,29 @@ pub(crate) fn without_point(joined: u32, number: u32) -> u32
     joined & !(1u32 << number)
 }
 
-// Whether each of these blocks is below the block count. (A loop without branches, which becomes vectors.)
-pub fn all_below(bs: &[u32], blocks: u32) -> bool
-    ensures { λ r. ⌜ r ≡ allBelow blocks (now (bs .entry)) ⌝ }
+// One more, modulo 2^32: counts so kept become vectors.
+fn one_more(n: u32) -> u32
+    ensures { λ r. ⌜ (n < 32 → r ≡ suc n) ⌝ }
 {
-    let mut ok = true;
+    if n < 4294967295 { n + 1 } else { 0 }
+}
+
+// One more where it is so.
+fn counted(n: u32, so: bool) -> u32
+    ensures { λ r. ⌜ (n < 32 → r ≡ counted n so) ⌝ }
+{
+    if so { one_more(n) } else { n }
+}
+
+// Whether each of these blocks, at most 32, is below the block count: a loop without branches, which becomes vectors.
+pub fn all_below(bs: &[u32], blocks: u32) -> bool
+    ensures { λ r. ⌜ (length (now (bs .entry)) ≤ 32 → r ≡ allBelow blocks (now (bs .entry))) ⌝ }
+{
+    let mut below = 0u32;
     for i in 0..bs.len() {
-        ok = ok & (bs[i] < blocks);
+        below = counted(below, bs[i] < blocks);
     }
-    ok
+    below as usize == bs.len()
 }
 
 // The numbers of a shared record.
