@@ -24,8 +24,8 @@ use Rattle.points.specs.declared.Phase.the-variants.{Idle}
 use Rattle.points.specs.declared.Write.{Write}
 use Rattle.points.specs.declared.Head.{Head}
 use Rattle.points.specs.declared.Numbers.{Numbers}
-use Rattle.points.specs.Record.{phaseOf, isIdle, isZeroing, span, rangeWords, badShared, badText, pastEnd}
-use Rattle.points.specs.Record.{inside, placeFits, zeroingFits, writeFits, rangeFits, workFits, headFits, allBelow}
+use Rattle.points.specs.Record.{phaseOf, isIdle, isZeroing, isReading, span, rangeWords, badShared, badText, pastEnd}
+use Rattle.points.specs.Record.{inside, placeFits, zeroingFits, writeFits, rangeFits, workFits, headFits, allBelow, fits}
 use Rattle.points.specs.Search.{Known, numbersOf}
 
 -- ---- several tests, made from the first on
@@ -145,6 +145,27 @@ module _ (E : Edition) (blocks : ℕ) (h : Head) where
       ap (λ (t : Bool). (placeFits E blocks (h .place) && leb (h .length) (fileEnd E)) && t)
       (sym (choose-false (isIdle (h .write .phase)) true (workFits E blocks (h .place) (h .write)) e))
       ∙ head-tests
+
+  -- with the table, where no read is under way
+  module _ (table : List ℕ) where
+    head-and-table : headFits E blocks h && allBelow blocks table ≡ fits E blocks h table
+    unfolding fits
+    head-and-table = ands-every (headFits E blocks h) (allBelow blocks table ∷ [])
+
+    pub unread-idle :
+        isIdle (h .write .phase) ≡ true
+        → (placeFits E blocks (h .place) && leb (h .length) (fileEnd E)) && allBelow blocks table ≡ fits E blocks h table
+    unread-idle e = ap (λ (t : Bool). t && allBelow blocks table) (head-idle e) ∙ head-and-table
+
+    pub unread-busy :
+        isIdle (h .write .phase) ≡ false → isReading (h .write .phase) ≡ false
+        → ((placeFits E blocks (h .place) && leb (h .length) (fileEnd E)) && writeFits E blocks (h .place) (h .write)) && allBelow blocks table
+        ≡ fits E blocks h table
+    unread-busy e r =
+        ap (λ (w : Bool). ((placeFits E blocks (h .place) && leb (h .length) (fileEnd E)) && w) && allBelow blocks table)
+        (sym (choose-false (isReading (h .write .phase)) (rangeFits E (h .write)) (writeFits E blocks (h .place) (h .write)) r))
+        ∙ ap (λ (t : Bool). t && allBelow blocks table) (head-busy e)
+        ∙ head-and-table
 
 -- ---- a number that is no phase's but Idle's
 

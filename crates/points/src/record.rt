@@ -1,5 +1,6 @@
 // The tests that every later call begins with, reasons 10, 11 and 14; how many blocks a write spans and where it begins: each is total.
 ghost use mathlib.Core.Path.{_≡_};
+ghost use mathlib.Core.Bool.{false};
 ghost use mathlib.Core.List.{List};
 ghost use Prim.Native.Nat.{ℕ, _%_, _<_, max};
 ghost use lib.Dec.{ltb};
@@ -307,21 +308,44 @@ pub fn fits(blocks: u32, head: Head, table: &[u16; 256]) -> bool
     head_fits(blocks, head) & table_fits(blocks, table)
 }
 
-// The first of 10, 11 and 14 that holds, 0 for none.
-pub fn unfit_numbers(image: &[u64], numbers: Numbers, head: Head, table: &[u16; 256]) -> u32
-    ensures { λ r. ⌜ ((taken reports : List ℕ) → Known numbers reports
-        → r ≡ unfit one (now (image .entry)) (sharedOf numbers taken reports) head (now (table .entry))) ⌝ }
+// The same of a record without a read. (A step of a write alone calls it: it becomes part of the step, whose numbers stay where they are.)
+pub(crate) fn fits_unread(blocks: u32, head: Head, table: &[u16; 256]) -> bool
+    requires { ⌜ isReading (head .write .phase) ≡ false ⌝ }
+    ensures { λ r. ⌜ r ≡ fits one blocks head (now (table .entry)) ⌝ }
+{
+    let inside = table_fits(blocks, table);
+    let ok = place_fits(blocks, head.place) & (head.length <= 131072);
+    let write = head.write;
+    let phase = write.phase;
+    if is_idle(phase) {
+        return ok & inside;
+    }
+    ok & write_fits(blocks, head.place, write) & inside
+}
+
+// The first of 10, 11 and 14 that holds, 0 for none; whether the record fits is told.
+pub(crate) fn unfit_as(image: &[u64], numbers: Numbers, head: Head, fitting: bool) -> u32
+    ensures { λ r. ⌜ ((taken reports table : List ℕ) → Known numbers reports → fitting ≡ fits one (numbers .blocks) head table
+        → r ≡ unfit one (now (image .entry)) (sharedOf numbers taken reports) head table) ⌝ }
 {
     if bad_numbers(image, numbers) {
         return crate::SHARED_UNFIT;
     }
-    if !fits(numbers.blocks, head, table) {
+    if !fitting {
         return crate::RECORD_UNFIT;
     }
     if !is_joined(numbers.joined, head.number) {
         return crate::NOT_JOINED;
     }
     0
+}
+
+// The same, with its table.
+pub fn unfit_numbers(image: &[u64], numbers: Numbers, head: Head, table: &[u16; 256]) -> u32
+    ensures { λ r. ⌜ ((taken reports : List ℕ) → Known numbers reports
+        → r ≡ unfit one (now (image .entry)) (sharedOf numbers taken reports) head (now (table .entry))) ⌝ }
+{
+    unfit_as(image, numbers, head, fits(numbers.blocks, head, table))
 }
 
 // The same with a whole shared record.

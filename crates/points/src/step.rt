@@ -96,7 +96,8 @@ fn settle<'a>(
     ensures { λ r. ⌜ ((reports : List ℕ) → Known numbers reports → r
         ≡ planned one (now (image .entry)) (sharedOf numbers (now (taken .entry)) reports) (pointOf head (now (table .entry)) (now (text .entry)))) ⌝ }
 {
-    let reason = crate::record::unfit_numbers(image, numbers, head, table);
+    let fitting = crate::record::fits_unread(numbers.blocks, head, table);
+    let reason = crate::record::unfit_as(image, numbers, head, fitting);
     if reason != 0 {
         return crate::plan::refused(head, reason);
     }

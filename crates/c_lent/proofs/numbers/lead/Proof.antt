@@ -1,4 +1,5 @@
 -- `c_lent::numbers::lead`: number by number; the reports are looked at once. Assumes nothing.
+use native.Mathlib.Omega.{arith}
 use borrow.Author.Needs.{needs}
 use Rattle.c_lent.proofs.Shared.{rest-whole}
 use Rattle.c_lent.proofs.numbers.lead.Statement.{statement}
@@ -28,7 +29,7 @@ all-below-requires c κs = search needs
 returns : tie.Need-returns
 returns c =
     let a = c .before .before .before .before .before .before .args in
-    rw (c .all-below .ensures, rest-whole (a .numbers .now))
+    rw (c .all-below .ensures (omega arith), rest-whole (a .numbers .now))
 
 pub lead-spec : {M : Type 1} → statement M
 lead-spec =

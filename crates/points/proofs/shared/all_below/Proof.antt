@@ -2,7 +2,6 @@
 use Prim.Native.Nat.{ℕ, suc, _+_, _-_, _^_, _≤_, _<_}
 use native.Mathlib.Omega.{arith}
 use native.Mathlib.Decide.{decLt}
-
 use mathlib.Core.Path.{_≡_, refl, sym, ap, _∙_}
 use mathlib.Core.Bool.{Bool, true, false, _&&_}
 use lib.ListN.{length, getD, drop}
@@ -72,8 +71,8 @@ loop-again c =
           let is = c .counted .ensures (omega arith) in (
             rw is (few-counted (l .below) (l .i) so le),
             l .inv .3 few .1 ∙ table-next (a .blocks) (a .bs .now) (l .i) (eqb (l .below) (l .i)) (omega arith)
-            ∙ ap (λ (t : Bool). t && allBelow (a .blocks) (drop (l .i + 1) (a .bs .now)))
-            (as-many (l .below) (l .i) so le ∙ ap (λ (n : ℕ). eqb n (l .i + 1)) (sym is)),
+                ∙ ap (λ (t : Bool). t && allBelow (a .blocks) (drop (l .i + 1) (a .bs .now)))
+                (as-many (l .below) (l .i) so le ∙ ap (λ (n : ℕ). eqb n (l .i + 1)) (sym is)),
           ),
     )
 
