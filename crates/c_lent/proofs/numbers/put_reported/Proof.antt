@@ -1,7 +1,7 @@
 -- `c_lent::numbers::put_reported`: by what is reported. Assumes nothing.
 use Prim.Native.Nat.{_+_}
 use native.Mathlib.Omega.{arith}
-use mathlib.Core.Path.{_≡_, _∙_}
+use mathlib.Core.Path.{_∙_}
 use lib.ListN.{getD, length-set}
 use borrow.Author.Needs.{needs}
 use Rattle.c_lent.proofs.Shared.{numbers-same, numbers-report, numbers-longer}
