@@ -146,26 +146,41 @@ module _ (E : Edition) (blocks : ℕ) (h : Head) where
       (sym (choose-false (isIdle (h .write .phase)) true (workFits E blocks (h .place) (h .write)) e))
       ∙ head-tests
 
-  -- with the table, where no read is under way
+  abbrev placeTest : Bool
+  placeTest = placeFits E blocks (h .place) && leb (h .length) (fileEnd E)
+
+  -- with the table, test by test
   module _ (table : List ℕ) where
-    head-and-table : headFits E blocks h && allBelow blocks table ≡ fits E blocks h table
+    all-tests : (placeTest && writeTest) && allBelow blocks table ≡ fits E blocks h table
     unfolding fits
-    head-and-table = ands-every (headFits E blocks h) (allBelow blocks table ∷ [])
+    all-tests = ap (λ (t : Bool). t && allBelow blocks table) head-tests ∙ ands-every (headFits E blocks h) (allBelow blocks table ∷ [])
 
-    pub unread-idle :
-        isIdle (h .write .phase) ≡ true
-        → (placeFits E blocks (h .place) && leb (h .length) (fileEnd E)) && allBelow blocks table ≡ fits E blocks h table
-    unread-idle e = ap (λ (t : Bool). t && allBelow blocks table) (head-idle e) ∙ head-and-table
+    pub misplaced : placeTest ≡ false → false ≡ fits E blocks h table
+    misplaced e = rw e at all-tests
 
-    pub unread-busy :
-        isIdle (h .write .phase) ≡ false → isReading (h .write .phase) ≡ false
-        → ((placeFits E blocks (h .place) && leb (h .length) (fileEnd E)) && writeFits E blocks (h .place) (h .write)) && allBelow blocks table
-        ≡ fits E blocks h table
-    unread-busy e r =
-        ap (λ (w : Bool). ((placeFits E blocks (h .place) && leb (h .length) (fileEnd E)) && w) && allBelow blocks table)
-        (sym (choose-false (isReading (h .write .phase)) (rangeFits E (h .write)) (writeFits E blocks (h .place) (h .write)) r))
-        ∙ ap (λ (t : Bool). t && allBelow blocks table) (head-busy e)
-        ∙ head-and-table
+    pub mistabled : allBelow blocks table ≡ false → false ≡ fits E blocks h table
+    mistabled e = sym (and-none (placeTest && writeTest)) ∙ ap (λ (t : Bool). (placeTest && writeTest) && t) (sym e) ∙ all-tests
+      where
+        and-none : (b : Bool) → b && false ≡ false
+        and-none true = refl
+        and-none false = refl
+
+    module _ (placed : placeTest ≡ true) (tabled : allBelow blocks table ≡ true) where
+      the-write : writeTest ≡ fits E blocks h table
+      the-write =
+          sym (and-true writeTest) ∙ ap (λ (t : Bool). (t && writeTest) && true) (sym placed)
+          ∙ ap (λ (t : Bool). (placeTest && writeTest) && t) (sym tabled)
+          ∙ all-tests
+
+      pub idle-fits : isIdle (h .write .phase) ≡ true → true ≡ fits E blocks h table
+      idle-fits e = sym (choose-true (isIdle (h .write .phase)) true (workFits E blocks (h .place) (h .write)) e) ∙ the-write
+
+      pub unread-fits : isIdle (h .write .phase) ≡ false → isReading (h .write .phase) ≡ false
+          → writeFits E blocks (h .place) (h .write) ≡ fits E blocks h table
+      unread-fits e r =
+          sym (choose-false (isReading (h .write .phase)) (rangeFits E (h .write)) (writeFits E blocks (h .place) (h .write)) r)
+          ∙ sym (choose-false (isIdle (h .write .phase)) true (workFits E blocks (h .place) (h .write)) e)
+          ∙ the-write
 
 -- ---- a number that is no phase's but Idle's
 

@@ -308,30 +308,34 @@ pub fn fits(blocks: u32, head: Head, table: &[u16; 256]) -> bool
     head_fits(blocks, head) & table_fits(blocks, table)
 }
 
-// The same of a record without a read. (A step of a write alone calls it: it becomes part of the step, whose numbers stay where they are.)
+// The same of a record without a read, test by test. (A step of a write alone calls it: it becomes part of the step, whose numbers stay where they are.)
 pub(crate) fn fits_unread(blocks: u32, head: Head, table: &[u16; 256]) -> bool
     requires { ⌜ isReading (head .write .phase) ≡ false ⌝ }
     ensures { λ r. ⌜ r ≡ fits one blocks head (now (table .entry)) ⌝ }
 {
-    let inside = table_fits(blocks, table);
-    let ok = place_fits(blocks, head.place) & (head.length <= 131072);
+    if !(place_fits(blocks, head.place) & (head.length <= 131072)) {
+        return false;
+    }
+    if !table_fits(blocks, table) {
+        return false;
+    }
     let write = head.write;
     let phase = write.phase;
     if is_idle(phase) {
-        return ok & inside;
+        return true;
     }
-    ok & write_fits(blocks, head.place, write) & inside
+    write_fits(blocks, head.place, write)
 }
 
-// The first of 10, 11 and 14 that holds, 0 for none; whether the record fits is told.
-pub(crate) fn unfit_as(image: &[u64], numbers: Numbers, head: Head, fitting: bool) -> u32
-    ensures { λ r. ⌜ ((taken reports table : List ℕ) → Known numbers reports → fitting ≡ fits one (numbers .blocks) head table
-        → r ≡ unfit one (now (image .entry)) (sharedOf numbers taken reports) head table) ⌝ }
+// The first of 10, 11 and 14 that holds, 0 for none.
+pub fn unfit_numbers(image: &[u64], numbers: Numbers, head: Head, table: &[u16; 256]) -> u32
+    ensures { λ r. ⌜ ((taken reports : List ℕ) → Known numbers reports
+        → r ≡ unfit one (now (image .entry)) (sharedOf numbers taken reports) head (now (table .entry))) ⌝ }
 {
     if bad_numbers(image, numbers) {
         return crate::SHARED_UNFIT;
     }
-    if !fitting {
+    if !fits(numbers.blocks, head, table) {
         return crate::RECORD_UNFIT;
     }
     if !is_joined(numbers.joined, head.number) {
@@ -340,12 +344,22 @@ pub(crate) fn unfit_as(image: &[u64], numbers: Numbers, head: Head, fitting: boo
     0
 }
 
-// The same, with its table.
-pub fn unfit_numbers(image: &[u64], numbers: Numbers, head: Head, table: &[u16; 256]) -> u32
+// The same of a record without a read.
+pub(crate) fn unfit_unread(image: &[u64], numbers: Numbers, head: Head, table: &[u16; 256]) -> u32
+    requires { ⌜ isReading (head .write .phase) ≡ false ⌝ }
     ensures { λ r. ⌜ ((taken reports : List ℕ) → Known numbers reports
         → r ≡ unfit one (now (image .entry)) (sharedOf numbers taken reports) head (now (table .entry))) ⌝ }
 {
-    unfit_as(image, numbers, head, fits(numbers.blocks, head, table))
+    if bad_numbers(image, numbers) {
+        return crate::SHARED_UNFIT;
+    }
+    if !fits_unread(numbers.blocks, head, table) {
+        return crate::RECORD_UNFIT;
+    }
+    if !is_joined(numbers.joined, head.number) {
+        return crate::NOT_JOINED;
+    }
+    0
 }
 
 // The same with a whole shared record.

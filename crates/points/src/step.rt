@@ -96,8 +96,7 @@ fn settle<'a>(
     ensures { λ r. ⌜ ((reports : List ℕ) → Known numbers reports → r
         ≡ planned one (now (image .entry)) (sharedOf numbers (now (taken .entry)) reports) (pointOf head (now (table .entry)) (now (text .entry)))) ⌝ }
 {
-    let fitting = crate::record::fits_unread(numbers.blocks, head, table);
-    let reason = crate::record::unfit_as(image, numbers, head, fitting);
+    let reason = crate::record::unfit_unread(image, numbers, head, table);
     if reason != 0 {
         return crate::plan::refused(head, reason);
     }

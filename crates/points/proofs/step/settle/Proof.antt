@@ -1,10 +1,8 @@
 -- `points::step::settle`: the reasons in their order, then what the step does.
-use Prim.Native.Nat.{ℕ}
-use mathlib.Core.Path.{_≡_, sym, _∙_}
-use mathlib.Core.List.{List}
+use mathlib.Core.Path.{sym, _∙_}
 use Rattle.words.specs.Edition.{one}
-use Rattle.points.specs.Record.{pointOf, unfit}
-use Rattle.points.specs.Search.{sharedOf, Known}
+use Rattle.points.specs.Record.{pointOf}
+use Rattle.points.specs.Search.{sharedOf}
 use Rattle.points.proofs.StepFacts.{turned-down, none-under-way, under-way, goes-on}
 use borrow.Author.Needs.{needs}
 use Rattle.points.proofs.step.settle.Statement.{statement}
@@ -15,30 +13,21 @@ abbrev fit : tie.After-is-idle → tie.Else1
 fit c = c .before .before
 
 abbrev start : tie.Else1 → tie.Start
-start c = c .before .before .before .before
+start c = c .before .before .before
 
-fits-unread-requires : tie.Need-fits-unread-requires
-fits-unread-requires c κs = c .before .pre
-
-unfit-as-requires : tie.Need-unfit-as-requires
-unfit-as-requires c κs = search needs
-
-first-fault : (c : tie.After-unfit-as) (reports : List ℕ) → let a = c .before .before .before .args in Known (a .numbers) reports
-    → c .unfit-as .result ≡ unfit one (a .image .now) (sharedOf (a .numbers) (a .taken .now) reports) (a .head) (a .table .now)
-first-fault c reports known =
-    let a = c .before .before .before .args in
-    c .unfit-as .ensures (a .taken .now) reports (a .table .now) known (c .before .fits-unread .ensures)
+unfit-unread-requires : tie.Need-unfit-unread-requires
+unfit-unread-requires c κs = c .before .pre
 
 refused-requires : tie.Need-refused-requires
 refused-requires c κs = search needs
 
 returns : tie.Need-returns
 returns c reports known =
-    let asking = c .before .before in
-    let a = c .before .before .before .before .before .args in
+    let unfit = c .before .before .unfit-unread in
+    let a = c .before .before .before .before .args in
     c .refused .ensures ∙ sym
-    (turned-down one (a .image .now) (sharedOf (a .numbers) (a .taken .now) reports) (pointOf (a .head) (a .table .now) (a .text .now)) (asking .unfit-as .result)
-    (first-fault asking reports known) (c .before .if1 .taken))
+    (turned-down one (a .image .now) (sharedOf (a .numbers) (a .taken .now) reports) (pointOf (a .head) (a .table .now) (a .text .now)) (unfit .result)
+    (unfit .ensures (a .taken .now) reports known) (c .before .if1 .taken))
 
 is-idle-requires : tie.Need-is-idle-requires
 is-idle-requires c κs = search needs
@@ -50,19 +39,19 @@ returns-2 : tie.Need-returns-2
 returns-2 c reports known =
     let asked = c .before .before in
     let e = fit asked in
-    let asking = e .before in
+    let unfit = e .before .unfit-unread in
     let a = start e .args in
     c .refused2 .ensures ∙ sym
     (none-under-way one (a .image .now) (sharedOf (a .numbers) (a .taken .now) reports) (pointOf (a .head) (a .table .now) (a .text .now))
-    (sym (first-fault asking reports known) ∙ e .if1 .left) (sym (asked .is-idle .ensures) ∙ c .before .if2 .taken))
+    (sym (unfit .ensures (a .taken .now) reports known) ∙ e .if1 .left) (sym (asked .is-idle .ensures) ∙ c .before .if2 .taken))
 
 write-on-requires : tie.Need-write-on-requires
 write-on-requires c κs =
     let e = fit (c .before) in
-    let asking = e .before in
+    let unfit = e .before .unfit-unread in
     let a = start e .args in (
       λ reports known. under-way one (a .image .now) (sharedOf (a .numbers) (a .taken .now) reports) (pointOf (a .head) (a .table .now) (a .text .now))
-          (sym (first-fault asking reports known) ∙ e .if1 .left) (sym (c .before .is-idle .ensures) ∙ c .if2 .left),
+          (sym (unfit .ensures (a .taken .now) reports known) ∙ e .if1 .left) (sym (c .before .is-idle .ensures) ∙ c .if2 .left),
       start e .pre,
     )
 
@@ -70,19 +59,18 @@ returns-3 : tie.Need-returns-3
 returns-3 c reports known =
     let asked = c .before .before in
     let e = fit asked in
-    let asking = e .before in
+    let unfit = e .before .unfit-unread in
     let a = start e .args in
     c .write-on .ensures reports ∙ sym
     (goes-on one (a .image .now) (sharedOf (a .numbers) (a .taken .now) reports) (pointOf (a .head) (a .table .now) (a .text .now))
     (under-way one (a .image .now) (sharedOf (a .numbers) (a .taken .now) reports) (pointOf (a .head) (a .table .now) (a .text .now))
-    (sym (first-fault asking reports known) ∙ e .if1 .left) (sym (asked .is-idle .ensures) ∙ c .before .if2 .left)))
+    (sym (unfit .ensures (a .taken .now) reports known) ∙ e .if1 .left) (sym (asked .is-idle .ensures) ∙ c .before .if2 .left)))
 
 pub settle-spec : {M : Type 1} → statement M
 settle-spec =
     tie.close
     (tie.spec
-    fits-unread-requires
-    unfit-as-requires
+    unfit-unread-requires
     refused-requires
     returns
     is-idle-requires
