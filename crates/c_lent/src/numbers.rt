@@ -125,7 +125,10 @@ pub(crate) fn of_head(head: points::Head) -> [u32; 11]
 pub(crate) fn is_known(numbers: &[u32; 11]) -> bool
     ensures { λ r. ⌜ r ≡ isKnown (now (numbers .entry)) ⌝ }
 {
-    (numbers[7] <= 6) & (numbers[10] <= 65535)
+    if 6 < numbers[7] {
+        return false;
+    }
+    numbers[10] <= 65535
 }
 
 // The head of its numbers.

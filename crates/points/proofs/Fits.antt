@@ -24,7 +24,7 @@ use Rattle.points.specs.declared.Phase.the-variants.{Idle}
 use Rattle.points.specs.declared.Write.{Write}
 use Rattle.points.specs.declared.Head.{Head}
 use Rattle.points.specs.declared.Numbers.{Numbers}
-use Rattle.points.specs.Record.{phaseOf, isIdle, isZeroing, isReading, span, rangeWords, badShared, badText, pastEnd}
+use Rattle.points.specs.Record.{phaseOf, isIdle, isZeroing, isReading, span, runWords, rangeWords, badShared, badText, pastEnd}
 use Rattle.points.specs.Record.{inside, placeFits, zeroingFits, writeFits, rangeFits, workFits, headFits, allBelow, fits}
 use Rattle.points.specs.Search.{Known, numbersOf}
 
@@ -108,13 +108,9 @@ module _ (E : Edition) (blocks : ℕ) (p : Place) where
         (sym (choose-true (isZeroing (w .phase)) (zeroingFits E blocks p w) (leb (w .position) (span E (w .offset) (w .size) * E .blockWords)) e))
         ∙ write-tests
 
-    pub write-filling : isZeroing (w .phase) ≡ false
-        → runTests && leb (w .position) (E .blockWords * span E (w .offset) (w .size)) ≡ writeFits E blocks p w
+    pub write-filling : isZeroing (w .phase) ≡ false → runTests && leb (w .position) (runWords E w) ≡ writeFits E blocks p w
     write-filling e =
-        let q : E .blockWords * span E (w .offset) (w .size) ≡ span E (w .offset) (w .size) * E .blockWords = omega arith in
-        ap (λ (k : ℕ). runTests && leb (w .position) k) q
-        ∙ ap (λ (t : Bool). runTests && t)
-        (sym (choose-false (isZeroing (w .phase)) (zeroingFits E blocks p w) (leb (w .position) (span E (w .offset) (w .size) * E .blockWords)) e))
+        ap (λ (t : Bool). runTests && t) (sym (choose-false (isZeroing (w .phase)) (zeroingFits E blocks p w) (leb (w .position) (runWords E w)) e))
         ∙ write-tests
 
 -- what is under way: a read's range, or a write

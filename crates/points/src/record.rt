@@ -239,7 +239,7 @@ fn write_fits(blocks: u32, place: Place, write: Write) -> bool
     if is_zeroing(phase) {
         return run & zeroing_fits(blocks, place, write);
     }
-    run & (write.position <= 64 * n)
+    run & (write.position <= crate::plan::run_words(write))
 }
 
 // Whether the range of a read under way fits: 16 and 17, and the position.

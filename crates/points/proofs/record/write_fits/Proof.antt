@@ -39,13 +39,14 @@ returns c =
     let a = start (c .before .before .before) .args in
     cc (write-zeroing one (a .blocks) (a .place) (a .write) (sym (c .before .before .is-zeroing .ensures) ∙ c .before .if1 .taken))
 
-mul-result : tie.Need-mul-result
-mul-result c = search needs
+run-words-requires : tie.Need-run-words-requires
+run-words-requires c κs = search needs
 
 returns-2 : tie.Need-returns-2
 returns-2 c =
-    let a = start (c .before .before .before) .args in
-    cc (write-filling one (a .blocks) (a .place) (a .write) (sym (c .before .before .is-zeroing .ensures) ∙ c .before .if1 .left))
+    let e = c .before .before in
+    let a = start (e .before .before) .args in
+    cc (write-filling one (a .blocks) (a .place) (a .write) (sym (e .before .is-zeroing .ensures) ∙ e .if1 .left))
 
 pub write-fits-spec : {M : Type 1} → statement M
 write-fits-spec =
@@ -60,5 +61,5 @@ write-fits-spec =
     is-zeroing-requires
     zeroing-fits-requires
     returns
-    mul-result
+    run-words-requires
     returns-2)
