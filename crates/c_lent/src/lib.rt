@@ -161,7 +161,7 @@ pub fn step(
     if !numbers::is_known(head) {
         return numbers::of_step(StepAnswer::Refused(numbers::unknown(image, shared)), 0);
     }
-    let lead = numbers::lead(shared);
+    let lead = numbers::lead_of_step(shared);
     let stepped = points::step::step_lent(
         image,
         lead,

@@ -190,6 +190,20 @@ pub(crate) fn lead(numbers: &[u32; 35]) -> points::Numbers
     }
 }
 
+// The same for a step, which alone calls it: it becomes part of the step.
+pub(crate) fn lead_of_step(numbers: &[u32; 35]) -> points::Numbers
+    ensures { λ r. ⌜ r ≡ leadFrom (now (numbers .entry)) ⌝ }
+{
+    let all = &numbers[..];
+    let blocks = numbers[0];
+    points::Numbers {
+        blocks,
+        joined: numbers[1],
+        chain: numbers[2],
+        inside: points::shared::all_below(&all[3..], blocks),
+    }
+}
+
 // The shared record of its numbers and its map.
 pub(crate) fn shared(numbers: &[u32; 35], taken: &[u64; 16]) -> Shared
     ensures { λ r. ⌜ r ≡ sharedFrom (now (numbers .entry)) (now (taken .entry)) ⌝ }

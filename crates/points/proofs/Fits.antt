@@ -203,7 +203,7 @@ module _ (blocks : ℕ) (table : List ℕ) where
   unfolding allBelow
   table-end ok = rw drop-length (and-true ok)
 
--- a number joins the greatest so far; the first may stand for none
+-- a number joins the greatest so far; 0 stands for none
 pub below-both : (a b n : ℕ) → ltb (max a b) n ≡ (ltb a n && ltb b n)
 below-both a b n = go (decLt a n) (decLt b n)
   where
@@ -212,15 +212,11 @@ below-both a b n = go (decLt a n) (decLt b n)
     go (yes l) (no k) = let k : n ≤ b = omega arith in rw (lt-ltb a n l, le-ltb b n k) (le-ltb (max a b) n (omega arith))
     go (no l) d = let l : n ≤ a = omega arith in rw (le-ltb a n l) (le-ltb (max a b) n (omega arith))
 
-pub table-first : (blocks : ℕ) (table : List ℕ) → 0 < length table
-    → allBelow blocks table ≡ ltb (getD table 0 0) blocks && allBelow blocks (drop 0 table)
+pub table-first : (blocks : ℕ) (table : List ℕ) → 0 < length table → allBelow blocks table ≡ ltb 0 blocks && allBelow blocks (drop 0 table)
 unfolding allBelow
 table-first blocks [] h = absurd (omega arith)
-table-first blocks (x ∷ xs) h = twice (ltb x blocks)
-  where
-    twice : (t : Bool) → (t && all-of (λ b. ltb b blocks) xs) ≡ (t && (t && all-of (λ b. ltb b blocks) xs))
-    twice true = refl
-    twice false = refl
+table-first zero (x ∷ xs) h = rw (le-ltb x 0 (omega arith))
+table-first (suc n) (x ∷ xs) h = rw (lt-ltb 0 (suc n) (omega arith))
 
 -- ---- the end of the file, and bits past a number's width
 

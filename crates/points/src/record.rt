@@ -287,7 +287,7 @@ fn greatest(table: &[u16]) -> u16
     requires { ⌜ 0 < length (now table) ⌝ }
     ensures { λ r. ⌜ ((n : ℕ) → allBelow n (now (table .entry)) ≡ ltb r n) ⌝ }
 {
-    let mut most = table[0];
+    let mut most = 0u16;
     for i in 0..table.len() {
         most = greater(most, table[i]);
     }

@@ -12,10 +12,10 @@ stepped c = c .before .before .before .before .before .before .before
 abbrev headed : tie.After-step-lent → tie.After-head
 headed c = c .before .before .before .before
 
-abbrev led : tie.After-head → tie.After-lead
+abbrev led : tie.After-head → tie.After-lead-of-step
 led c = c .before .before .before .before
 
-abbrev tested : tie.After-lead → tie.Else1
+abbrev tested : tie.After-lead-of-step → tie.Else1
 tested c = c .before .before
 
 abbrev start : tie.After-is-known → tie.Start
@@ -41,8 +41,8 @@ returns c =
     (is-none (a .image .now) (sharedLent (a .shared) (a .taken)) (pointLent (a .head) (a .table) (a .text)) _ _
     (tests-none (t .before .is-known .ensures) (t .if1 .taken)) _ (c .before .unknown .ensures (a .taken .now)))
 
-lead-requires : tie.Need-lead-requires
-lead-requires c κs = search needs
+lead-of-step-requires : tie.Need-lead-of-step-requires
+lead-of-step-requires c κs = search needs
 
 head-requires : tie.Need-head-requires
 head-requires c κs = let t = tested (c .before .before .before) in tests-known (t .before .is-known .ensures) (t .if1 .left)
@@ -53,7 +53,7 @@ step-lent-requires c κs = search needs
 put-reported-requires : tie.Need-put-reported-requires
 put-reported-requires c κs =
     let s = c .before .before .before .before in
-    (search needs, rw (led (headed s) .lead .ensures) at (s .step-lent .ensures .1))
+    (search needs, rw (led (headed s) .lead-of-step .ensures) at (s .step-lent .ensures .1))
 
 of-head-requires : tie.Need-of-head-requires
 of-head-requires c κs = search needs
@@ -73,7 +73,7 @@ returns-2 c =
     let a = start (t .before) .args in
     let y = s .step-lent in
     step-known (a .image .now) (sharedLent (a .shared) (a .taken)) (pointLent (a .head) (a .table) (a .text))
-    (tests-known (t .before .is-known .ensures) (t .if1 .left)) _ (h .head .ensures) _ (l .lead .ensures) (a .bytes .now)
+    (tests-known (t .before .is-known .ensures) (t .if1 .left)) _ (h .head .ensures) _ (l .lead-of-step .ensures) (a .bytes .now)
     (y .result) (y .last .1 .1 .0) (y .last .1 .1 .1 .1 .0) (y .last .1 .1 .1 .1 .1 .0) _ (y .last .1 .1 .1 .1 .1 .1 .0) (y .ensures .0)
     _ (c .of-step2 .ensures) _ (c .before .of-head .ensures) _ (c .before .before .put-reported .ensures)
 
@@ -86,7 +86,7 @@ step-spec =
     of-step-requires
     same-length
     returns
-    lead-requires
+    lead-of-step-requires
     head-requires
     step-lent-requires
     put-reported-requires

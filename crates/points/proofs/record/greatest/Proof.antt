@@ -17,11 +17,8 @@ Inv-loop table most₀ i₀ i-end most i =
 abbrev μ-loop : tie.MeasureT-loop
 μ-loop table most₀ i₀ i-end most i = length table - i
 
-shared-slice-read-most : tie.Need-shared-slice-read-most Inv-loop μ-loop
-shared-slice-read-most c = omega arith
-
 loop-holds : tie.Need-loop-holds Inv-loop μ-loop
-loop-holds c = let a = c .before .before .args in (omega arith, refl, λ n. table-first n (a .table .now) (c .before .before .pre))
+loop-holds c = let a = c .before .args in (omega arith, refl, λ n. table-first n (a .table .now) (c .before .pre))
 
 mul-greater : tie.Need-mul-greater Inv-loop μ-loop
 mul-greater c = omega arith
@@ -40,7 +37,7 @@ loop-less c = omega arith
 
 loop-again : tie.Need-loop-again Inv-loop μ-loop
 loop-again c =
-    let a = c .before .before .before .before .before .before .args in
+    let a = c .before .before .before .before .before .args in
     let l = c .before .before .before .loop in (
       omega arith,
       refl,
@@ -51,7 +48,7 @@ loop-again c =
 
 returns : tie.Need-returns Inv-loop μ-loop
 returns c n =
-    let a = c .before .before .before .before .args in
+    let a = c .before .before .before .args in
     let l = c .before .loop in
     let e : l .i ≡ length (a .table .now) = omega arith in
     rw (e, table-end) at (l .inv .2 n)
@@ -62,7 +59,6 @@ greatest-spec =
     (tie.spec
     Inv-loop
     μ-loop
-    shared-slice-read-most
     loop-holds
     mul-greater
     shared-slice-read-greater
