@@ -102,16 +102,18 @@ module _ (E : Edition) (blocks : ℕ) (p : Place) where
         ands-every (not (badText (w .size)))
         (not (pastEnd E (w .offset) (w .size)) ∷ inside blocks (w .run) (span E (w .offset) (w .size)) ∷ positionTest ∷ [])
 
-    pub write-zeroing : isZeroing (w .phase) ≡ true → runTests && zeroingFits E blocks p w ≡ writeFits E blocks p w
-    write-zeroing e =
-        ap (λ (t : Bool). runTests && t)
-        (sym (choose-true (isZeroing (w .phase)) (zeroingFits E blocks p w) (leb (w .position) (span E (w .offset) (w .size) * E .blockWords)) e))
-        ∙ write-tests
+    pub write-no-run : runTests ≡ false → false ≡ writeFits E blocks p w
+    write-no-run e = rw e at write-tests
 
-    pub write-filling : isZeroing (w .phase) ≡ false → runTests && leb (w .position) (runWords E w) ≡ writeFits E blocks p w
-    write-filling e =
-        ap (λ (t : Bool). runTests && t) (sym (choose-false (isZeroing (w .phase)) (zeroingFits E blocks p w) (leb (w .position) (runWords E w)) e))
-        ∙ write-tests
+    module _ (run : runTests ≡ true) where
+      the-position : positionTest ≡ writeFits E blocks p w
+      the-position = rw run at write-tests
+
+      pub write-zeroing : isZeroing (w .phase) ≡ true → zeroingFits E blocks p w ≡ writeFits E blocks p w
+      write-zeroing e = sym (choose-true (isZeroing (w .phase)) (zeroingFits E blocks p w) (leb (w .position) (runWords E w)) e) ∙ the-position
+
+      pub write-filling : isZeroing (w .phase) ≡ false → leb (w .position) (runWords E w) ≡ writeFits E blocks p w
+      write-filling e = sym (choose-false (isZeroing (w .phase)) (zeroingFits E blocks p w) (leb (w .position) (runWords E w)) e) ∙ the-position
 
 -- what is under way: a read's range, or a write
 pub range-tests : (E : Edition) (w : Write)

@@ -236,10 +236,13 @@ fn write_fits(blocks: u32, place: Place, write: Write) -> bool
     let run = !bad_text(size)
         & !past_end(write.offset as usize, size)
         & inside(blocks, write.run, n);
-    if is_zeroing(phase) {
-        return run & zeroing_fits(blocks, place, write);
+    if !run {
+        return false;
     }
-    run & (write.position <= crate::plan::run_words(write))
+    if is_zeroing(phase) {
+        return zeroing_fits(blocks, place, write);
+    }
+    write.position <= crate::plan::run_words(write)
 }
 
 // Whether the range of a read under way fits: 16 and 17, and the position.

@@ -157,7 +157,7 @@ fn store(image: &mut [u64], kind: Kind, block: u32, word: u32, value: u64) -> us
     ensures { λ r. ⌜ Stores (now (image .entry)) (storeOf one kind block word value) (now (image .exit)) r ⌝ }
 {
     if stores(kind) {
-        words::image::store(image, block as usize, word as usize, value);
+        words::image::store(image, block, word as usize, value);
         return block as usize * 64 + word as usize;
     }
     0
