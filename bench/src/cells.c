@@ -1,7 +1,6 @@
 /* The calls that bench/against measures, by the library of one side. Only `library`, at the end, is seen from outside.
 
-   The image has 1,024 blocks. Calls go through several copies of the records, which are put back between, so that a beginning or a commit is timed alone: of
-   the shared record the map of taken blocks, and the point's record. What else the shared record holds goes on as the calls leave it. */
+   The image has 1,024 blocks. Calls go through several copies of the records, which are put back between, so that a beginning or a commit is timed alone. */
 #include <stdint.h>
 #include <stdio.h>
 #include <stdlib.h>
@@ -107,19 +106,38 @@ static void over(void)
     begin_at(&kept->point, now->offset, now->size);
 }
 
-/* The same, filled, when another point has committed to that block: what is copied is to be filled again. */
-static void moved(void)
+/* The same, filled, when another point has committed to that block. */
+static void overtaken(void)
 {
     static store_point other;
-    store_answer answer;
     over();
     must(store_join(image, WORDS, &kept->shared, 1, &other) == STORE_DONE);
     begin_at(&other, 0, 8);
     finish(&other);
-    do
-        answer = step(&kept->shared, &kept->point);
-    while (answer.kind == STORE_STORED);
-    must(answer.kind == STORE_MOVED);
+    for (size_t w = 0; w < STORE_BLOCK_WORDS; w++)
+        must(step(&kept->shared, &kept->point).kind == STORE_STORED);
+}
+
+/* The step after that: what is copied is to be filled again. */
+static void moved(void)
+{
+    overtaken();
+    must(step(&kept->shared, &kept->point).kind == STORE_MOVED);
+}
+
+/* The log block is full, and the next one zeroed. */
+static void zeroed(void)
+{
+    fresh();
+    for (size_t i = 0; i < STORE_BLOCK_WORDS - 2; i++) {
+        begin_at(&kept->point, 0, 8);
+        finish(&kept->point);
+    }
+    begin_at(&kept->point, 0, 8);
+    while (step(&kept->shared, &kept->point).kind != STORE_EXTENDING) {
+    }
+    for (size_t w = 0; w < STORE_BLOCK_WORDS; w++)
+        must(step(&kept->shared, &kept->point).kind == STORE_STORED);
 }
 
 /* A log of 1,000 entries, of writes of 64 bytes at 32 places in turn. */
@@ -212,6 +230,20 @@ static void commit(records *r)
     image[answer.word] = 0;
 }
 
+/* A step that catches up. */
+static void move_on(records *r)
+{
+    must(step(&r->shared, &r->point).kind == STORE_MOVED);
+}
+
+/* A link, which is taken out again. */
+static void link(records *r)
+{
+    store_answer answer = step(&r->shared, &r->point);
+    must(answer.kind == STORE_STORED && r->point.head.phase != kept->point.head.phase);
+    image[answer.word] = 0;
+}
+
 static void begin(records *r)
 {
     must(store_begin(image, WORDS, &r->shared, &r->point, now->offset, text, now->size) == STORE_DONE);
@@ -237,6 +269,8 @@ static const cell cells[] = {
     {"fill, a word at the text's edge", over, fill, 4, 8, 2},
     {"fill again, a word copied", moved, fill, 504, 8, 63},
     {"commit, 512 B", filled, commit, 0, 512, 1},
+    {"catch up, answer Moved", overtaken, move_on, 504, 8, 1},
+    {"link a log block", zeroed, link, 0, 8, 1},
     {"open, 1,000 log entries", logged, open, 0, 0, 1},
     {"read 1,024 B", written, read, 0, 1024, 64},
     {"begin, empty, 1 block", fresh, begin, 0, 512, 1},
@@ -251,23 +285,20 @@ static const cell cells[] = {
     {"begin, ordinary, 3 blocks", ordinary, begin, 256, 1024, 1},
 };
 
+static void put_back(void)
+{
+    for (size_t c = 0; c < COPIES; c++)
+        memory.copies[c] = *kept;
+}
+
 static const char *set_up(size_t i)
 {
     now = &cells[i];
     for (size_t k = 0; k < sizeof memory.text; k++)
         text[k] = (uint8_t)(k % 255 + 1);
     now->make();
-    for (size_t c = 0; c < COPIES; c++)
-        memory.copies[c] = *kept;
+    put_back();
     return now->name;
-}
-
-static void put_back(void)
-{
-    for (size_t c = 0; c < COPIES; c++) {
-        memcpy(memory.copies[c].shared.taken, kept->shared.taken, sizeof kept->shared.taken);
-        memory.copies[c].point = kept->point;
-    }
 }
 
 static size_t work(void)

@@ -60,8 +60,9 @@ pub fn begin_read(
     offset: usize,
     size: usize,
 ) -> u32
-    ensures { λ r. ⌜ BeginReadServedFor (now (image .entry)) (sharedLent (shared .entry) (taken .entry)) (pointLent (head .entry) (table .entry) (text .entry))
-        offset size (left r (sharedLent (shared .exit) (taken .exit)) (pointLent (head .exit) (table .exit) (text .exit))) ⌝ }
+    ensures { λ r. ⌜ BeginReadServedFor (now (image .entry)) (sharedLent (shared .entry) (taken .entry))
+        (pointLent (head .entry) (table .entry) (text .entry)) offset size
+        (left r (sharedLent (shared .exit) (taken .exit)) (pointLent (head .exit) (table .exit) (text .exit))) ⌝ }
 {
     c_lent::begin_read(image, shared, taken, head, table, text, offset, size)
 }
