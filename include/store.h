@@ -97,7 +97,7 @@ static inline const char *store_reason(uint32_t number)
         "the write, or the range to be read, ends past byte 131,072, or the block asked for is above 255",
         "the log, read on, has a wrong entry or index, or more log blocks than the image has blocks",
         "no run of so many free blocks",
-        "64 log blocks are full; the write is ended",
+        "one more log block is needed and 64 are chained; the write is ended",
         "a log block is needed and none is free; the write is ended",
         "nothing is mapped there",
     };
