@@ -14,11 +14,11 @@ use Rattle.log.specs.Entry.{entryOf, entryV, entryB, entryN, entryU, entryPoint
 use Rattle.log.specs.Chain.{log}
 use Rattle.log.specs.Opening.{numberOf, layoutRefusal, layout, openRefusal, fileOf, nobodyJoined, opened, openedFile}
 use Rattle.points.specs.declared.Head.{Head}
-use Rattle.points.specs.Record.{headOf, noPoint, noWrite, noTable, unfit}
+use Rattle.points.specs.Record.{headOf, noPoint, noWrite, noTable, runMost, unfit}
 use Rattle.points.specs.Search.{withJoined, search}
 use Rattle.recovery.specs.World.{World, Call, join, begin, Event, world, events}
 use Rattle.recovery.specs.History.{enough, openWorld, alone, finishes}
-use Rattle.recovery.specs.Claim.{runMost, loneSteps}
+use Rattle.recovery.specs.Claim.{loneSteps}
 use Rattle.recovery.specs.Sessions.{Case, _is_, Agree, afterCalls, code, codesAt, done, stored, moved, extending, committed}
 
 -- the two sizes between, of 1,024 and 2,048 bytes. No paper gives them a mark: these are the cases' own
