@@ -2,3 +2,5 @@
 pub mod Heads
 pub mod Shared
 pub mod Calls
+pub mod InTurn
+pub mod Turns

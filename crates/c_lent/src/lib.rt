@@ -32,6 +32,7 @@ pub struct Count {
 }
 
 pub mod numbers;
+pub mod serve;
 
 pub fn open(
     image: &[u64],

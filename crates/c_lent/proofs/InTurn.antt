@@ -1,0 +1,82 @@
+-- A loop in which each of a list has its turn, in place: those before i have had theirs, the others are as they were.
+use mathlib.Core.Path.{_≡_, refl, sym, ap, _∙_}
+use mathlib.Core.Logic.{_≢_}
+use mathlib.Core.List.{List, [], _∷_, _++_}
+use Prim.Native.Nat.{ℕ, zero, suc, _+_, _-_, _≤_, _<_}
+use native.Mathlib.Omega.{arith}
+use lib.ListN.{length, getD, set}
+use lib.Seq.{getD-set-same, getD-set-other}
+use Rattle.words.specs.Logic.{listFrom}
+use Rattle.points.specs.Serving.{Turned, inTurn}
+
+-- ---- lists by their places
+
+pub same-list {ℓ} : {A : Type ℓ} (i n : ℕ) (f g : ℕ → A) → ((j : ℕ) → i ≤ j → j < i + n → f j ≡ g j) → listFrom i n f ≡ listFrom i n g
+same-list i zero f g h = refl
+same-list i (suc n) f g h =
+    ap (λ (x : _). x ∷ listFrom (suc i) n f) (h i (omega arith) (omega arith))
+    ∙ ap (λ (l : List _). g i ∷ l) (same-list (suc i) n f g (λ j a b. h j (omega arith) (omega arith)))
+
+-- one more at the end
+pub one-more {ℓ} : {A : Type ℓ} (i n : ℕ) (f : ℕ → A) → listFrom i (suc n) f ≡ listFrom i n f ++ (f (i + n) ∷ [])
+one-more i zero f = let e : i + 0 ≡ i = omega arith in rw e
+one-more i (suc n) f =
+    let e : suc i + n ≡ i + suc n = omega arith in
+    ap (λ (l : List _). f i ∷ l) (rw e at (one-more (suc i) n f))
+
+one-last : {A : Type 0} (n : ℕ) (f : ℕ → A) → listFrom 0 (suc n) f ≡ listFrom 0 n f ++ (f n ∷ [])
+one-last n f = let e : 0 + n ≡ n = omega arith in rw e at (one-more 0 n f)
+
+-- the first of those that are left
+pub one-less {ℓ} : {A : Type ℓ} (i n : ℕ) (f : ℕ → A) → i < n → listFrom i (n - i) f ≡ f i ∷ listFrom (suc i) (n - suc i) f
+one-less i n f h = let e : n - i ≡ suc (n - suc i) = omega arith in rw e
+
+joined : {A : Type 0} (xs : List A) (y : A) (zs : List A) → (xs ++ (y ∷ [])) ++ zs ≡ xs ++ (y ∷ zs)
+joined [] y zs = refl
+joined (x ∷ xs) y zs = ap (λ (l : List _). x ∷ l) (joined xs y zs)
+
+joined-none : {A : Type 0} (xs : List A) → xs ++ [] ≡ xs
+joined-none [] = refl
+joined-none (x ∷ xs) = ap (λ (l : List _). x ∷ l) (joined-none xs)
+
+-- ---- turns
+
+module _ {S B : Type 0} where
+  -- what is left by turns behind others that have had theirs
+  abbrev pub behind : List B → Turned S (List B) → Turned S (List B)
+  behind done r = record { common = r .common; own = done ++ r .own }
+
+module _ {S A B : Type 0} where
+  module _ (turn : S → A → Turned S B) where
+    -- n in all, of which i have had their turn: `f` has those to come, `g` those that are done
+    abbrev pub Reached : Turned S (List B) → S → ℕ → ℕ → (ℕ → A) → (ℕ → B) → Type 0
+    Reached r s i n f g = r ≡ behind (listFrom 0 i g) (inTurn turn s (listFrom i (n - i) f))
+
+    pub reached-start : (s : S) (n : ℕ) (f : ℕ → A) (g : ℕ → B) → Reached (inTurn turn s (listFrom 0 n f)) s 0 n f g
+    reached-start s n f g = let e : n - 0 ≡ n = omega arith in rw e
+
+    pub reached-next : (r : Turned S (List B)) (s t : S) (i n : ℕ) (f f' : ℕ → A) (g g' : ℕ → B) → i < n → Reached r s i n f g
+        → t ≡ turn s (f i) .common → g' i ≡ turn s (f i) .own → ((j : ℕ) → j < i → g' j ≡ g j) → ((j : ℕ) → i < j → f' j ≡ f j)
+        → Reached r t (suc i) n f' g'
+    unfolding inTurn
+    reached-next r s t i n f f' g g' h so et eg before later =
+        let x = turn s (f i) in
+        let rest = inTurn turn (x .common) (listFrom (suc i) (n - suc i) f) in
+        let here : r ≡ behind (listFrom 0 i g) (inTurn turn s (f i ∷ listFrom (suc i) (n - suc i) f)) = rw (one-less i n f h) at so in
+        let done : listFrom 0 (suc i) g' ≡ listFrom 0 i g ++ (x .own ∷ []) =
+        one-last i g' ∙ ap (λ (l : List B). l ++ (g' i ∷ [])) (same-list 0 i g' g (λ j a b. before j (omega arith)))
+        ∙ ap (λ (y : B). listFrom 0 i g ++ (y ∷ [])) eg in
+        let left : listFrom (suc i) (n - suc i) f' ≡ listFrom (suc i) (n - suc i) f = same-list (suc i) (n - suc i) f' f (λ j a b. later j (omega arith)) in
+        here
+        ∙ ap (λ (l : List B). record { common = rest .common; own = l }) (sym (joined (listFrom 0 i g) (x .own) (rest .own)))
+        ∙ sym (ap (λ (l : List B). behind l (inTurn turn t (listFrom (suc i) (n - suc i) f'))) done
+        ∙ ap (λ (l : List A). behind (listFrom 0 i g ++ (x .own ∷ [])) (inTurn turn t l)) left
+        ∙ ap (λ (u : S). behind (listFrom 0 i g ++ (x .own ∷ [])) (inTurn turn u (listFrom (suc i) (n - suc i) f))) et)
+
+    pub reached-end : (r : Turned S (List B)) (s : S) (i n : ℕ) (f : ℕ → A) (g : ℕ → B) → n ≤ i → i ≤ n → Reached r s i n f g
+        → r ≡ record { common = s; own = listFrom 0 n g }
+    unfolding inTurn
+    reached-end r s i n f g h k so =
+        let e : n - i ≡ 0 = omega arith in
+        let d : i ≡ n = omega arith in
+        (rw e at so) ∙ ap (λ (l : List B). record { common = s; own = l }) (joined-none (listFrom 0 i g) ∙ ap (λ (m : ℕ). listFrom 0 m g) d)

@@ -1,0 +1,103 @@
+-- Serving a list of points, in numbers: the row of beginnings and steps, each as C has it (document 02, K6). The records are lent as three lists, of heads,
+-- tables and texts; the writes as their offsets and sizes, and their texts one after the other; the answers are kind and value.
+use Prim.Native.Nat.{ℕ, zero, suc, _+_}
+use mathlib.Core.Bool.{Bool, true, false, _&&_, _||_, not}
+use mathlib.Core.List.{List, [], _∷_}
+use lib.ListN.{length, getD, take, drop}
+use lib.Dec.{leb, eqb}
+use Rattle.words.specs.Edition.{one}
+use Rattle.words.specs.Logic.{listFrom, between, every, first, _when_}
+use Rattle.points.specs.Serving.{Turned, row, serveRounds, twice}
+use Rattle.c_lent.specs.Numbers.{SharedLent, PointLent}
+use Rattle.c_lent.specs.Calls.{beginFor, stepFor}
+
+-- ---- what is lent
+
+-- the image and the shared record, which all turns share
+pub record CommonLent : Type 0 where
+  pub image : List ℕ
+  pub shared : SharedLent
+
+-- a point of the list: its record, and its last answer
+pub record ListedLent : Type 0 where
+  pub point : PointLent
+  pub answer : List ℕ
+
+-- its record, and its write
+pub record AskingLent : Type 0 where
+  pub point : PointLent
+  pub offset : ℕ
+  pub text : List ℕ
+
+abbrev pub pointAs : List ℕ → List ℕ → List ℕ → PointLent
+pointAs head table text = record { head = head; table = table; text = text }
+
+-- the points of these heads, tables and texts, with their answers; with their writes, each an offset and a size
+abbrev pub listedAt : List (List ℕ) → List (List ℕ) → List (List ℕ) → List (List ℕ) → ℕ → ListedLent
+listedAt heads tables texts answers i = record { point = pointAs (getD heads i []) (getD tables i []) (getD texts i []); answer = getD answers i [] }
+
+abbrev pub listed : List (List ℕ) → List (List ℕ) → List (List ℕ) → List (List ℕ) → List ListedLent
+listed heads tables texts answers = listFrom 0 (length heads) (listedAt heads tables texts answers)
+
+abbrev pub offsetAt : List (List ℕ) → ℕ → ℕ
+offsetAt writes i = getD (getD writes i []) 0 0
+
+abbrev pub sizeAt : List (List ℕ) → ℕ → ℕ
+sizeAt writes i = getD (getD writes i []) 1 0
+
+-- where text i begins: the sizes of those before it
+abbrev pub startAt : List (List ℕ) → ℕ → ℕ
+startAt writes zero = 0
+startAt writes (suc i) = startAt writes i + sizeAt writes i
+
+abbrev pub askingAt : List (List ℕ) → List (List ℕ) → List (List ℕ) → List (List ℕ) → List ℕ → ℕ → AskingLent
+askingAt heads tables texts writes bytes i =
+    record {
+      point = pointAs (getD heads i []) (getD tables i []) (getD texts i []);
+      offset = offsetAt writes i;
+      text = take (sizeAt writes i) (drop (startAt writes i) bytes);
+    }
+
+abbrev pub asking : List (List ℕ) → List (List ℕ) → List (List ℕ) → List (List ℕ) → List ℕ → List AskingLent
+asking heads tables texts writes bytes = listFrom 0 (length heads) (askingAt heads tables texts writes bytes)
+
+abbrev pub commonLent : List ℕ → SharedLent → CommonLent
+commonLent image shared = record { image = image; shared = shared }
+
+abbrev pub listedLent : PointLent → List ℕ → ListedLent
+listedLent point answer = record { point = point; answer = answer }
+
+-- ---- turns
+
+-- what a turn leaves
+abbrev pub turnLeft : {X : Type 0} → CommonLent → X → Turned CommonLent X
+turnLeft c x = record { common = c; own = x }
+
+-- the answer of a beginning, by the refusal's number: a kind and a value
+abbrev pub begunAnswer : ℕ → List ℕ
+begunAnswer zero = 0 ∷ 0 ∷ []
+begunAnswer (suc n) = 5 ∷ suc n ∷ []
+
+-- the kinds after which a write goes on: of a beginning, Stored, Moved, Extending, Copied
+abbrev pub kindGoesOn : ℕ → Bool
+kindGoesOn kind = leb kind 3 || eqb kind 6
+
+unfoldable pub beginTurnFor : CommonLent → AskingLent → Turned CommonLent ListedLent
+beginTurnFor c a =
+    let b = beginFor (c .image) (c .shared) (a .point) (a .offset) (a .text) in
+    record {
+      common = record { image = c .image; shared = b .shared };
+      own = record { point = b .point; answer = begunAnswer (b .refused) };
+    }
+
+unfoldable pub stepTurnFor : CommonLent → ListedLent → Turned CommonLent ListedLent
+stepTurnFor c x =
+    let l = stepFor (c .image) (c .shared) (x .point) [] in
+    elim (kindGoesOn (getD (x .answer) 0 0)) [
+      | true ↦
+          record {
+            common = record { image = l .image; shared = l .shared };
+            own = record { point = l .point; answer = l .answer .kind ∷ l .answer .value ∷ [] };
+          }
+      | false ↦ record { common = c; own = x }
+    ]
