@@ -3,17 +3,19 @@ use mathlib.Core.Path.{_≡_, refl, sym, ap, _∙_, subst}
 use mathlib.Core.Bool.{Bool, true, false}
 use mathlib.Core.List.{List, [], _∷_}
 use mathlib.Core.Logic.{_≢_}
-use Prim.Native.Nat.{ℕ, suc, _+_, _<_}
+use Prim.Native.Nat.{ℕ, zero, suc, _+_, _-_, _≤_, _<_}
 use native.Mathlib.Omega.{arith}
-use lib.ListN.{length, getD, set, length-set}
+use lib.ListN.{length, getD, set, take, drop, length-set}
+use native.Mathlib.Decide.{decLt}
 use lib.Seq.{getD-set-same, getD-set-other}
 use Rattle.words.proofs.Choice.{choose-true, choose-false}
 use Rattle.points.specs.Serving.{Turned}
 use Rattle.c_lent.proofs.InTurn.{Reached, reached-next}
 use Rattle.c_lent.specs.declared.Answer.{Answer}
 use Rattle.c_lent.specs.Numbers.{SharedLent, PointLent, isKnown}
-use Rattle.c_lent.specs.Calls.{StepLeft, stepLeft, stepFor, ifKnown}
+use Rattle.c_lent.specs.Calls.{PointLeft, StepLeft, stepLeft, beginFor, stepFor, ifKnown}
 use Rattle.c_lent.specs.Serving.{CommonLent, ListedLent, commonLent, listedLent, turnLeft, kindGoesOn, stepTurnFor, pointAs, listedAt}
+use Rattle.c_lent.specs.Serving.{askingLent, begunAnswer, beginTurnFor, offsetAt, sizeAt, startAt, askingAt}
 
 -- ---- a point's turn
 
@@ -83,3 +85,65 @@ round-next r s s' heads tables texts answers h t x a n i l d so e =
     (listed-same n heads tables texts answers h t x a i l d ∙ ap (λ (z : Turned CommonLent ListedLent). z .own) e)
     (λ j y. listed-other heads tables texts answers h t x a i j (λ q. absurd (omega arith)))
     (λ j y. listed-other heads tables texts answers h t x a i j (λ q. absurd (omega arith))))
+
+-- ---- beginnings
+
+-- the answer of a beginning that is refused
+pub refused-answer : (n : ℕ) → (n ≡ 0 → ⊥) → 5 ∷ n ∷ [] ≡ begunAnswer n
+refused-answer zero h = absurd (h refl)
+refused-answer (suc n) h = refl
+
+-- a point's beginning
+pub turn-begun : (words : List ℕ) (s : SharedLent) (p : PointLent) (offset : ℕ) (text : List ℕ) (l : PointLeft) (answer : List ℕ)
+    → l ≡ beginFor words s p offset text → answer ≡ begunAnswer (l .refused)
+    → turnLeft (commonLent words (l .shared)) (listedLent (l .point) answer) ≡ beginTurnFor (commonLent words s) (askingLent p offset text)
+unfolding beginTurnFor
+turn-begun words s p offset text l answer e a =
+    rw a (ap (λ (b : PointLeft). turnLeft (commonLent words (b .shared)) (listedLent (b .point) (begunAnswer (b .refused)))) e)
+
+up-one : (writes : List (List ℕ)) (i n : ℕ) → i < suc n → (i < n → startAt writes i + sizeAt writes i ≤ startAt writes n)
+    → startAt writes i + sizeAt writes i ≤ startAt writes n + sizeAt writes n
+up-one writes i n h up = go (decLt i n)
+  where
+    go : Dec (i < n) → startAt writes i + sizeAt writes i ≤ startAt writes n + sizeAt writes n
+    go (yes l) = let x = up l in omega arith
+    go (no l) = let e : i ≡ n = omega arith in rw e (omega arith)
+
+-- texts come one after the other
+pub starts-up : (writes : List (List ℕ)) (i n : ℕ) → i < n → startAt writes i + sizeAt writes i ≤ startAt writes n
+starts-up writes i zero h = absurd (omega arith)
+starts-up writes i (suc n) h = up-one writes i n h (starts-up writes i n)
+
+pub start-next : (writes : List (List ℕ)) (i start : ℕ) → start ≡ startAt writes i → start + sizeAt writes i ≡ startAt writes (i + 1)
+start-next writes i start e = let one : i + 1 ≡ suc i = omega arith in rw (one, e)
+
+pub text-part : (writes : List (List ℕ)) (bytes : List ℕ) (i start : ℕ) → start ≡ startAt writes i
+    → take (start + sizeAt writes i - start) (drop start bytes) ≡ take (sizeAt writes i) (drop (startAt writes i) bytes)
+text-part writes bytes i start e = let d : start + sizeAt writes i - start ≡ sizeAt writes i = omega arith in rw (d, e)
+
+-- one more is begun
+pub begin-next : (r : Turned CommonLent (List ListedLent)) (s s' : CommonLent) (heads tables texts answers writes : List (List ℕ)) (bytes h t x a : List ℕ)
+    (n i offset : ℕ) (text : List ℕ)
+    → Lengths n heads tables texts answers → i < n → offset ≡ offsetAt writes i → text ≡ take (sizeAt writes i) (drop (startAt writes i) bytes)
+    → Reached beginTurnFor r s i n (askingAt heads tables texts writes bytes) (listedAt heads tables texts answers)
+    → turnLeft s' (listedLent (pointAs h t x) a)
+    ≡ beginTurnFor s (askingLent (pointAs (getD heads i []) (getD tables i []) (getD texts i [])) offset text)
+    → Reached beginTurnFor r s' (i + 1) n (askingAt (set heads i h) (set tables i t) (set texts i x) writes bytes)
+    (listedAt (set heads i h) (set tables i t) (set texts i x) (set answers i a))
+begin-next r s s' heads tables texts answers writes bytes h t x a n i offset text l d eo et so e =
+    let f = askingAt heads tables texts writes bytes in
+    let f' = askingAt (set heads i h) (set tables i t) (set texts i x) writes bytes in
+    let g = listedAt heads tables texts answers in
+    let g' = listedAt (set heads i h) (set tables i t) (set texts i x) (set answers i a) in
+    let one : suc i ≡ i + 1 = omega arith in
+    let e' : turnLeft s' (listedLent (pointAs h t x) a) ≡ beginTurnFor s (f i) = rw (eo, et) at e in
+    subst (λ (k : ℕ). Reached beginTurnFor r s' k n f' g') one (reached-next beginTurnFor r s s' i n f f' g g' d so
+    (ap (λ (z : Turned CommonLent ListedLent). z .common) e')
+    (listed-same n heads tables texts answers h t x a i l d ∙ ap (λ (z : Turned CommonLent ListedLent). z .own) e')
+    (λ j y. listed-other heads tables texts answers h t x a i j (λ q. absurd (omega arith)))
+    (λ j y. asking-other heads tables texts writes bytes h t x i j (λ q. absurd (omega arith))))
+  where
+    asking-other : (heads tables texts writes : List (List ℕ)) (bytes h t x : List ℕ) (i j : ℕ) → j ≢ i
+        → askingAt (set heads i h) (set tables i t) (set texts i x) writes bytes j ≡ askingAt heads tables texts writes bytes j
+    asking-other heads tables texts writes bytes h t x i j d =
+        rw (getD-set-other heads i j h [] d, getD-set-other tables i j t [] d, getD-set-other texts i j x [] d)

@@ -1,6 +1,7 @@
 -- Serving a list of points, in numbers: the row of beginnings and steps, each as C has it (document 02, K6). The records are lent as three lists, of heads,
 -- tables and texts; the writes as their offsets and sizes, and their texts one after the other; the answers are kind and value.
 use Prim.Native.Nat.{ℕ, zero, suc, _+_}
+use mathlib.Core.Path.{_≡_}
 use mathlib.Core.Bool.{Bool, true, false, _&&_, _||_, not}
 use mathlib.Core.List.{List, [], _∷_}
 use lib.ListN.{length, getD, take, drop}
@@ -67,6 +68,15 @@ commonLent image shared = record { image = image; shared = shared }
 abbrev pub listedLent : PointLent → List ℕ → ListedLent
 listedLent point answer = record { point = point; answer = answer }
 
+abbrev pub askingLent : PointLent → ℕ → List ℕ → AskingLent
+askingLent point offset text = record { point = point; offset = offset; text = text }
+
+-- the lists of n points, each as long, and the texts' bytes
+abbrev pub Lent : List (List ℕ) → List (List ℕ) → List (List ℕ) → List (List ℕ) → List (List ℕ) → List ℕ → Type 0
+Lent heads tables texts answers writes bytes =
+    (length tables ≡ length heads) × (length texts ≡ length heads) × (length answers ≡ length heads) × (length writes ≡ length heads)
+    × (startAt writes (length heads) ≡ length bytes)
+
 -- ---- turns
 
 -- what a turn leaves
@@ -100,4 +110,41 @@ stepTurnFor c x =
             own = record { point = l .point; answer = l .answer .kind ∷ l .answer .value ∷ [] };
           }
       | false ↦ record { common = c; own = x }
+    ]
+
+-- ---- the call
+
+abbrev pub numberAt : List (List ℕ) → ℕ → ℕ
+numberAt heads i = getD (getD heads i []) 0 0
+
+-- each list that is lent has as many, and the texts are as long as the sizes together
+abbrev pub oneForEach : ℕ → List (List ℕ) → List (List ℕ) → List (List ℕ) → List (List ℕ) → List ℕ → Bool
+oneForEach n tables texts writes answers bytes =
+    every (eqb (length tables) n ∷ eqb (length texts) n ∷ eqb (length writes) n ∷ eqb (length answers) n ∷ eqb (startAt writes n) (length bytes) ∷ [])
+
+-- 26 and 27: 26 is also given where what is lent is not one of each for each point
+unfoldable pub serveReason : List (List ℕ) → List (List ℕ) → List (List ℕ) → List (List ℕ) → List (List ℕ) → List ℕ → ℕ
+serveReason heads tables texts writes answers bytes =
+    let n = length heads in
+    first
+    (26 when not (between 1 n 32 && oneForEach n tables texts writes answers bytes)
+    ∷ 27 when twice (listFrom 0 n (numberAt heads))
+    ∷ [])
+
+-- what the call leaves
+pub record ServeLeft : Type 0 where
+  pub refused : ℕ
+  pub common : CommonLent
+  pub points : List ListedLent
+
+abbrev pub serveLeft : ℕ → CommonLent → List ListedLent → ServeLeft
+serveLeft refused c points = record { refused = refused; common = c; points = points }
+
+-- "It leaves what that row of beginnings and steps gives"; 26 and 27 "with nothing begun"
+unfoldable pub serveFor : CommonLent → List (List ℕ) → List (List ℕ) → List (List ℕ) → List (List ℕ) → List (List ℕ) → List ℕ → ServeLeft
+serveFor c heads tables texts writes answers bytes =
+    let r = row beginTurnFor stepTurnFor (serveRounds one (length heads)) c (asking heads tables texts writes bytes) in
+    elim (serveReason heads tables texts writes answers bytes) [
+      | zero ↦ serveLeft 0 (r .common) (r .own)
+      | suc n ↦ serveLeft (suc n) c (listed heads tables texts answers)
     ]

@@ -3,13 +3,81 @@ ghost use mathlib.Core.Path.{_≡_};
 ghost use lib.ListN.{length};
 ghost use Rattle.points.specs.Serving.{inTurn};
 ghost use Rattle.c_lent.specs.Numbers.{sharedLent, pointLent};
-ghost use Rattle.c_lent.specs.Serving.{kindGoesOn, stepTurnFor, listed, commonLent, turnLeft, listedLent};
+ghost use Rattle.c_lent.specs.Serving.{kindGoesOn, beginTurnFor, stepTurnFor, listed, asking, commonLent, turnLeft, listedLent, askingLent};
+ghost use Rattle.c_lent.specs.Serving.{Lent, begunAnswer, startAt, numberAt, serveReason, serveLeft, serveFor};
 
 // Whether the write goes on after an answer of this kind.
 fn goes_on(kind: u32) -> bool
     ensures { λ r. ⌜ r ≡ kindGoesOn kind ⌝ }
 {
     (kind <= 3) | (kind == 6)
+}
+
+// What a beginning answers, kind and value, by the refusal's number.
+fn begun_answer(refused: u32) -> [u32; 2]
+    ensures { λ r. ⌜ r ≡ begunAnswer refused ⌝ }
+{
+    if refused == 0 {
+        return [0, 0];
+    }
+    [5, refused]
+}
+
+// One point's beginning.
+fn begin_turn(
+    image: &[u64],
+    shared: &mut [u32; 35],
+    taken: &mut [u64; 16],
+    head: &mut [u32; 11],
+    table: &mut [u16; 256],
+    text: &mut [u8; 1024],
+    answer: &mut [u32; 2],
+    offset: usize,
+    bytes: &[u8],
+)
+    ensures { λ _. ⌜ turnLeft (commonLent (now (image .entry)) (sharedLent (shared .exit) (taken .exit)))
+        (listedLent (pointLent (head .exit) (table .exit) (text .exit)) (now (answer .exit)))
+        ≡ beginTurnFor (commonLent (now (image .entry)) (sharedLent (shared .entry) (taken .entry)))
+        (askingLent (pointLent (head .entry) (table .entry) (text .entry)) offset (now (bytes .entry))) ⌝ }
+{
+    let refused = crate::begin(image, shared, taken, head, table, text, offset, bytes);
+    *answer = begun_answer(refused);
+}
+
+// All writes are begun, in list order; their texts stand one after the other.
+fn begin_all(
+    image: &[u64],
+    shared: &mut [u32; 35],
+    taken: &mut [u64; 16],
+    heads: &mut [[u32; 11]],
+    tables: &mut [[u16; 256]],
+    texts: &mut [[u8; 1024]],
+    answers: &mut [[u32; 2]],
+    writes: &[[usize; 2]],
+    bytes: &[u8],
+)
+    requires { ⌜ Lent (now heads) (now tables) (now texts) (now answers) (now writes) (now bytes) ⌝ }
+    ensures { λ _. ⌜ turnLeft (commonLent (now (image .entry)) (sharedLent (shared .exit) (taken .exit)))
+        (listed (now (heads .exit)) (now (tables .exit)) (now (texts .exit)) (now (answers .exit)))
+        ≡ inTurn beginTurnFor (commonLent (now (image .entry)) (sharedLent (shared .entry) (taken .entry)))
+        (asking (now (heads .entry)) (now (tables .entry)) (now (texts .entry)) (now (writes .entry)) (now (bytes .entry))) ⌝ }
+{
+    let mut start: usize = 0;
+    for i in 0..heads.len() {
+        let end = start + writes[i][1];
+        begin_turn(
+            image,
+            shared,
+            taken,
+            &mut heads[i],
+            &mut tables[i],
+            &mut texts[i],
+            &mut answers[i],
+            writes[i][0],
+            &bytes[start..end],
+        );
+        start = end;
+    }
 }
 
 // One point's turn in a round: a step if its write goes on.
