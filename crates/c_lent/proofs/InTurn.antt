@@ -8,28 +8,7 @@ use lib.ListN.{length, getD, set}
 use lib.Seq.{getD-set-same, getD-set-other}
 use Rattle.words.specs.Logic.{listFrom}
 use Rattle.points.specs.Serving.{Turned, inTurn}
-
--- ---- lists by their places
-
-pub same-list {ℓ} : {A : Type ℓ} (i n : ℕ) (f g : ℕ → A) → ((j : ℕ) → i ≤ j → j < i + n → f j ≡ g j) → listFrom i n f ≡ listFrom i n g
-same-list i zero f g h = refl
-same-list i (suc n) f g h =
-    ap (λ (x : _). x ∷ listFrom (suc i) n f) (h i (omega arith) (omega arith))
-    ∙ ap (λ (l : List _). g i ∷ l) (same-list (suc i) n f g (λ j a b. h j (omega arith) (omega arith)))
-
--- one more at the end
-pub one-more {ℓ} : {A : Type ℓ} (i n : ℕ) (f : ℕ → A) → listFrom i (suc n) f ≡ listFrom i n f ++ (f (i + n) ∷ [])
-one-more i zero f = let e : i + 0 ≡ i = omega arith in rw e
-one-more i (suc n) f =
-    let e : suc i + n ≡ i + suc n = omega arith in
-    ap (λ (l : List _). f i ∷ l) (rw e at (one-more (suc i) n f))
-
-one-last : {A : Type 0} (n : ℕ) (f : ℕ → A) → listFrom 0 (suc n) f ≡ listFrom 0 n f ++ (f n ∷ [])
-one-last n f = let e : 0 + n ≡ n = omega arith in rw e at (one-more 0 n f)
-
--- the first of those that are left
-pub one-less {ℓ} : {A : Type ℓ} (i n : ℕ) (f : ℕ → A) → i < n → listFrom i (n - i) f ≡ f i ∷ listFrom (suc i) (n - suc i) f
-one-less i n f h = let e : n - i ≡ suc (n - suc i) = omega arith in rw e
+use Rattle.c_lent.proofs.Places.{same-list, one-last, one-less}
 
 joined : {A : Type 0} (xs : List A) (y : A) (zs : List A) → (xs ++ (y ∷ [])) ++ zs ≡ xs ++ (y ∷ zs)
 joined [] y zs = refl

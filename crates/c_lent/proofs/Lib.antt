@@ -2,5 +2,6 @@
 pub mod Heads
 pub mod Shared
 pub mod Calls
+pub mod Places
 pub mod InTurn
 pub mod Turns

@@ -7,9 +7,13 @@ use Prim.Native.Nat.{ℕ, zero, suc, _+_, _-_, _≤_, _<_}
 use native.Mathlib.Omega.{arith}
 use lib.ListN.{length, getD, set, take, drop, length-set}
 use native.Mathlib.Decide.{decLt}
+use lib.Dec.{eqb}
+use borrow.Author.Tests.{eq-eqb, ne-eqb}
 use lib.Seq.{getD-set-same, getD-set-other}
 use Rattle.words.proofs.Choice.{choose-true, choose-false}
-use Rattle.points.specs.Serving.{Turned}
+use Rattle.words.proofs.Logic.{or-left, or-right}
+use Rattle.words.specs.Logic.{listFrom, some-of}
+use Rattle.points.specs.Serving.{Turned, inTurn, rounds}
 use Rattle.c_lent.proofs.InTurn.{Reached, reached-next}
 use Rattle.c_lent.specs.declared.Answer.{Answer}
 use Rattle.c_lent.specs.Numbers.{SharedLent, PointLent, isKnown}
@@ -121,6 +125,11 @@ pub text-part : (writes : List (List ℕ)) (bytes : List ℕ) (i start : ℕ) �
     → take (start + sizeAt writes i - start) (drop start bytes) ≡ take (sizeAt writes i) (drop (startAt writes i) bytes)
 text-part writes bytes i start e = let d : start + sizeAt writes i - start ≡ sizeAt writes i = omega arith in rw (d, e)
 
+-- nothing is left of so many bytes just where the texts have them all
+pub none-left : (left total bytes : ℕ) → left + total ≡ bytes → eqb left 0 ≡ eqb total bytes
+none-left zero total bytes e = sym (eq-eqb total bytes (omega arith))
+none-left (suc left) total bytes e = ne-eqb (suc left) 0 (λ x. omega arith) ∙ sym (ne-eqb total bytes (λ x. omega arith))
+
 -- one more is begun
 pub begin-next : (r : Turned CommonLent (List ListedLent)) (s s' : CommonLent) (heads tables texts answers writes : List (List ℕ)) (bytes h t x a : List ℕ)
     (n i offset : ℕ) (text : List ℕ)
@@ -147,3 +156,42 @@ begin-next r s s' heads tables texts answers writes bytes h t x a n i offset tex
         → askingAt (set heads i h) (set tables i t) (set texts i x) writes bytes j ≡ askingAt heads tables texts writes bytes j
     asking-other heads tables texts writes bytes h t x i j d =
         rw (getD-set-other heads i j h [] d, getD-set-other tables i j t [] d, getD-set-other texts i j x [] d)
+
+-- ---- rounds
+
+-- one round is over
+pub rounds-next : (k : ℕ) (s s' : CommonLent) (xs xs' : List ListedLent) → 0 < k → turnLeft s' xs' ≡ inTurn stepTurnFor s xs
+    → rounds k stepTurnFor s xs ≡ rounds (k - 1) stepTurnFor s' xs'
+unfolding rounds
+rounds-next zero s s' xs xs' h e = absurd (omega arith)
+rounds-next (suc k) s s' xs xs' h e =
+    let d : suc k - 1 ≡ k = omega arith in
+    rw d (sym (ap (λ (r : Turned CommonLent (List ListedLent)). rounds k stepTurnFor (r .common) (r .own)) e))
+
+-- all are over
+pub rounds-over : (k : ℕ) (s : CommonLent) (xs : List ListedLent) → k ≤ 0 → turnLeft s xs ≡ rounds k stepTurnFor s xs
+unfolding rounds
+rounds-over zero s xs h = refl
+rounds-over (suc k) s xs h = absurd (omega arith)
+
+-- a round in which nobody's write goes on changes nothing
+idle-round : (s : CommonLent) (i n : ℕ) (f : ℕ → ListedLent) → some-of kindGoesOn (listFrom i n (λ j. getD (f j .answer) 0 0)) ≡ false
+    → inTurn stepTurnFor s (listFrom i n f) ≡ turnLeft s (listFrom i n f)
+unfolding inTurn stepTurnFor
+idle-round s i zero f e = refl
+idle-round s i (suc n) f e =
+    let here = or-left (kindGoesOn (getD (f i .answer) 0 0)) _ e in
+    let rest = idle-round s (suc i) n f (or-right (kindGoesOn (getD (f i .answer) 0 0)) _ e) in
+    ap (λ (t : Turned CommonLent ListedLent). next t) (choose-false (kindGoesOn (getD (f i .answer) 0 0)) _ _ here)
+    ∙ ap (λ (r : Turned CommonLent (List ListedLent)). turnLeft (r .common) (f i ∷ r .own)) rest
+  where
+    next : Turned CommonLent ListedLent → Turned CommonLent (List ListedLent)
+    next t = let r = inTurn stepTurnFor (t .common) (listFrom (suc i) n f) in turnLeft (r .common) (t .own ∷ r .own)
+
+-- nor do more of them
+pub rounds-idle : (k : ℕ) (s : CommonLent) (n : ℕ) (f : ℕ → ListedLent) → some-of kindGoesOn (listFrom 0 n (λ j. getD (f j .answer) 0 0)) ≡ false
+    → turnLeft s (listFrom 0 n f) ≡ rounds k stepTurnFor s (listFrom 0 n f)
+unfolding rounds
+rounds-idle zero s n f e = refl
+rounds-idle (suc k) s n f e =
+    rounds-idle k s n f e ∙ sym (ap (λ (r : Turned CommonLent (List ListedLent)). rounds k stepTurnFor (r .common) (r .own)) (idle-round s 0 n f e))

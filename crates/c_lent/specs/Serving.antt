@@ -3,11 +3,11 @@
 use Prim.Native.Nat.{ℕ, zero, suc, _+_}
 use mathlib.Core.Path.{_≡_}
 use mathlib.Core.Bool.{Bool, true, false, _&&_, _||_, not}
-use mathlib.Core.List.{List, [], _∷_}
+use mathlib.Core.List.{List, [], _∷_, map}
 use lib.ListN.{length, getD, take, drop}
 use lib.Dec.{leb, eqb}
 use Rattle.words.specs.Edition.{one}
-use Rattle.words.specs.Logic.{listFrom, between, every, first, _when_}
+use Rattle.words.specs.Logic.{some-of, listFrom, between, every, first, _when_}
 use Rattle.points.specs.Serving.{Turned, row, serveRounds, twice}
 use Rattle.c_lent.specs.Numbers.{SharedLent, PointLent}
 use Rattle.c_lent.specs.Calls.{beginFor, stepFor}
@@ -92,6 +92,13 @@ begunAnswer (suc n) = 5 ∷ suc n ∷ []
 abbrev pub kindGoesOn : ℕ → Bool
 kindGoesOn kind = leb kind 3 || eqb kind 6
 
+abbrev pub kindAt : List (List ℕ) → ℕ → ℕ
+kindAt answers i = getD (getD answers i []) 0 0
+
+-- somebody's write goes on
+abbrev pub anyGoesOn : List (List ℕ) → Bool
+anyGoesOn answers = some-of kindGoesOn (listFrom 0 (length answers) (kindAt answers))
+
 unfoldable pub beginTurnFor : CommonLent → AskingLent → Turned CommonLent ListedLent
 beginTurnFor c a =
     let b = beginFor (c .image) (c .shared) (a .point) (a .offset) (a .text) in
@@ -117,17 +124,14 @@ stepTurnFor c x =
 abbrev pub numberAt : List (List ℕ) → ℕ → ℕ
 numberAt heads i = getD (getD heads i []) 0 0
 
--- each list that is lent has as many, and the texts are as long as the sizes together
-abbrev pub oneForEach : ℕ → List (List ℕ) → List (List ℕ) → List (List ℕ) → List (List ℕ) → List ℕ → Bool
-oneForEach n tables texts writes answers bytes =
-    every (eqb (length tables) n ∷ eqb (length texts) n ∷ eqb (length writes) n ∷ eqb (length answers) n ∷ eqb (startAt writes n) (length bytes) ∷ [])
-
--- 26 and 27: 26 is also given where what is lent is not one of each for each point
-unfoldable pub serveReason : List (List ℕ) → List (List ℕ) → List (List ℕ) → List (List ℕ) → List (List ℕ) → List ℕ → ℕ
+-- 26: a point at least and 32 at most, each list as long as that of the heads, and the texts as long as the sizes together; else what is lent is not one
+-- write for each. 27: one of the heads' numbers stands twice
+unfoldable pub serveReason : List (List ℕ) → ℕ → ℕ → List (List ℕ) → ℕ → ℕ → ℕ
 serveReason heads tables texts writes answers bytes =
     let n = length heads in
     first
-    (26 when not (between 1 n 32 && oneForEach n tables texts writes answers bytes)
+    (26 when not (every
+    (between 1 n 32 ∷ eqb tables n ∷ eqb texts n ∷ eqb (length writes) n ∷ eqb answers n ∷ eqb (startAt writes (length writes)) bytes ∷ []))
     ∷ 27 when twice (listFrom 0 n (numberAt heads))
     ∷ [])
 
@@ -135,16 +139,25 @@ serveReason heads tables texts writes answers bytes =
 pub record ServeLeft : Type 0 where
   pub refused : ℕ
   pub common : CommonLent
-  pub points : List ListedLent
+  pub heads : List (List ℕ)
+  pub tables : List (List ℕ)
+  pub texts : List (List ℕ)
+  pub answers : List (List ℕ)
 
-abbrev pub serveLeft : ℕ → CommonLent → List ListedLent → ServeLeft
-serveLeft refused c points = record { refused = refused; common = c; points = points }
+abbrev pub serveLeft : ℕ → CommonLent → List (List ℕ) → List (List ℕ) → List (List ℕ) → List (List ℕ) → ServeLeft
+serveLeft refused c heads tables texts answers =
+    record { refused = refused; common = c; heads = heads; tables = tables; texts = texts; answers = answers }
+
+-- of the points of a list
+abbrev pub listsOf : CommonLent → List ListedLent → ServeLeft
+listsOf c xs =
+    serveLeft 0 c (map (λ x. x .point .head) xs) (map (λ x. x .point .table) xs) (map (λ x. x .point .text) xs) (map (λ x. x .answer) xs)
 
 -- "It leaves what that row of beginnings and steps gives"; 26 and 27 "with nothing begun"
 unfoldable pub serveFor : CommonLent → List (List ℕ) → List (List ℕ) → List (List ℕ) → List (List ℕ) → List (List ℕ) → List ℕ → ServeLeft
-serveFor c heads tables texts writes answers bytes =
+serveFor c heads tables texts answers writes bytes =
     let r = row beginTurnFor stepTurnFor (serveRounds one (length heads)) c (asking heads tables texts writes bytes) in
-    elim (serveReason heads tables texts writes answers bytes) [
-      | zero ↦ serveLeft 0 (r .common) (r .own)
-      | suc n ↦ serveLeft (suc n) c (listed heads tables texts answers)
+    elim (serveReason heads (length tables) (length texts) writes (length answers) (length bytes)) [
+      | zero ↦ listsOf (r .common) (r .own)
+      | suc n ↦ serveLeft (suc n) c heads tables texts answers
     ]

@@ -1,10 +1,15 @@
 // Serving a list of points: all writes are begun in list order, then each unfinished one gets a step a round.
 ghost use mathlib.Core.Path.{_≡_};
+ghost use mathlib.Core.Bool.{true, false};
+ghost use Prim.Native.Nat.{suc, _-_, _<_};
 ghost use lib.ListN.{length};
-ghost use Rattle.points.specs.Serving.{inTurn};
+ghost use lib.Dec.{eqb};
+ghost use Rattle.words.specs.Edition.{one};
+ghost use Rattle.words.specs.Logic.{member, listFrom};
+ghost use Rattle.points.specs.Serving.{inTurn, rounds, serveRounds, twice};
 ghost use Rattle.c_lent.specs.Numbers.{sharedLent, pointLent};
 ghost use Rattle.c_lent.specs.Serving.{kindGoesOn, beginTurnFor, stepTurnFor, listed, asking, commonLent, turnLeft, listedLent, askingLent};
-ghost use Rattle.c_lent.specs.Serving.{Lent, begunAnswer, startAt, numberAt, serveReason, serveLeft, serveFor};
+ghost use Rattle.c_lent.specs.Serving.{Lent, anyGoesOn, begunAnswer, startAt, numberAt, serveReason, serveLeft, serveFor};
 
 // Whether the write goes on after an answer of this kind.
 fn goes_on(kind: u32) -> bool
@@ -122,4 +127,83 @@ fn round(
     for i in 0..heads.len() {
         turn(image, shared, taken, &mut heads[i], &mut tables[i], &mut texts[i], &mut answers[i], bytes);
     }
+}
+
+// Whether somebody's write goes on.
+fn anybody(answers: &[[u32; 2]]) -> bool
+    ensures { λ r. ⌜ r ≡ anyGoesOn (now (answers .entry)) ⌝ }
+{
+    for i in 0..answers.len() {
+        if goes_on(answers[i][0]) {
+            return true;
+        }
+    }
+    false
+}
+
+// So many rounds, as long as there is somebody whose write goes on.
+fn all_rounds(
+    image: &mut [u64],
+    shared: &mut [u32; 35],
+    taken: &mut [u64; 16],
+    heads: &mut [[u32; 11]],
+    tables: &mut [[u16; 256]],
+    texts: &mut [[u8; 1024]],
+    answers: &mut [[u32; 2]],
+    most: u32,
+)
+    requires { ⌜ (length (now tables) ≡ length (now heads)) × (length (now texts) ≡ length (now heads)) × (length (now answers) ≡ length (now heads)) ⌝ }
+    ensures { λ _. ⌜ turnLeft (commonLent (now (image .exit)) (sharedLent (shared .exit) (taken .exit)))
+        (listed (now (heads .exit)) (now (tables .exit)) (now (texts .exit)) (now (answers .exit)))
+        ≡ rounds most stepTurnFor (commonLent (now (image .entry)) (sharedLent (shared .entry) (taken .entry)))
+        (listed (now (heads .entry)) (now (tables .entry)) (now (texts .entry)) (now (answers .entry))) ⌝ }
+{
+    let mut bytes = [0u8; 1024];
+    let mut left = most;
+    while 0 < left && anybody(answers) {
+        round(image, shared, taken, heads, tables, texts, answers, &mut bytes);
+        left -= 1;
+    }
+}
+
+// Whether the number of point i stands again after it.
+fn again(heads: &[[u32; 11]], i: usize) -> bool
+    requires { ⌜ i < length (now heads) ⌝ }
+    ensures { λ r. ⌜ r ≡ member (numberAt (now (heads .entry)) i)
+        (listFrom (suc i) (length (now (heads .entry)) - suc i) (numberAt (now (heads .entry)))) ⌝ }
+{
+    let number = heads[i][0];
+    for j in i + 1..heads.len() {
+        if heads[j][0] == number {
+            return true;
+        }
+    }
+    false
+}
+
+// Whether a point is listed twice.
+fn listed_twice(heads: &[[u32; 11]]) -> bool
+    ensures { λ r. ⌜ r ≡ twice (listFrom 0 (length (now (heads .entry))) (numberAt (now (heads .entry)))) ⌝ }
+{
+    for i in 0..heads.len() {
+        if again(heads, i) {
+            return true;
+        }
+    }
+    false
+}
+
+// Whether the texts are so long together.
+fn adds_up(writes: &[[usize; 2]], bytes: usize) -> bool
+    ensures { λ r. ⌜ r ≡ eqb (startAt (now (writes .entry)) (length (now (writes .entry)))) bytes ⌝ }
+{
+    let mut left = bytes;
+    for i in 0..writes.len() {
+        let size = writes[i][1];
+        if left < size {
+            return false;
+        }
+        left -= size;
+    }
+    left == 0
 }
