@@ -5,3 +5,5 @@ pub mod Calls
 pub mod Places
 pub mod InTurn
 pub mod Turns
+pub mod ServeReasons
+pub mod Serves

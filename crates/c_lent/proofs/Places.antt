@@ -1,7 +1,8 @@
 -- Lists by their places, and passes over those from a place on.
 use mathlib.Core.Path.{_≡_, refl, sym, ap, _∙_}
 use mathlib.Core.Bool.{Bool, true, false, _||_}
-use mathlib.Core.List.{List, [], _∷_, _++_}
+use mathlib.Core.List.{List, [], _∷_, _++_, map}
+use lib.ListN.{length, getD}
 use Prim.Native.Nat.{ℕ, zero, suc, _+_, _-_, _≤_, _<_}
 use native.Mathlib.Omega.{arith}
 use Rattle.words.specs.Logic.{listFrom, some-of, member}
@@ -52,3 +53,17 @@ module _ (f : ℕ → ℕ) (n i : ℕ) where
 
   pub twice-nowhere : n ≤ i → twice (listFrom i (n - i) f) ≡ false
   twice-nowhere h = let e : n - i ≡ 0 = omega arith in rw e
+
+-- ---- a list is its elements
+
+later-list : {A : Type 0} (i n : ℕ) (f : ℕ → A) → listFrom (suc i) n f ≡ listFrom i n (λ j. f (suc j))
+later-list i zero f = refl
+later-list i (suc n) f = ap (λ (l : List _). f (suc i) ∷ l) (later-list (suc i) n f)
+
+pub whole-list : {A : Type 0} (d : A) (xs : List A) → listFrom 0 (length xs) (λ i. getD xs i d) ≡ xs
+whole-list d [] = refl
+whole-list d (x ∷ xs) = ap (λ (l : List _). x ∷ l) (later-list 0 (length xs) (λ i. getD (x ∷ xs) i d) ∙ whole-list d xs)
+
+pub map-list : {A B : Type 0} (g : A → B) (i n : ℕ) (f : ℕ → A) → map g (listFrom i n f) ≡ listFrom i n (λ j. g (f j))
+map-list g i zero f = refl
+map-list g i (suc n) f = ap (λ (l : List _). g (f i) ∷ l) (map-list g (suc i) n f)

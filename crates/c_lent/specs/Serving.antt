@@ -2,12 +2,12 @@
 -- tables and texts; the writes as their offsets and sizes, and their texts one after the other; the answers are kind and value.
 use Prim.Native.Nat.{ℕ, zero, suc, _+_}
 use mathlib.Core.Path.{_≡_}
-use mathlib.Core.Bool.{Bool, true, false, _&&_, _||_, not}
+use mathlib.Core.Bool.{Bool, true, false, _||_, not}
 use mathlib.Core.List.{List, [], _∷_, map}
 use lib.ListN.{length, getD, take, drop}
 use lib.Dec.{leb, eqb}
 use Rattle.words.specs.Edition.{one}
-use Rattle.words.specs.Logic.{some-of, listFrom, between, every, first, _when_}
+use Rattle.words.specs.Logic.{some-of, listFrom, every, first, _when_}
 use Rattle.points.specs.Serving.{Turned, row, serveRounds, twice}
 use Rattle.c_lent.specs.Numbers.{SharedLent, PointLent}
 use Rattle.c_lent.specs.Calls.{beginFor, stepFor}
@@ -124,15 +124,17 @@ stepTurnFor c x =
 abbrev pub numberAt : List (List ℕ) → ℕ → ℕ
 numberAt heads i = getD (getD heads i []) 0 0
 
--- 26: a point at least and 32 at most, each list as long as that of the heads, and the texts as long as the sizes together; else what is lent is not one
--- write for each. 27: one of the heads' numbers stands twice
+-- one point at least and 32 at most, and as many of each: tables, texts, writes and answers
+unfoldable pub oneForEach : ℕ → ℕ → ℕ → ℕ → ℕ → Bool
+oneForEach n tables texts writes answers = every (leb 1 n ∷ leb n 32 ∷ eqb tables n ∷ eqb texts n ∷ eqb writes n ∷ eqb answers n ∷ [])
+
+-- 26: that is not so, or the texts are not as long as the sizes together: what is lent is not one write for each; 27: one of the heads' numbers stands twice
 unfoldable pub serveReason : List (List ℕ) → ℕ → ℕ → List (List ℕ) → ℕ → ℕ → ℕ
 serveReason heads tables texts writes answers bytes =
-    let n = length heads in
     first
-    (26 when not (every
-    (between 1 n 32 ∷ eqb tables n ∷ eqb texts n ∷ eqb (length writes) n ∷ eqb answers n ∷ eqb (startAt writes (length writes)) bytes ∷ []))
-    ∷ 27 when twice (listFrom 0 n (numberAt heads))
+    (26 when not (oneForEach (length heads) tables texts (length writes) answers)
+    ∷ 26 when not (eqb (startAt writes (length writes)) bytes)
+    ∷ 27 when twice (listFrom 0 (length heads) (numberAt heads))
     ∷ [])
 
 -- what the call leaves

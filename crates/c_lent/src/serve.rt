@@ -1,7 +1,7 @@
 // Serving a list of points: all writes are begun in list order, then each unfinished one gets a step a round.
 ghost use mathlib.Core.Path.{_≡_};
 ghost use mathlib.Core.Bool.{true, false};
-ghost use Prim.Native.Nat.{suc, _-_, _<_};
+ghost use Prim.Native.Nat.{suc, _-_, _≤_, _<_};
 ghost use lib.ListN.{length};
 ghost use lib.Dec.{eqb};
 ghost use Rattle.words.specs.Edition.{one};
@@ -9,7 +9,7 @@ ghost use Rattle.words.specs.Logic.{member, listFrom};
 ghost use Rattle.points.specs.Serving.{inTurn, rounds, serveRounds, twice};
 ghost use Rattle.c_lent.specs.Numbers.{sharedLent, pointLent};
 ghost use Rattle.c_lent.specs.Serving.{kindGoesOn, beginTurnFor, stepTurnFor, listed, asking, commonLent, turnLeft, listedLent, askingLent};
-ghost use Rattle.c_lent.specs.Serving.{Lent, anyGoesOn, begunAnswer, startAt, numberAt, serveReason, serveLeft, serveFor};
+ghost use Rattle.c_lent.specs.Serving.{Lent, oneForEach, anyGoesOn, begunAnswer, startAt, numberAt, serveReason, serveLeft, serveFor};
 
 // Whether the write goes on after an answer of this kind.
 fn goes_on(kind: u32) -> bool
@@ -206,4 +206,85 @@ fn adds_up(writes: &[[usize; 2]], bytes: usize) -> bool
         left -= size;
     }
     left == 0
+}
+
+// Whether there are 1 to 32 points, and as many of each of the others.
+fn one_for_each(n: usize, tables: usize, texts: usize, writes: usize, answers: usize) -> bool
+    ensures { λ r. ⌜ r ≡ oneForEach n tables texts writes answers ⌝ }
+{
+    if n < 1 {
+        return false;
+    }
+    if 32 < n {
+        return false;
+    }
+    if tables != n {
+        return false;
+    }
+    if texts != n {
+        return false;
+    }
+    if writes != n {
+        return false;
+    }
+    answers == n
+}
+
+// 26: no point, more than 32, or not one write, with its room, for each; 27: a point is listed twice. 0 for neither.
+fn reason(
+    heads: &[[u32; 11]],
+    tables: usize,
+    texts: usize,
+    writes: &[[usize; 2]],
+    answers: usize,
+    bytes: usize,
+) -> u32
+    ensures { λ r. ⌜ r ≡ serveReason (now (heads .entry)) tables texts (now (writes .entry)) answers bytes ⌝ }
+{
+    if !one_for_each(heads.len(), tables, texts, writes.len(), answers) {
+        return points::NOT_ONE_EACH;
+    }
+    if !adds_up(writes, bytes) {
+        return points::NOT_ONE_EACH;
+    }
+    if listed_twice(heads) {
+        return points::LISTED_TWICE;
+    }
+    0
+}
+
+// How many rounds a list of n points has at most.
+fn most_rounds(n: usize) -> u32
+    requires { ⌜ (1 ≤ n) × (n ≤ 32) ⌝ }
+    ensures { λ r. ⌜ r ≡ serveRounds one n ⌝ }
+{
+    129 * (n as u32 - 1) + 260
+}
+
+// Serves a list of points, each with one write: `heads`, `tables` and `texts` are their records, `writes` the offsets and sizes, `bytes` the texts one after
+// the other; `answers` gets what each point's last beginning or step answered, kind and value. Answers 26 or 27, or 0.
+pub fn serve(
+    image: &mut [u64],
+    shared: &mut [u32; 35],
+    taken: &mut [u64; 16],
+    heads: &mut [[u32; 11]],
+    tables: &mut [[u16; 256]],
+    texts: &mut [[u8; 1024]],
+    answers: &mut [[u32; 2]],
+    writes: &[[usize; 2]],
+    bytes: &[u8],
+) -> u32
+    ensures { λ r. ⌜ serveLeft r (commonLent (now (image .exit)) (sharedLent (shared .exit) (taken .exit)))
+        (now (heads .exit)) (now (tables .exit)) (now (texts .exit)) (now (answers .exit))
+        ≡ serveFor (commonLent (now (image .entry)) (sharedLent (shared .entry) (taken .entry)))
+        (now (heads .entry)) (now (tables .entry)) (now (texts .entry)) (now (answers .entry)) (now (writes .entry)) (now (bytes .entry)) ⌝ }
+{
+    let refused = reason(heads, tables.len(), texts.len(), writes, answers.len(), bytes.len());
+    if refused != 0 {
+        return refused;
+    }
+    begin_all(image, shared, taken, heads, tables, texts, answers, writes, bytes);
+    let most = most_rounds(heads.len());
+    all_rounds(image, shared, taken, heads, tables, texts, answers, most);
+    0
 }
