@@ -150,11 +150,12 @@ module _ (E : Edition) (words : List ℕ) (s : Shared) (p : Point) (offset : ℕ
     unfolding writeFits
     new-fits =
         let found = nonzero run (begin-found E words s p offset (length text) e) in
-        let in-image : inside (s .blocks) run (span E offset (length text)) ≡ true =
-        and-both _ _ (le-leb 1 run (omega (arith, found))) (le-leb _ _ (search-spec s (span E offset (length text)) found .inImage)) in
+        let n = span E offset (length text) in
+        let in-image : inside (s .blocks) run n ≡ true =
+        and-both _ _ (le-leb 1 run (omega (arith, found))) (le-leb _ _ (search-spec s n found .inImage)) in
         all-every _ (
           not-no _ (begin-text E words s p offset (length text) either),
-          (not-no _ (begin-end E words s p offset (length text) either), (in-image, (le-leb 0 (span E offset (length text) * E .blockWords) (omega arith), tt))),
+          (not-no _ (begin-end E words s p offset (length text) either), (in-image, (le-leb 0 (n * E .blockWords) (omega arith), tt))),
         )
 
     abbrev left : Begun
