@@ -1,13 +1,15 @@
 -- The plain steps of a ready record: where words are left, a step stores the next one, the position goes on by one, and nothing else changes; the record
 -- is ready then for its next step. Assumes nothing.
-use Prim.Native.Nat.{ℕ, suc, _<_}
+use Prim.Native.Nat.{ℕ, zero, suc, _+_, _≤_, _<_}
+use native.Mathlib.Omega.{arith}
 use mathlib.Core.Path.{_≡_, refl, sym, ap, subst, _∙_}
 use mathlib.Core.Bool.{true, false}
-use mathlib.Core.List.{List, []}
+use mathlib.Core.List.{List, [], _∷_}
 use mathlib.Core.Option.{some}
 use borrow.Author.Tests.{lt-ltb}
 use Rattle.words.specs.Edition.{Edition}
 use Rattle.words.specs.Memory.{Memory, Store, memory, after}
+use Rattle.words.proofs.Choice.{choose-true}
 use Rattle.log.specs.declared.Shared.{Shared}
 use Rattle.points.specs.declared.Phase.the-variants.{Filling, Zeroing}
 use Rattle.points.specs.declared.Write.{Write}
@@ -17,11 +19,13 @@ use Rattle.points.specs.Record.{isZeroing, runWords, withHead, writing}
 use Rattle.points.specs.Fill.{newWord}
 use Rattle.points.specs.Plan.{Outcome, carriedOut, wordFrom}
 use Rattle.points.specs.Stepping.{turned, filled, stepping}
-use Rattle.points.specs.Serving.{stepGoesOn}
+use Rattle.points.specs.Serving.{Last, stepped, stepGoesOn, isUnfinished, inTurn, rounds, stepTurn}
+use Rattle.points.specs.Batch.{filledAt, filledOn}
 use Rattle.points.proofs.StepCases.{on-zeroing, on-filling, zero-on}
 use Rattle.points.proofs.StepFacts.{fills}
 use Rattle.points.proofs.NextWord.{next-filling}
 use Rattle.points.proofs.CarriedOut.{afterFill, fill-leaves, afterZero, zero-leaves}
+use Rattle.points.proofs.Rows.{filled-same}
 use Rattle.points.proofs.Ready.{Ready}
 use Rattle.points.proofs.ReadyOn.{ready-step, step-ready}
 
@@ -79,3 +83,53 @@ module _ {E : Edition} {words : List ℕ} {s : Shared} {p : Point} (r : Ready E 
 
     pub zero-ready : Ready E (after E words (some zeroStore)) s (withHead p (writing (p .head) zeroedOn))
     zero-ready = stored-ready _ _ zero-turn
+
+-- ---- turns of one point
+
+-- the turn of a listed point that is unfinished
+pub turn-of : (E : Edition) (words : List ℕ) (s : Shared) (p : Point) (last : Last) → isUnfinished last ≡ true
+    → stepTurn E (record { words = words; shared = s }) (record { point = p; last = last })
+    ≡ (let o = stepping E words s p in
+    record { common = record { words = after E words (o .store); shared = o .shared }; own = record { point = o .point; last = stepped (o .step) } })
+unfolding stepTurn
+turn-of E words s p last u = choose-true (isUnfinished last) _ _ u
+
+-- the point with m words more filled; its answer after m turns
+abbrev pub movedOn : ℕ → Point → Point
+movedOn m p = let w = p .head .write in withHead p (writing (p .head) (turned w (w .phase) (m + w .position) (w .zeroing) (w .retries)))
+
+abbrev pub lastOn : ℕ → Last → Last
+lastOn zero last = last
+lastOn (suc m) last = stepped Stored
+
+last-on : (m : ℕ) → lastOn m (stepped Stored) ≡ stepped Stored
+last-on zero = refl
+last-on (suc m) = refl
+
+-- m rounds of a list of one, which is ready and has m words left to fill
+pub fill-turns :
+    (m : ℕ) (E : Edition) (words : List ℕ) (s : Shared) (p : Point) (last : Last) → Ready E words s p → p .head .write .phase ≡ Filling
+    → m + p .head .write .position ≤ runWords E (p .head .write) → isUnfinished last ≡ true
+    → rounds m (stepTurn E) (record { words = words; shared = s }) (record { point = p; last = last } ∷ [])
+    ≡ record {
+      common = record { words = filledOn E (p .head) (p .table) (p .text) (p .head .write .position) m words; shared = s };
+      own = record { point = movedOn m p; last = lastOn m last } ∷ [];
+    }
+unfolding rounds inTurn filledOn
+fill-turns zero E words s p last r f l u = let z : 0 + p .head .write .position ≡ p .head .write .position = omega arith in rw z
+fill-turns (suc n) E words s p last r f l u =
+    let w = p .head .write in
+    let few : w .position < runWords E w = omega arith in
+    let q = withHead p (writing (p .head) (filled w (w .position))) in
+    let image = filledAt E (p .head) (p .table) (p .text) (w .position) words in
+    let turn : stepTurn E (record { words = words; shared = s }) (record { point = p; last = last })
+    ≡ record { common = record { words = image; shared = s }; own = record { point = q; last = stepped Stored } } =
+    turn-of E words s p last u ∙ rw (fill-turn r f few) in
+    let far : n + suc (w .position) ≡ suc n + w .position = omega arith in
+    rw turn
+    (fill-turns n E image s q (stepped Stored) (fill-ready r f few) f (omega arith) refl
+    ∙ rw (
+      far,
+      filled-same E (p .head) (p .table) (p .text) (suc (w .position)) n image (w .phase) (suc (w .position)) (w .zeroing) (w .retries),
+      last-on n,
+    ))

@@ -1,0 +1,158 @@
+// Serving a list of points: what its batches are made of. A point is tested where its write begins; its words are filled by rows, found once for a block.
+ghost use mathlib.Core.Path.{_≡_};
+ghost use mathlib.Core.List.{List};
+ghost use lib.ListN.{getD};
+ghost use Prim.Native.Nat.{ℕ, _+_, _*_, _≤_, _<_, min};
+ghost use lib.Dec.{leb};
+ghost use Rattle.words.specs.Edition.{one};
+ghost use Rattle.words.specs.Word.{byteOf};
+ghost use Rattle.words.specs.Memory.{memory};
+ghost use Rattle.log.specs.Replay.{mappedByte};
+ghost use Rattle.points.specs.declared.Head.{Head};
+ghost use Rattle.points.specs.Record.{textMax};
+ghost use Rattle.points.specs.Fill.{newWord};
+ghost use Rattle.points.specs.Batch.{filledAt, filledOn, rowOf, Fillable, Prepared, InRow, InOneBlock};
+use crate::Head;
+
+// What the words of one block of a run need, found once: the run's first block, the block that is mapped there, 0 for none, and the bytes of the run that
+// are the text's, from `lead` to `end`.
+pub struct Row {
+    pub run: u32,
+    pub from: u32,
+    pub lead: u32,
+    pub end: u32,
+}
+
+// The block that is mapped at a virtual block, 0 for none, also past the table.
+fn mapped(table: &[u16; 256], v: usize) -> u32
+    ensures { λ r. ⌜ (v < 256 → r ≡ getD (now (table .entry)) v 0) ⌝ }
+{
+    if v < 256 {
+        return crate::locate::wide(table[v]);
+    }
+    0
+}
+
+// A size, or 1,024 where it is more than a text has.
+fn at_most_text(size: u32) -> u32
+    ensures { λ r. ⌜ r ≡ min size textMax ⌝ }
+{
+    if size < 1024 { size } else { 1024 }
+}
+
+// The row of the block of the run in which word k lies.
+pub fn row_at(head: Head, table: &[u16; 256], k: u32) -> Row
+    ensures { λ r. ⌜ (Fillable head k → r ≡ rowOf one head (now (table .entry)) k) × (r .end ≤ r .lead + textMax) ⌝ }
+{
+    let write = head.write;
+    let lead = crate::record::lead(write);
+    let size = at_most_text(write.size);
+    let v = crate::record::run_first(write) as usize + words::offset::block(8 * k as usize);
+    Row {
+        run: write.run,
+        from: mapped(table, v),
+        lead,
+        end: lead + size,
+    }
+}
+
+// Word i of a block, 0 for block 0.
+fn word_of(image: &[u64], b: u32, i: usize) -> u64
+    ensures { λ r. ⌜ ((j : ℕ) → j < 8 → byteOf r j ≡ mappedByte (memory one (now (image .entry))) b (8 * i + j)) ⌝ }
+{
+    if b == 0 {
+        return 0;
+    }
+    words::image::word(words::image::block(image, b as usize), i)
+}
+
+// Word k of the run, where not all of its bytes are the text's.
+fn mixed_word<'a>(image: &'a [u64], row: Row, text: &'a [u8; 1024], k: u32) -> u64
+    requires { ⌜ InRow row k ⌝ }
+    ensures { λ r. ⌜ ((h : Head) (table : List ℕ) → Prepared row h table k
+        → r ≡ newWord one (memory one (now (image .entry))) h table (now (text .entry)) k) ⌝ }
+{
+    let at = 8 * k as usize;
+    let lead = row.lead as usize;
+    let end = row.end as usize;
+    let copied = word_of(image, row.from, words::offset::word(at));
+    if at + 8 <= lead {
+        return copied;
+    }
+    if end <= at {
+        return copied;
+    }
+    crate::fill::edge_word(copied, text, lead, end, at)
+}
+
+// Word k of the run, by its row.
+fn row_word<'a>(image: &'a [u64], row: Row, text: &'a [u8; 1024], k: u32) -> u64
+    requires { ⌜ InRow row k ⌝ }
+    ensures { λ r. ⌜ ((h : Head) (table : List ℕ) → Prepared row h table k
+        → r ≡ newWord one (memory one (now (image .entry))) h table (now (text .entry)) k) ⌝ }
+{
+    let at = 8 * k as usize;
+    let lead = row.lead as usize;
+    if lead <= at {
+        if at + 8 <= row.end as usize {
+            return crate::fill::text_word(text, at - lead);
+        }
+    }
+    mixed_word(image, row, text, k)
+}
+
+// Word k of the run is stored: one store, behind a branch of the word's own, so that stores stay single.
+fn put_row_word(image: &mut [u64], row: Row, text: &[u8; 1024], k: u32)
+    requires { ⌜ InRow row k ⌝ }
+    ensures { λ _. ⌜ ((h : Head) (table : List ℕ) → Prepared row h table k
+        → now (image .exit) ≡ filledAt one h table (now (text .entry)) k (now (image .entry))) ⌝ }
+{
+    let word = row_word(image, row, text, k);
+    words::image::store(image, row.run, k as usize, word);
+}
+
+// Whether a row may be that of a write that fits: no more bytes are the text's than a text has.
+fn is_row(row: Row) -> bool
+    ensures { λ r. ⌜ r ≡ leb (row .end) (row .lead + textMax) ⌝ }
+{
+    row.end as u64 <= row.lead as u64 + 1024
+}
+
+// Word k of the run is stored, where the row is that of its block.
+pub fn fill_word(image: &mut [u64], row: Row, text: &[u8; 1024], k: u32)
+    ensures { λ _. ⌜ ((h : Head) (table : List ℕ) → Prepared row h table k
+        → now (image .exit) ≡ filledAt one h table (now (text .entry)) k (now (image .entry))) ⌝ }
+{
+    if 191 < k {
+        return;
+    }
+    if !is_row(row) {
+        return;
+    }
+    put_row_word(image, row, text, k);
+}
+
+// m words of the run from word k on, all in one block, are stored: each is found in the image as it is then.
+pub fn fill_words(
+    image: &mut [u64],
+    head: Head,
+    table: &[u16; 256],
+    text: &[u8; 1024],
+    k: u32,
+    m: u32,
+)
+    ensures { λ _. ⌜ (InOneBlock head k m
+        → now (image .exit) ≡ filledOn one head (now (table .entry)) (now (text .entry)) k m (now (image .entry))) ⌝ }
+{
+    if 192 < k as u64 + m as u64 {
+        return;
+    }
+    let row = row_at(head, table, k);
+    let mut i = k;
+    let mut left = m;
+    while 0 < left {
+        put_row_word(image, row, text, i);
+        i += 1;
+        left -= 1;
+    }
+}
