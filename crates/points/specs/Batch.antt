@@ -1,16 +1,27 @@
 -- For the contracts of the code that serves a list of points in batches: parts of contracts, nothing here is promised. `Serving` has what is.
 use Prim.Native.Nat.{ℕ, zero, suc, _+_, _/_, _%_, _≤_, _<_}
 use mathlib.Core.Path.{_≡_}
-use mathlib.Core.List.{List}
-use mathlib.Core.Option.{some}
+use mathlib.Core.Logic.{_≢_, _⊎_}
+use mathlib.Core.Bool.{true, false}
+use mathlib.Core.List.{List, []}
+use mathlib.Core.Option.{none, some}
 use lib.ListN.{getD}
-use Rattle.words.specs.Edition.{Edition, one, blockBytes}
-use Rattle.words.specs.Memory.{memory, after}
+use Rattle.words.specs.Edition.{Edition, one, blockBytes, blocksMax}
+use Rattle.words.specs.Memory.{Memory, memory, wordAt, after}
+use Rattle.log.specs.declared.Shared.{Shared}
+use Rattle.log.specs.declared.Place.{Place}
+use Rattle.log.specs.Entry.{entryV, entryN, legal}
+use Rattle.points.specs.declared.Phase.the-variants.{Filling}
+use Rattle.points.specs.declared.Write.{Write}
 use Rattle.points.specs.declared.Head.{Head}
+use Rattle.points.specs.declared.StepAnswer.the-variants.{Moved}
 use Rattle.points.specs.declared.serve.Row.{Row}
-use Rattle.points.specs.Record.{runFirst, runWords}
+use Rattle.points.specs.declared.serve.MovedByOne.{MovedByOne}
+use Rattle.points.specs.Record.{runFirst, runBlocks, runWords, standing, pointOf}
+use Rattle.points.specs.Search.{reportingPlace}
 use Rattle.points.specs.Fill.{newWord}
-use Rattle.points.specs.Plan.{wordFrom}
+use Rattle.points.specs.Plan.{Outcome, wordFrom}
+use Rattle.points.specs.Stepping.{refill, nextSlot, stepRefusal, stepping}
 use Rattle.points.specs.Lent.{TextFits}
 
 -- ---- words of a run
@@ -48,3 +59,45 @@ InRow r k = (r .end ≤ r .lead + 1024) × (k < 192)
 -- m words from word k on lie in one block of the run
 abbrev pub InOneBlock : Head → ℕ → ℕ → Type 0
 InOneBlock h k m = TextFits (h .write) × (k % one .blockWords + m ≤ one .blockWords) × (k + m ≤ runWords one (h .write))
+
+-- ---- moving on by one entry
+
+-- no word is left to fill, and the log block has two slots more
+pub record Filled (E : Edition) (blocks : ℕ) (h : Head) : Type 0 where
+  pub few : blocks ≤ blocksMax
+  pub filling : h .write .phase ≡ Filling
+  pub filled : h .write .position ≡ runWords E (h .write)
+  pub slot : suc (h .place .slot) < E .blockWords
+
+-- one word stands at this place, an empty slot after it
+pub record Alone (m : Memory) (p : Place) (e : ℕ) : Type 0 where
+  pub some : e ≢ 0
+  pub word : e ≡ wordAt m (p .block) (p .slot)
+  pub after : wordAt m (p .block) (suc (p .slot)) ≡ 0
+
+-- an entry maps none of the write's blocks
+abbrev pub Aside : Edition → Write → ℕ → Type 0
+Aside E w e = (entryV e + entryN e ≤ runFirst E w) ⊎ (runFirst E w + runBlocks E w ≤ entryV e)
+
+-- one legal entry is ahead that maps none of the write's blocks
+pub record Passes (E : Edition) (m : Memory) (blocks : ℕ) (h : Head) (e : ℕ) : Type 0 where
+  pub ready : Filled E blocks h
+  pub alone : Alone m (h .place) e
+  pub legal : legal E blocks e ≡ true
+  pub aside : Aside E (h .write) e
+
+-- the head one slot on, with the length that it has then
+abbrev pub passing : Edition → Head → ℕ → Head
+passing E h length = standing h length (nextSlot (h .place)) (refill false false E (h .write))
+
+-- what such a step leaves
+abbrev pub passedBy : Shared → Head → List ℕ → List ℕ → Outcome
+passedBy s h table text = record { step = Moved; shared = reportingPlace h s; point = pointOf h table text; store = none; bytes = [] }
+
+-- where it is done it is the step of every record that this one is with a text, for every shared record with this block count under which that is not
+-- refused; otherwise nothing changes
+pub record MovesByOne (words : List ℕ) (blocks : ℕ) (h : Head) (table : List ℕ) (r : MovedByOne) (left : List ℕ) : Type 0 where
+  pub moved :
+      r .done ≡ true → (s : Shared) (text : List ℕ) → s .blocks ≡ blocks → stepRefusal one words s h table ≡ 0
+      → stepping one words s (pointOf h table text) ≡ passedBy s (r .head) left text
+  pub stayed : r .done ≡ false → (r .head ≡ h) × (left ≡ table)

@@ -1,5 +1,6 @@
 // Serving a list of points: what its batches are made of. A point is tested where its write begins; its words are filled by rows, found once for a block.
 ghost use mathlib.Core.Path.{_≡_};
+ghost use mathlib.Core.Bool.{true, false};
 ghost use mathlib.Core.List.{List};
 ghost use lib.ListN.{getD};
 ghost use Prim.Native.Nat.{ℕ, _+_, _*_, _≤_, _<_, min};
@@ -7,12 +8,19 @@ ghost use lib.Dec.{leb};
 ghost use Rattle.words.specs.Edition.{one};
 ghost use Rattle.words.specs.Word.{byteOf};
 ghost use Rattle.words.specs.Memory.{memory};
-ghost use Rattle.log.specs.Replay.{mappedByte};
+ghost use Rattle.log.specs.Entry.{legal};
+ghost use Rattle.log.specs.Parts.{Mappable};
+ghost use Rattle.log.specs.Replay.{mappedByte, mapRun, apply};
+ghost use Rattle.points.specs.declared.Phase.the-variants.{Filling};
 ghost use Rattle.points.specs.declared.Head.{Head};
-ghost use Rattle.points.specs.Record.{textMax};
+ghost use Rattle.points.specs.Record.{textMax, runWords};
 ghost use Rattle.points.specs.Fill.{newWord};
 ghost use Rattle.points.specs.Batch.{filledAt, filledOn, rowOf, Fillable, Prepared, InRow, InOneBlock};
+ghost use Rattle.points.specs.Batch.{Filled, Alone, Aside, Passes, passing, MovesByOne};
 use crate::Head;
+use crate::Phase;
+use crate::Write;
+use log::Place;
 
 // What the words of one block of a run need, found once: the run's first block, the block that is mapped there, 0 for none, and the bytes of the run that
 // are the text's, from `lead` to `end`.
@@ -21,6 +29,12 @@ pub struct Row {
     pub from: u32,
     pub lead: u32,
     pub end: u32,
+}
+
+// What moving on by one entry leaves: whether it is done, and the point's numbers then.
+pub struct MovedByOne {
+    pub done: bool,
+    pub head: Head,
 }
 
 // The block that is mapped at a virtual block, 0 for none, also past the table.
@@ -154,5 +168,145 @@ pub fn fill_words(
         put_row_word(image, row, text, i);
         i += 1;
         left -= 1;
+    }
+}
+
+// Whether the phase is filling.
+fn is_filling(phase: Phase) -> bool
+    ensures { λ r. ⌜ (r ≡ true → phase ≡ Filling) ⌝ }
+{
+    match phase {
+        Phase::Idle => false,
+        Phase::Filling => true,
+        Phase::RefillFirst => false,
+        Phase::RefillLast => false,
+        Phase::RefillBoth => false,
+        Phase::Zeroing => false,
+        Phase::Reading => false,
+    }
+}
+
+// Whether a write has no word left to fill, and the log block of its point two slots.
+fn has_filled(blocks: u32, head: Head) -> bool
+    ensures { λ r. ⌜ (r ≡ true → Filled one blocks head) ⌝ }
+{
+    let write = head.write;
+    let phase = write.phase;
+    if 1024 < blocks {
+        return false;
+    }
+    if 62 < head.place.slot {
+        return false;
+    }
+    if write.position != crate::plan::run_words(write) {
+        return false;
+    }
+    is_filling(phase)
+}
+
+// The word at a slot, 0 where another follows it.
+fn word_alone(image: &[u64], place: Place) -> u64
+    ensures { λ r. ⌜ ((r ≡ 0 → ⊥) → place .slot < 63 → Alone (memory one (now (image .entry))) place r) ⌝ }
+{
+    let part = words::image::block(image, place.block as usize);
+    let slot = place.slot as usize;
+    if words::image::word(part, slot + 1) != 0 {
+        return 0;
+    }
+    words::image::word(part, slot)
+}
+
+// Whether an entry keeps the rules and maps none of the write's blocks.
+fn passes(e: u64, blocks: u32, write: Write) -> bool
+    ensures { λ r. ⌜ (r ≡ true → (legal one blocks e ≡ true) × Aside one write e) ⌝ }
+{
+    if !log::is_legal(e, blocks as u64) {
+        return false;
+    }
+    let v = log::first_virtual(e);
+    let first = crate::record::run_first(write) as u64;
+    if first + crate::record::span(write.offset, write.size) as u64 <= v {
+        return true;
+    }
+    v + log::count(e) <= first
+}
+
+// The entry at the log place that a point moves on by, 0 where there is none or more is to be looked at.
+fn entry_alone(image: &[u64], blocks: u32, head: Head) -> u64
+    ensures { λ r. ⌜ ((r ≡ 0 → ⊥) → Passes one (memory one (now (image .entry))) blocks head r) ⌝ }
+{
+    if !has_filled(blocks, head) {
+        return 0;
+    }
+    let e = word_alone(image, head.place);
+    if !passes(e, blocks, head.write) {
+        return 0;
+    }
+    e
+}
+
+// The blocks of an entry are mapped.
+fn map_run(table: &mut [u16; 256], v: usize, b: u16, n: usize)
+    requires { ⌜ (v + n ≤ 256) × (b + n ≤ 1024) ⌝ }
+    ensures { λ _. ⌜ now (table .exit) ≡ mapRun (now (table .entry)) v b n ⌝ }
+{
+    let mut i = v;
+    let mut at = b;
+    let mut left = n;
+    while 0 < left {
+        table[i] = at;
+        i += 1;
+        at += 1;
+        left -= 1;
+    }
+}
+
+// An entry is taken in: the table, and the length that is handed back.
+fn take_in(e: u64, table: &mut [u16; 256], length: u32) -> u32
+    requires { ⌜ Mappable e ⌝ }
+    ensures { λ r. ⌜ record { table = now (table .exit); size = r } ≡ apply one (record { table = now (table .entry); size = length }) e ⌝ }
+{
+    let v = log::first_virtual(e);
+    let n = log::count(e);
+    map_run(table, v as usize, log::first_block(e) as u16, n as usize);
+    let end = (512 * (v + n - 1) + log::used(e)) as u32;
+    if length < end { end } else { length }
+}
+
+// The head one slot on.
+fn passing(head: Head, length: u32) -> Head
+    requires { ⌜ (head .write .position ≡ runWords one (head .write)) × (head .place .slot < 64) ⌝ }
+    ensures { λ r. ⌜ r ≡ passing one head length ⌝ }
+{
+    let write = head.write;
+    let retries = crate::plan::retried(write);
+    let later = crate::plan::turned(
+        write,
+        Phase::Filling,
+        write.position,
+        write.zeroing,
+        retries,
+    );
+    crate::plan::head_of(
+        head.number,
+        length,
+        crate::plan::next_slot(head.place),
+        later,
+    )
+}
+
+// A point that has filled its run moves on by one legal entry, where that is all that is ahead and maps none of the write's blocks: it is not looked at
+// whether the record fits. Otherwise nothing changes.
+pub fn move_by_one(image: &[u64], blocks: u32, head: Head, table: &mut [u16; 256]) -> MovedByOne
+    ensures { λ r. ⌜ MovesByOne (now (image .entry)) blocks head (now (table .entry)) r (now (table .exit)) ⌝ }
+{
+    let e = entry_alone(image, blocks, head);
+    if e == 0 {
+        return MovedByOne { done: false, head };
+    }
+    let length = take_in(e, table, head.length);
+    MovedByOne {
+        done: true,
+        head: passing(head, length),
     }
 }
