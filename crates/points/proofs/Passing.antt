@@ -4,7 +4,7 @@ use Prim.Native.Nat.{ℕ, suc, _+_, _-_, _≤_, _<_, max}
 use native.Mathlib.Numerals.{add-one}
 use native.Mathlib.Omega.{arith}
 use mathlib.Core.Path.{_≡_, refl, sym, ap, _∙_}
-use mathlib.Core.Logic.{inl, inr}
+use mathlib.Core.Logic.{_⊎_, inl, inr}
 use mathlib.Core.Bool.{Bool, true, false, _&&_}
 use mathlib.Core.List.{List, [], _∷_}
 use lib.ListN.{length}
@@ -37,7 +37,7 @@ use Rattle.points.proofs.ReadyOn.{ready-step}
 
 -- ---- what is ahead
 
-module _ (E : Edition) (m : Memory) (blocks : ℕ) (p : Place) (e : ℕ) (slot : suc (p .slot) < E .blockWords) (a : Alone m p e) where
+module _ (E : Edition) (m : Memory) (blocks : ℕ) (p : Place) (e : ℕ) (a : Alone E m p e) where
   one-here : here m (p .block) (p .slot) ≡ e ∷ []
   one-here =
       upToZero-next (blockAt m (p .block)) (p .slot) (λ z. a .some (a .word ∙ z))
@@ -47,7 +47,7 @@ module _ (E : Edition) (m : Memory) (blocks : ℕ) (p : Place) (e : ℕ) (slot :
   unfolding ahead
   ahead-one =
       let far : p .slot + length (here m (p .block) (p .slot)) ≡ suc (p .slot) = rw one-here (omega arith) in
-      walk-stop E m blocks (p .block) (p .slot) blocks (omega arith) ∙ rw (far, one-here)
+      walk-stop E m blocks (p .block) (p .slot) blocks (omega (arith, a .slot)) ∙ rw (far, one-here)
 
   pub one-sound : legal E blocks e ≡ true → broken E blocks (ahead E m blocks p) ≡ false
   unfolding broken badEntry any
@@ -60,11 +60,11 @@ and-no true = refl
 and-no false = refl
 
 -- an entry aside covers neither block of the write's run that matters
-module _ (E : Edition) (w : Write) (e : ℕ) (a : Aside E w e) where
+module _ (E : Edition) (blocks : ℕ) (w : Write) (e : ℕ) (a : Aside E blocks w e) where
   uncovered : (x : ℕ) → runFirst E w ≤ x → x < runFirst E w + runBlocks E w → covers x e ≡ false
-  uncovered x lo hi = go a
+  uncovered x lo hi = go (a .apart)
     where
-      go : Aside E w e → covers x e ≡ false
+      go : (entryV e + entryN e ≤ runFirst E w) ⊎ (runFirst E w + runBlocks E w ≤ entryV e) → covers x e ≡ false
       go (inl l) = rw (le-ltb x (entryV e + entryN e) (omega arith)) (and-no (leb (entryV e) x))
       go (inr l) = rw (lt-leb (entryV e) x (omega arith))
 
@@ -91,14 +91,14 @@ pass-turn {E} {words} {s} {p} r e x =
     let w = h .write in
     let not-zeroing : isZeroing (w .phase) ≡ false = rw (x .ready .filling) in
     let last : w .position ≡ runWords E w = x .ready .filled in
-    let sound = one-sound E m (s .blocks) (h .place) e (x .ready .slot) (x .alone) (x .legal) in
+    let sound = one-sound E m (s .blocks) (h .place) e (x .alone) (x .aside .legal) in
     ready-step r
     ∙ ap (carriedOut E m s p)
     (on-filling E m s p not-zeroing
     ∙ commits E m s p (w .position) (runWords E w) (sym (next-filling E w (x .ready .filling))) refl (omega arith)
-    ∙ slot-taken E m s h (omega (arith, x .ready .slot)) (λ z. x .alone .some (x .alone .word ∙ z)))
+    ∙ slot-taken E m s h (omega (arith, x .alone .slot)) (λ z. x .alone .some (x .alone .word ∙ z)))
     ∙ move-leaves E m s p sound
-    ∙ rw (ahead-one E m (s .blocks) (h .place) e (x .ready .slot) (x .alone), nothing-again E w e (x .aside))
+    ∙ rw (ahead-one E m (s .blocks) (h .place) e (x .alone), nothing-again E (s .blocks) w e (x .aside))
 
 -- ---- the code's answer
 

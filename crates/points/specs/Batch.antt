@@ -7,21 +7,22 @@ use mathlib.Core.List.{List, []}
 use mathlib.Core.Option.{none, some}
 use lib.ListN.{getD}
 use Rattle.words.specs.Edition.{Edition, one, blockBytes, blocksMax}
-use Rattle.words.specs.Memory.{Memory, memory, wordAt, after}
+use Rattle.words.specs.Memory.{Memory, Store, memory, wordAt, after}
 use Rattle.log.specs.declared.Shared.{Shared}
 use Rattle.log.specs.declared.Place.{Place}
 use Rattle.log.specs.Entry.{entryV, entryN, legal}
 use Rattle.points.specs.declared.Phase.the-variants.{Filling}
 use Rattle.points.specs.declared.Write.{Write}
 use Rattle.points.specs.declared.Head.{Head}
-use Rattle.points.specs.declared.StepAnswer.the-variants.{Moved}
+use Rattle.points.specs.declared.StepAnswer.the-variants.{Moved, Committed}
 use Rattle.points.specs.declared.serve.Row.{Row}
 use Rattle.points.specs.declared.serve.MovedByOne.{MovedByOne}
+use Rattle.points.specs.declared.serve.CommittedByHead.{CommittedByHead}
 use Rattle.points.specs.Record.{runFirst, runBlocks, runWords, standing, pointOf}
-use Rattle.points.specs.Search.{reportingPlace}
+use Rattle.points.specs.Search.{withTaken, reportingPlace}
 use Rattle.points.specs.Fill.{newWord}
 use Rattle.points.specs.Plan.{Outcome, wordFrom}
-use Rattle.points.specs.Stepping.{refill, nextSlot, stepRefusal, stepping}
+use Rattle.points.specs.Stepping.{refill, nextSlot, entryFor, stepRefusal, stepping}
 use Rattle.points.specs.Lent.{TextFits}
 
 -- ---- words of a run
@@ -62,29 +63,29 @@ InOneBlock h k m = TextFits (h .write) × (k % one .blockWords + m ≤ one .bloc
 
 -- ---- moving on by one entry
 
--- no word is left to fill, and the log block has two slots more
-pub record Filled (E : Edition) (blocks : ℕ) (h : Head) : Type 0 where
-  pub few : blocks ≤ blocksMax
-  pub filling : h .write .phase ≡ Filling
-  pub filled : h .write .position ≡ runWords E (h .write)
-  pub slot : suc (h .place .slot) < E .blockWords
+-- no word is left to fill
+pub record Filled (E : Edition) (w : Write) : Type 0 where
+  pub filling : w .phase ≡ Filling
+  pub filled : w .position ≡ runWords E w
 
 -- one word stands at this place, an empty slot after it
-pub record Alone (m : Memory) (p : Place) (e : ℕ) : Type 0 where
+pub record Alone (E : Edition) (m : Memory) (p : Place) (e : ℕ) : Type 0 where
+  pub slot : suc (p .slot) < E .blockWords
   pub some : e ≢ 0
   pub word : e ≡ wordAt m (p .block) (p .slot)
   pub after : wordAt m (p .block) (suc (p .slot)) ≡ 0
 
--- an entry maps none of the write's blocks
-abbrev pub Aside : Edition → Write → ℕ → Type 0
-Aside E w e = (entryV e + entryN e ≤ runFirst E w) ⊎ (runFirst E w + runBlocks E w ≤ entryV e)
-
--- one legal entry is ahead that maps none of the write's blocks
-pub record Passes (E : Edition) (m : Memory) (blocks : ℕ) (h : Head) (e : ℕ) : Type 0 where
-  pub ready : Filled E blocks h
-  pub alone : Alone m (h .place) e
+-- a legal entry maps none of the write's blocks
+pub record Aside (E : Edition) (blocks : ℕ) (w : Write) (e : ℕ) : Type 0 where
+  pub few : blocks ≤ blocksMax
   pub legal : legal E blocks e ≡ true
-  pub aside : Aside E (h .write) e
+  pub apart : (entryV e + entryN e ≤ runFirst E w) ⊎ (runFirst E w + runBlocks E w ≤ entryV e)
+
+-- no word is left to fill, and one legal entry is ahead that maps none of the write's blocks
+pub record Passes (E : Edition) (m : Memory) (blocks : ℕ) (h : Head) (e : ℕ) : Type 0 where
+  pub ready : Filled E (h .write)
+  pub alone : Alone E m (h .place) e
+  pub aside : Aside E blocks (h .write) e
 
 -- the head one slot on, with the length that it has then
 abbrev pub passing : Edition → Head → ℕ → Head
@@ -101,3 +102,35 @@ pub record MovesByOne (words : List ℕ) (blocks : ℕ) (h : Head) (table : List
       r .done ≡ true → (s : Shared) (text : List ℕ) → s .blocks ≡ blocks → stepRefusal one words s h table ≡ 0
       → stepping one words s (pointOf h table text) ≡ passedBy s (r .head) left text
   pub stayed : r .done ≡ false → (r .head ≡ h) × (left ≡ table)
+
+-- ---- committing by the head
+
+-- the entry of a write fits its fields, and may be taken in
+pub record Enterable (h : Head) : Type 0 where
+  pub text : TextFits (h .write)
+  pub run-some : 1 ≤ h .write .run
+  pub run-inside : h .write .run + runBlocks one (h .write) ≤ blocksMax
+  pub number : h .number < 32
+
+-- no word is left to fill, and the slot at the log place is empty
+pub record Commits (m : Memory) (h : Head) : Type 0 where
+  pub ready : Filled one (h .write)
+  pub slot : h .place .slot < one .blockWords
+  pub empty : wordAt m (h .place .block) (h .place .slot) ≡ 0
+  pub entry : Enterable h
+
+-- the entry, where it is stored; and what such a step leaves
+abbrev pub entryStore : Edition → Head → Store
+entryStore E h = record { block = h .place .block; word = h .place .slot; value = entryFor E h }
+
+abbrev pub committedBy : Edition → Shared → Head → List ℕ → Head → List ℕ → List ℕ → Outcome
+committedBy E s h taken left table text =
+    record { step = Committed (h .write .retries); shared = withTaken s taken; point = pointOf left table text; store = some (entryStore E h); bytes = [] }
+
+-- where it is done it is the step of this record, for every shared record with this map under which that is not refused; otherwise nothing changes
+pub record CommitsByHead (words taken : List ℕ) (h : Head) (table text : List ℕ) (r : CommittedByHead) (words′ taken′ table′ text′ : List ℕ) : Type 0 where
+  pub committed :
+      r .done ≡ true → (s : Shared) → s .taken ≡ taken → stepRefusal one words s h table ≡ 0
+      → stepping one words s (pointOf h table text) ≡ committedBy one s h taken′ (r .head) table′ text′
+  pub stored : r .done ≡ true → words′ ≡ after one words (some (entryStore one h))
+  pub stayed : r .done ≡ false → (r .head ≡ h) × (words′ ≡ words) × (taken′ ≡ taken) × (table′ ≡ table) × (text′ ≡ text)

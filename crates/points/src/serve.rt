@@ -7,8 +7,7 @@ ghost use Prim.Native.Nat.{ℕ, _+_, _*_, _≤_, _<_, min};
 ghost use lib.Dec.{leb};
 ghost use Rattle.words.specs.Edition.{one};
 ghost use Rattle.words.specs.Word.{byteOf};
-ghost use Rattle.words.specs.Memory.{memory};
-ghost use Rattle.log.specs.Entry.{legal};
+ghost use Rattle.words.specs.Memory.{memory, wordAt};
 ghost use Rattle.log.specs.Parts.{Mappable};
 ghost use Rattle.log.specs.Replay.{mappedByte, mapRun, apply};
 ghost use Rattle.points.specs.declared.Phase.the-variants.{Filling};
@@ -16,7 +15,7 @@ ghost use Rattle.points.specs.declared.Head.{Head};
 ghost use Rattle.points.specs.Record.{textMax, runWords};
 ghost use Rattle.points.specs.Fill.{newWord};
 ghost use Rattle.points.specs.Batch.{filledAt, filledOn, rowOf, Fillable, Prepared, InRow, InOneBlock};
-ghost use Rattle.points.specs.Batch.{Filled, Alone, Aside, Passes, passing, MovesByOne};
+ghost use Rattle.points.specs.Batch.{Filled, Alone, Aside, Passes, passing, MovesByOne, Enterable, Commits, CommitsByHead};
 use crate::Head;
 use crate::Phase;
 use crate::Write;
@@ -33,6 +32,12 @@ pub struct Row {
 
 // What moving on by one entry leaves: whether it is done, and the point's numbers then.
 pub struct MovedByOne {
+    pub done: bool,
+    pub head: Head,
+}
+
+// What committing by the head leaves: whether it is done, and the point's numbers then.
+pub struct CommittedByHead {
     pub done: bool,
     pub head: Head,
 }
@@ -186,40 +191,39 @@ fn is_filling(phase: Phase) -> bool
     }
 }
 
-// Whether a write has no word left to fill, and the log block of its point two slots.
-fn has_filled(blocks: u32, head: Head) -> bool
-    ensures { λ r. ⌜ (r ≡ true → Filled one blocks head) ⌝ }
+// Whether a write has no word left to fill.
+fn has_filled(write: Write) -> bool
+    ensures { λ r. ⌜ (r ≡ true → Filled one write) ⌝ }
 {
-    let write = head.write;
     let phase = write.phase;
-    if 1024 < blocks {
-        return false;
-    }
-    if 62 < head.place.slot {
-        return false;
-    }
     if write.position != crate::plan::run_words(write) {
         return false;
     }
     is_filling(phase)
 }
 
-// The word at a slot, 0 where another follows it.
+// The word at a slot, where the next slot is empty; otherwise 0.
 fn word_alone(image: &[u64], place: Place) -> u64
-    ensures { λ r. ⌜ ((r ≡ 0 → ⊥) → place .slot < 63 → Alone (memory one (now (image .entry))) place r) ⌝ }
+    ensures { λ r. ⌜ ((r ≡ 0 → ⊥) → Alone one (memory one (now (image .entry))) place r) ⌝ }
 {
-    let part = words::image::block(image, place.block as usize);
+    if 62 < place.slot {
+        return 0;
+    }
     let slot = place.slot as usize;
+    let part = words::image::block(image, place.block as usize);
     if words::image::word(part, slot + 1) != 0 {
         return 0;
     }
     words::image::word(part, slot)
 }
 
-// Whether an entry keeps the rules and maps none of the write's blocks.
+// Whether an entry keeps the rules, in an image of at most 1,024 blocks, and maps none of the write's.
 fn passes(e: u64, blocks: u32, write: Write) -> bool
-    ensures { λ r. ⌜ (r ≡ true → (legal one blocks e ≡ true) × Aside one write e) ⌝ }
+    ensures { λ r. ⌜ (r ≡ true → Aside one blocks write e) ⌝ }
 {
+    if 1024 < blocks {
+        return false;
+    }
     if !log::is_legal(e, blocks as u64) {
         return false;
     }
@@ -235,7 +239,7 @@ fn passes(e: u64, blocks: u32, write: Write) -> bool
 fn entry_alone(image: &[u64], blocks: u32, head: Head) -> u64
     ensures { λ r. ⌜ ((r ≡ 0 → ⊥) → Passes one (memory one (now (image .entry))) blocks head r) ⌝ }
 {
-    if !has_filled(blocks, head) {
+    if !has_filled(head.write) {
         return 0;
     }
     let e = word_alone(image, head.place);
@@ -308,5 +312,81 @@ pub fn move_by_one(image: &[u64], blocks: u32, head: Head, table: &mut [u16; 256
     MovedByOne {
         done: true,
         head: passing(head, length),
+    }
+}
+
+// Whether the slot of a log place is there, and empty.
+fn is_empty(image: &[u64], place: Place) -> bool
+    ensures { λ r. ⌜ (r ≡ true → (place .slot < 64) × (wordAt (memory one (now (image .entry))) (place .block) (place .slot) ≡ 0)) ⌝ }
+{
+    if 63 < place.slot {
+        return false;
+    }
+    words::image::word(
+        words::image::block(image, place.block as usize),
+        place.slot as usize,
+    )
+        == 0
+}
+
+// Whether the entry of a write may be put together and taken in.
+fn is_enterable(head: Head) -> bool
+    ensures { λ r. ⌜ (r ≡ true → Enterable head) ⌝ }
+{
+    let write = head.write;
+    let size = write.size as usize;
+    if crate::record::bad_text(size) {
+        return false;
+    }
+    if crate::record::past_end(write.offset as usize, size) {
+        return false;
+    }
+    if 31 < head.number {
+        return false;
+    }
+    crate::record::inside(
+        1024,
+        write.run,
+        crate::record::span(write.offset, write.size),
+    )
+}
+
+// Whether the step of a write commits, and by the head alone.
+fn commits(image: &[u64], head: Head) -> bool
+    ensures { λ r. ⌜ (r ≡ true → Commits (memory one (now (image .entry))) head) ⌝ }
+{
+    if !has_filled(head.write) {
+        return false;
+    }
+    if !is_empty(image, head.place) {
+        return false;
+    }
+    is_enterable(head)
+}
+
+// A point that has filled its run commits, where the word at its log place is empty: it is not looked at whether the record fits. Otherwise nothing changes.
+pub fn commit_by_head(
+    image: &mut [u64],
+    taken: &mut [u64; 16],
+    head: Head,
+    table: &mut [u16; 256],
+    text: &mut [u8; 1024],
+) -> CommittedByHead
+    ensures { λ r. ⌜ CommitsByHead (now (image .entry)) (now (taken .entry)) head (now (table .entry)) (now (text .entry)) r
+        (now (image .exit)) (now (taken .exit)) (now (table .exit)) (now (text .exit)) ⌝ }
+{
+    if !commits(image, head) {
+        return CommittedByHead { done: false, head };
+    }
+    let entry = crate::commit::entry_for(head);
+    crate::release::free_replaced(taken, table, head.write);
+    let length = take_in(entry, table, head.length);
+    *text = crate::record::no_text();
+    let place = head.place;
+    words::image::store(image, place.block, place.slot as usize, entry);
+    let idle = crate::plan::no_write();
+    CommittedByHead {
+        done: true,
+        head: crate::plan::head_of(head.number, length, crate::plan::next_slot(place), idle),
     }
 }

@@ -1,7 +1,6 @@
 -- `points::serve::entry_alone`: what was tested, of the entry that is answered.
 use mathlib.Core.Path.{refl}
 use borrow.Author.Tests.{not-false}
-use native.Mathlib.Omega.{arith}
 use borrow.Author.Needs.{needs}
 use Rattle.points.proofs.serve.entry_alone.Statement.{statement}
 use Rattle.points.proofs.serve.entry_alone.Tie as tie
@@ -27,7 +26,7 @@ returns-3 c some =
     let read = asked .before in
     let ready = read .before .before .has-filled .ensures (not-false _ (read .before .if1 .left)) in
     let ok = asked .passes .ensures (not-false _ (c .if2 .left)) in
-    record { ready = ready; alone = read .word-alone .ensures some (omega (arith, ready .slot)); legal = ok .0; aside = ok .1 }
+    record { ready = ready; alone = read .word-alone .ensures some; aside = ok }
 
 pub entry-alone-spec : {M : Type 1} → statement M
 entry-alone-spec =

@@ -26,12 +26,12 @@ take-in-requires : tie.Need-take-in-requires
 take-in-requires c κs =
     let told = c .before in
     let x = passes told in
-    legal-mappable (start (told .before) .args .blocks) (told .before .entry-alone .result) (x .ready .few) (x .legal)
+    legal-mappable (start (told .before) .args .blocks) (told .before .entry-alone .result) (x .aside .few) (x .aside .legal)
 
 passing-requires : tie.Need-passing-requires
 passing-requires c κs =
     let x = passes (c .before .before) in
-    (x .ready .filled, omega (arith, x .ready .slot))
+    (x .ready .filled, omega (arith, x .alone .slot))
 
 returns-2 : tie.Need-returns-2
 returns-2 c =
