@@ -9,7 +9,7 @@ use mathlib.Core.Option.{some}
 use borrow.Author.Tests.{lt-ltb}
 use Rattle.words.specs.Edition.{Edition}
 use Rattle.words.specs.Memory.{Memory, Store, memory, after}
-use Rattle.words.proofs.Choice.{choose-true}
+use Rattle.words.proofs.Choice.{choose-true, choose-false}
 use Rattle.log.specs.declared.Shared.{Shared}
 use Rattle.points.specs.declared.Phase.the-variants.{Filling, Zeroing}
 use Rattle.points.specs.declared.Write.{Write}
@@ -19,8 +19,8 @@ use Rattle.points.specs.Record.{isZeroing, runWords, withHead, writing}
 use Rattle.points.specs.Fill.{newWord}
 use Rattle.points.specs.Plan.{Outcome, carriedOut, wordFrom}
 use Rattle.points.specs.Stepping.{turned, filled, stepping}
-use Rattle.points.specs.Serving.{Last, stepped, stepGoesOn, isUnfinished, inTurn, rounds, stepTurn}
-use Rattle.points.specs.Batch.{filledAt, filledOn}
+use Rattle.points.specs.Serving.{Common, Last, Listed, stepped, stepGoesOn, isUnfinished, inTurn, rounds, stepTurn}
+use Rattle.points.specs.Batch.{filledAt, filledOn, movedOn, lastOn}
 use Rattle.points.proofs.StepCases.{on-zeroing, on-filling, zero-on}
 use Rattle.points.proofs.StepFacts.{fills}
 use Rattle.points.proofs.NextWord.{next-filling}
@@ -94,13 +94,10 @@ pub turn-of : (E : Edition) (words : List ℕ) (s : Shared) (p : Point) (last : 
 unfolding stepTurn
 turn-of E words s p last u = choose-true (isUnfinished last) _ _ u
 
--- the point with m words more filled; its answer after m turns
-abbrev pub movedOn : ℕ → Point → Point
-movedOn m p = let w = p .head .write in withHead p (writing (p .head) (turned w (w .phase) (m + w .position) (w .zeroing) (w .retries)))
-
-abbrev pub lastOn : ℕ → Last → Last
-lastOn zero last = last
-lastOn (suc m) last = stepped Stored
+-- and of one that is not
+pub no-turn : (E : Edition) (c : Common) (x : Listed) → isUnfinished (x .last) ≡ false → stepTurn E c x ≡ record { common = c; own = x }
+unfolding stepTurn
+no-turn E c x u = choose-false (isUnfinished (x .last)) _ _ u
 
 last-on : (m : ℕ) → lastOn m (stepped Stored) ≡ stepped Stored
 last-on zero = refl
