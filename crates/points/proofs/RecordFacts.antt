@@ -26,7 +26,7 @@ use Rattle.points.specs.Record.{placeFits, zeroingFits, writeFits, range
 between-facts : (lo x hi : ℕ) → between lo x hi ≡ true → (lo ≤ x) × (x ≤ hi)
 between-facts lo x hi e = (leb-true lo x (and-left (leb lo x) (leb x hi) e), leb-true x hi (and-right (leb lo x) (leb x hi) e))
 
-inside-facts : (blocks b n : ℕ) → inside blocks b n ≡ true → (1 ≤ b) × (b + n ≤ blocks)
+pub inside-facts : (blocks b n : ℕ) → inside blocks b n ≡ true → (1 ≤ b) × (b + n ≤ blocks)
 inside-facts blocks b n e = (leb-true 1 b (and-left (leb 1 b) (leb (b + n) blocks) e), leb-true (b + n) blocks (and-right (leb 1 b) (leb (b + n) blocks) e))
 
 -- ---- 10

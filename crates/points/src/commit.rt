@@ -90,7 +90,7 @@ fn move_on(image: &[u64], blocks: u32, head: Head) -> Plan
 }
 
 // The entry of the write.
-fn entry_for(head: Head) -> u64
+pub(crate) fn entry_for(head: Head) -> u64
     requires { ⌜ EntryFits head ⌝ }
     ensures { λ r. ⌜ r ≡ entryFor one head ⌝ }
 {

@@ -29,7 +29,7 @@ fn index(b: u16) -> usize
 }
 
 // Eight bytes of the text as a word.
-fn text_word(text: &[u8; 1024], from: usize) -> u64
+pub(crate) fn text_word(text: &[u8; 1024], from: usize) -> u64
     requires { ⌜ from + 8 ≤ 1024 ⌝ }
     ensures { λ r. ⌜ r ≡ fromBytes (listFrom from 8 (λ i. getD (now (text .entry)) i 0)) ⌝ }
 {
@@ -70,7 +70,7 @@ fn mixed_byte(copied: u64, text: &[u8; 1024], lead: usize, end: usize, at: usize
 }
 
 // The word at bytes `at` to `at + 7` of the run, put together byte by byte: for the words at the text's edges.
-fn edge_word(copied: u64, text: &[u8; 1024], lead: usize, end: usize, at: usize) -> u64
+pub(crate) fn edge_word(copied: u64, text: &[u8; 1024], lead: usize, end: usize, at: usize) -> u64
     requires { ⌜ (end ≤ lead + 1024) × (at ≤ 1536) ⌝ }
     ensures { λ r. ⌜ r ≡ fromBytes (listFrom at 8 (mixedByte copied (now (text .entry)) lead end at)) ⌝ }
 {

@@ -13,7 +13,7 @@ use crate::Numbers;
 use crate::Point;
 use log::Shared;
 
-fn wide(b: u16) -> u32
+pub(crate) fn wide(b: u16) -> u32
     ensures { λ r. ⌜ r ≡ b ⌝ }
 {
     b as u32

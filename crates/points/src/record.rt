@@ -34,7 +34,7 @@ fn between(low: u32, x: u32, high: u32) -> bool
 }
 
 // Whether n blocks from b on lie inside the image, b being a block from 1 on.
-fn inside(blocks: u32, b: u32, n: u32) -> bool
+pub(crate) fn inside(blocks: u32, b: u32, n: u32) -> bool
     ensures { λ r. ⌜ r ≡ inside blocks b n ⌝ }
 {
     (1 <= b) & (b as u64 + n as u64 <= blocks as u64)

@@ -36,7 +36,7 @@ fn free_mapped_from(map: &mut [u64], table: &[u16; 256], v: usize, n: usize)
 }
 
 // The blocks that the write replaces become free.
-fn free_replaced(map: &mut [u64], table: &[u16; 256], write: Write)
+pub(crate) fn free_replaced(map: &mut [u64], table: &[u16; 256], write: Write)
     requires { ⌜ InTable Replaced one write ⌝ }
     ensures { λ _. ⌜ now (map .exit) ≡ setAll false (now (map .entry)) (replaced one write (now (table .entry))) ⌝ }
 {
