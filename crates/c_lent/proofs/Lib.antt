@@ -2,8 +2,10 @@
 pub mod Heads
 pub mod Shared
 pub mod Calls
+pub mod Known
 pub mod Places
 pub mod InTurn
 pub mod Turns
+pub mod ReadyAt
 pub mod ServeReasons
 pub mod Serves

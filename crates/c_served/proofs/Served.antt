@@ -33,7 +33,7 @@ use Rattle.c_served.specs.Served.{OpenServedFor, JoinServedFor, BeginSer
 use Rattle.c_served.specs.Served.{LeaveServedFor, ReadServedFor, LocateServedFor}
 use Rattle.c_served.proofs.Back.{is-answer, answer-back, reply-back, shared-back, point-back}
 use Rattle.c_served.proofs.Told.{tells-store}
-use Rattle.c_served.proofs.Known.{join-known, begin-known, begin-read-known, step-known}
+use Rattle.c_lent.proofs.Known.{join-known, begin-known, begin-read-known, step-known}
 
 pub open-for :
     (words scratch : List ℕ) (r : Opened) (s : SharedLent) → r ≡ openedNumbers (opened one words scratch) → s ≡ sharedFor words scratch

@@ -29,10 +29,10 @@ use Rattle.points.specs.Stepping.{refill, refillAfter, stepRefusal, planned, st
 use Rattle.points.proofs.StepCases.{each-plan}
 use Rattle.points.proofs.StepFacts.{goes-on, refused-on}
 use Rattle.points.proofs.ReadCases.{write-kind, read-refused, read-goes, each-read}
 use Rattle.c_lent.specs.Numbers.{headNumbers, headFrom, isKnown}
 
 -- a head whose retry count is at most 65,535
-abbrev Few : Head → Type 0
+abbrev pub Few : Head → Type 0
 Few h = h .write .retries ≤ 65535
 
 phase-few : (p : Phase) → phaseNumber p ≤ 6
@@ -44,10 +44,10 @@ phase-few RefillBoth = omega arith
 phase-few Zeroing = omega arith
 phase-few Reading = omega arith
 
-few-known : (h : Head) → Few h → isKnown (headNumbers h) ≡ true
+pub few-known : (h : Head) → Few h → isKnown (headNumbers h) ≡ true
 few-known h l = and-both _ _ (le-leb (phaseNumber (h .write .phase)) 6 (phase-few (h .write .phase))) (le-leb (h .write .retries) 65535 l)
 
-known-few : (xs : List ℕ) → isKnown xs ≡ true → Few (headFrom xs)
+pub known-few : (xs : List ℕ) → isKnown xs ≡ true → Few (headFrom xs)
 known-few xs e = leb-true (getD xs 10 0) 65535 (and-right (leb (getD xs 7 0) 6) (leb (getD xs 10 0) 65535) e)
 
 -- whichever way a call goes by its refusal's number
@@ -61,7 +61,7 @@ module _ (E : Edition) (I : List ℕ) (s : Shared) where
   join-few n = either (λ (j : Joined). Few (j .point .head)) (joinRefusal E I s n) _ _ (omega arith) (λ k. omega arith)
 
   module _ (p : Point) (few : Few (p .head)) where
-    begin-few : (o : ℕ) (text : List ℕ) → Few (beginning E I s p o text .point .head)
+    pub begin-few : (o : ℕ) (text : List ℕ) → Few (beginning E I s p o text .point .head)
     unfolding beginning
     begin-few o text =
         either (λ (b : Begun). Few (b .point .head)) (beginRefusal E I s (p .head) (p .table) o (length text)) _ _ (omega arith) (λ k. few)
@@ -118,7 +118,7 @@ module _ (E : Edition) (I : List ℕ) (s : Shared) where
           answers = λ e f. omega arith;
         }))
 
-    step-few : FewAfter (stepping E I s p)
+    pub step-few : FewAfter (stepping E I s p)
     unfolding carriedOut
     step-few = go (isReading (p .head .write .phase)) refl
       where
