@@ -2,10 +2,10 @@
 
 use std::collections::BTreeMap;
 
-/// A call and what it answered, or what happened inside it.
+/// By call: what it answered, or what happened inside it.
 #[derive(Clone, Debug, Default)]
 pub struct Tally {
-    counts: BTreeMap<(String, String), u64>,
+    counts: BTreeMap<String, BTreeMap<String, u64>>,
 }
 
 /// "Which call gives which refusal", with the answers.
@@ -189,7 +189,14 @@ impl Tally {
     }
 
     pub fn count_times(&mut self, call: &str, answer: &str, times: u64) {
-        *self.counts.entry((call.to_string(), answer.to_string())).or_insert(0) += times;
+        // Most pairs are there already: no string is made for those.
+        match self.counts.get_mut(call).and_then(|answers| answers.get_mut(answer)) {
+            Some(count) => *count += times,
+            None => {
+                let answers = self.counts.entry(call.to_string()).or_default();
+                answers.insert(answer.to_string(), times);
+            }
+        }
     }
 
     pub fn refused(&mut self, call: &str, number: u64) {
@@ -207,17 +214,19 @@ impl Tally {
     }
 
     pub fn of(&self, call: &str, answer: &str) -> u64 {
-        self.counts.get(&(call.to_string(), answer.to_string())).copied().unwrap_or(0)
+        self.counts.get(call).and_then(|answers| answers.get(answer)).copied().unwrap_or(0)
     }
 
     /// All counts of a call.
     pub fn total(&self, call: &str) -> u64 {
-        self.counts.iter().filter(|((c, _), _)| c == call).map(|(_, &times)| times).sum()
+        self.counts.get(call).map_or(0, |answers| answers.values().sum())
     }
 
     pub fn add(&mut self, other: &Tally) {
-        for ((call, answer), &times) in &other.counts {
-            self.count_times(call, answer, times);
+        for (call, answers) in &other.counts {
+            for (answer, &times) in answers {
+                self.count_times(call, answer, times);
+            }
         }
     }
 
