@@ -9,7 +9,7 @@ pub struct Tally {
 }
 
 /// "Which call gives which refusal", with the answers.
-pub const TABLE: [(&str, &[&str], &[u64]); 11] = [
+pub const TABLE: [(&str, &[&str], &[u64]); 12] = [
     ("layout", &["laid out"], &[1]),
     ("open", &["opened"], &[1, 2, 3, 4, 5, 6, 7, 8, 9]),
     ("join", &["joined"], &[10, 12, 13, 18]),
@@ -20,6 +20,11 @@ pub const TABLE: [(&str, &[&str], &[u64]); 11] = [
         &["stored", "extending", "moved", "committed", "copied", "read"],
         &[10, 11, 14, 15, 18, 20, 21],
     ),
+    (
+        "serve",
+        &["committed at once", "committed after moved", "stored", "moved", "extending"],
+        &[10, 11, 14, 15, 16, 17, 18, 19, 20, 21, 26, 27],
+    ),
     ("leave", &["left"], &[10, 11, 14]),
     ("read", &["read"], &[10, 11, 14, 18]),
     ("show", &["show"], &[10, 11, 14, 18]),
@@ -28,7 +33,7 @@ pub const TABLE: [(&str, &[&str], &[u64]); 11] = [
 ];
 
 /// What happens inside the calls and is to be met too.
-pub const EVENTS: [&str; 147] = [
+pub const EVENTS: [&str; 170] = [
     "linked",
     "moved by a lost link",
     "moved, refills nothing",
@@ -176,6 +181,29 @@ pub const EVENTS: [&str; 147] = [
     "caught up, 64 log blocks entered",
     "caught up, more than 64 log blocks entered",
     "caught up, as many entered as can be",
+    "served one point",
+    "served 32 points",
+    "served, some refused and some committed",
+    "served, 18 at a beginning beside a write begun",
+    "served, 19 beside a write begun",
+    "served, a write under way kept",
+    "served, a read under way kept",
+    "served, 18 at a step",
+    "served, 18 at a step, gone by the end",
+    "served, linked and a link lost",
+    "served, a block filled again",
+    "served, committed in the last round",
+    "served, unfinished beside a committed one",
+    "served, reported for another number",
+    "26 of no points",
+    "26 of 33 points",
+    "26 for another count of writes",
+    "26 with a point listed twice",
+    "26 with an unfit shared record",
+    "27 with an unfit shared record",
+    "27 of points that are no neighbours",
+    "27 of two places",
+    "27 above 31",
 ];
 
 /// The names of those that happened.
