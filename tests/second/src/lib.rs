@@ -12,6 +12,7 @@ pub mod digest;
 pub mod forge;
 pub mod image;
 pub mod images;
+pub mod ladder;
 pub mod listing;
 pub mod log;
 pub mod map;
