@@ -137,12 +137,14 @@ pub fn climb(maker: &mut Maker) {
     }
 }
 
-/// Mostly small writes that end before the climber has filled its run.
+/// Mostly small writes that end before the climber has filled its run; now and then they
+/// are empty, and refused.
 fn others_writes(random: &mut Random, count: usize) -> Vec<Listed> {
     if random.once_in(5) {
         return some_writes(random, count);
     }
-    let write = |i: usize| (512 * (20 + i) + random.below(400), random.between(1, 100), i);
+    let least = usize::from(!random.once_in(4));
+    let write = |i: usize| (512 * (20 + i) + random.below(400), least * random.between(1, 100), i);
     (0..count).map(write).collect()
 }
 

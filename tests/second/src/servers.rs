@@ -351,7 +351,7 @@ fn serve_bad_list(maker: &mut Maker) {
         0 => list.clear(),
         1 => list = (0..*maker.random.pick(&[33, 33, 34, 40])).map(|i| i % 32).collect(),
         2 | 3 => list_again(maker, &mut list),
-        4 | 5 => number_again(maker, &list),
+        4..=6 => number_again(maker, &list),
         _ => {}
     }
     let count = match maker.random.below(6) {
