@@ -14,7 +14,7 @@ use crate::record::*;
 use crate::refusal::Refusal;
 use crate::reports::*;
 use crate::searches::*;
-use crate::serve::{ask_list, row, Turn};
+use crate::serve::{ask_list, row, take_turn, Turn};
 use crate::serves::*;
 use crate::step::{step, Answer};
 use crate::tally::Tally;
@@ -288,7 +288,7 @@ impl Bench {
         lines.collect::<Vec<String>>().join("\n")
     }
 
-    /// A beginning or a step of the row; `None` for a beginning that is not refused.
+    /// A beginning or a step of the row, of place P's record.
     fn turn(
         &mut self,
         turn: Turn,
@@ -298,21 +298,8 @@ impl Bench {
     ) -> Option<Answer> {
         let (Turn::Begin(i) | Turn::Step(i)) = turn;
         let before = self.records[places[i]].clone();
-        let (answer, shared, record) = match turn {
-            Turn::Begin(_) => {
-                let (offset, text) = &writes[i];
-                match calls::begin(&self.image, &self.shared, &before, *offset, text) {
-                    Ok((shared, record)) => (None, shared, record),
-                    Err(why) => {
-                        (Some(Answer::Refused(why)), self.shared.clone(), before.clone())
-                    }
-                }
-            }
-            Turn::Step(_) => {
-                let (answer, shared, record) = step(&mut self.image, &self.shared, &before);
-                (Some(answer), shared, record)
-            }
-        };
+        let (answer, shared, record) =
+            take_turn(turn, &mut self.image, &self.shared, &before, &writes[i]);
         seen.turn(turn, &before, &record, answer.as_ref());
         self.shared = shared;
         self.records[places[i]] = record;

@@ -7,7 +7,7 @@
 use crate::image::*;
 use crate::maker::Maker;
 use crate::random::Random;
-use crate::servers::{look_after, serve_line, some_writes, Listed};
+use crate::servers::{look_after, serve_line, some_writes, ListedWrite};
 use crate::serve::most_rounds;
 
 /// Where the climber's write begins: its bytes of a first block, all of a middle one and
@@ -47,7 +47,7 @@ impl Ladder {
     }
 
     /// The climber's write. Its last text byte is 0, and so is the log block's next index.
-    fn write(&self) -> Listed {
+    fn write(&self) -> ListedWrite {
         let length = 512 - self.offset + 513;
         (512 * self.v + self.offset, length, (256 - 7 * (length - 1) % 256) % 256)
     }
@@ -139,7 +139,7 @@ pub fn climb(maker: &mut Maker) {
 
 /// Mostly small writes that end before the climber has filled its run; now and then they
 /// are empty, and refused.
-fn others_writes(random: &mut Random, count: usize) -> Vec<Listed> {
+fn others_writes(random: &mut Random, count: usize) -> Vec<ListedWrite> {
     if random.once_in(5) {
         return some_writes(random, count);
     }

@@ -1,8 +1,10 @@
 //! Document 02, K6, "Everybody gets a turn": one call that serves all points. It is a
 //! row of beginnings and steps; who makes them, and looks at them, is lent in.
 
+use crate::calls::begin;
+use crate::record::{Record, Shared};
 use crate::refusal::{refuse, Refusal};
-use crate::step::Answer;
+use crate::step::{step, Answer};
 
 /// "a list of 1 to 32"
 pub const MOST_POINTS: usize = 32;
@@ -55,4 +57,23 @@ pub fn row<E>(
         }
     }
     Ok(last.into_iter().flatten().collect())
+}
+
+/// A turn of a record, with its write for the beginning: what it answered and both records
+/// then.
+pub fn take_turn(
+    turn: Turn,
+    image: &mut [u64],
+    shared: &Shared,
+    record: &Record,
+    (offset, text): &(usize, Vec<u8>),
+) -> (Option<Answer>, Shared, Record) {
+    if let Turn::Step(_) = turn {
+        let (answer, shared, after) = step(image, shared, record);
+        return (Some(answer), shared, after);
+    }
+    match begin(image, shared, record, *offset, text) {
+        Ok((shared, after)) => (None, shared, after),
+        Err(why) => (Some(Answer::Refused(why)), shared.clone(), record.clone()),
+    }
 }

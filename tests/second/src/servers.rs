@@ -11,7 +11,7 @@ use crate::readers::{begin_read_line, renew};
 use crate::standing::{chain_line, mend, report_line};
 
 /// A write of the list: offset, length and seed.
-pub type Listed = (usize, usize, usize);
+pub type ListedWrite = (usize, usize, usize);
 
 /// Calls that serve many points, on healthy and on altered ground.
 pub fn serving(maker: &mut Maker, lines: usize) {
@@ -93,7 +93,7 @@ fn a_common_list(maker: &mut Maker) -> Vec<usize> {
 
 /// A write for each of so many points: all over the same bytes, about the same blocks,
 /// each in a block of its own, or anywhere. Long ones only for few points.
-pub fn some_writes(random: &mut Random, count: usize) -> Vec<Listed> {
+pub fn some_writes(random: &mut Random, count: usize) -> Vec<ListedWrite> {
     let base = an_offset(random) % 100_000;
     let (offset, length) = match (random.below(4), count) {
         (0, 1..=5) => (512 * random.below(3) + 511, 514),
@@ -117,7 +117,7 @@ fn random_seed(offset: usize, length: usize) -> usize {
 }
 
 /// The bench line of a list and its writes.
-pub fn serve_line(list: &[usize], writes: &[Listed]) -> String {
+pub fn serve_line(list: &[usize], writes: &[ListedWrite]) -> String {
     let mut numbers = vec![list.len(), writes.len()];
     numbers.extend(list);
     numbers.extend(writes.iter().flat_map(|&(o, l, s)| [o, l, s]));
@@ -126,7 +126,7 @@ pub fn serve_line(list: &[usize], writes: &[Listed]) -> String {
 }
 
 /// Serves the list and looks at what is left.
-fn serve(maker: &mut Maker, list: &[usize], writes: &[Listed]) {
+fn serve(maker: &mut Maker, list: &[usize], writes: &[ListedWrite]) {
     maker.say(&serve_line(list, writes));
     look_after(maker, list);
 }

@@ -31,7 +31,7 @@ pub enum Call {
 }
 
 /// A point of K6's list: its number, and its record where it is not joined.
-pub type Listed = (usize, Option<Record>);
+pub type ListedPoint = (usize, Option<Record>);
 
 /// An opened image, the points' newest records and the book.
 pub struct World {
@@ -82,7 +82,7 @@ impl World {
     /// the point that has most.
     pub fn serve(
         &mut self,
-        list: &[Listed],
+        list: &[ListedPoint],
         writes: &[(usize, Vec<u8>)],
     ) -> Result<usize, String> {
         let numbers: Vec<usize> = list.iter().map(|(number, _)| *number).collect();
@@ -497,7 +497,7 @@ pub fn longest_serve(count: usize) -> Result<usize, String> {
 }
 
 /// That list, its writes, and the world with its points.
-pub fn longest_list(count: usize) -> Result<(World, Vec<Listed>, Vec<(usize, Vec<u8>)>), String> {
+pub fn longest_list(count: usize) -> Result<(World, Vec<ListedPoint>, Vec<(usize, Vec<u8>)>), String> {
     let mut image = vec![0; 64 * (8 + 4 * count)];
     lay_out(&mut image).map_err(|_| "laying out")?;
     for slot in FIRST_SLOT..END_SLOT + 1 - count {

@@ -1,11 +1,10 @@
 //! Document 02, K6: one call that serves all points.
 
 use second::bench::Bench;
-use second::calls::begin;
 use second::random::Random;
 use second::refusal::Refusal;
-use second::serve::{ask_list, most_rounds, row, Turn};
-use second::step::{step, Answer};
+use second::serve::{ask_list, most_rounds, row, take_turn, Turn};
+use second::step::Answer;
 use second::world::{longest_list, longest_serve};
 
 fn says(bench: &mut Bench, line: &str) -> String {
@@ -26,32 +25,21 @@ fn the_longest_known_calls() {
     }
 }
 
-/// The same by the row alone.
+/// By the row alone, for 32 too.
 #[test]
-fn the_longest_known_call_for_32() {
+fn the_longest_known_rows() {
     for count in [1, 2, 3, 8, 32] {
         let (mut world, list, writes) = longest_list(count).expect("a world");
         let mut steps = vec![0; count];
         let answers = row(count, |turn| {
             let (Turn::Begin(i) | Turn::Step(i)) = turn;
             let newest = world.records[list[i].0].clone().expect("joined");
-            let (answer, shared, record) = match turn {
-                Turn::Begin(i) => {
-                    let (offset, text) = &writes[i];
-                    let begun = begin(&world.image, &world.shared, &newest, *offset, text);
-                    let (shared, record) = begun?;
-                    (None, shared, record)
-                }
-                Turn::Step(i) => {
-                    steps[i] += 1;
-                    let (answer, shared, record) =
-                        step(&mut world.image, &world.shared, &newest);
-                    (Some(answer), shared, record)
-                }
-            };
+            let (answer, shared, record) =
+                take_turn(turn, &mut world.image, &world.shared, &newest, &writes[i]);
+            steps[i] += usize::from(matches!(turn, Turn::Step(_)));
             world.shared = shared;
             world.records[list[i].0] = Some(record);
-            Ok::<_, Refusal>(answer)
+            Ok::<_, ()>(answer)
         });
         let retries = |i: usize| Answer::Committed(i as u16);
         assert_eq!(answers, Ok((0..count).map(retries).collect()));

@@ -349,7 +349,7 @@ impl Walk {
     /// K6's call: a list of joined points and, now and then, of others; mostly one write
     /// for each.
     fn serve(&mut self) -> Result<(), String> {
-        let mut list: Vec<Listed> = self.joined().into_iter().map(|p| (p, None)).collect();
+        let mut list: Vec<ListedPoint> = self.joined().into_iter().map(|p| (p, None)).collect();
         if !self.random.once_in(4) {
             let busy = self.with_write(true);
             list.retain(|(p, _)| !busy.contains(p));
