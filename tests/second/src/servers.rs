@@ -85,10 +85,11 @@ fn a_list(maker: &mut Maker, most: usize) -> Vec<usize> {
     list
 }
 
-/// Up to some points, seldom all.
+/// Up to some points, more often all where all have joined.
 fn a_common_list(maker: &mut Maker) -> Vec<usize> {
+    let is_full = maker.joined().len() == 32 && maker.random.once_in(3);
     let most = *maker.random.pick(&[2, 3, 4, 4, 5, 6, 8, 32]);
-    a_list(maker, most)
+    a_list(maker, if is_full { 32 } else { most })
 }
 
 /// A write for each of so many points: all over the same bytes, about the same blocks,
