@@ -105,7 +105,8 @@ fn greatest(random: &mut Random, command: &str, most: u64, places: usize) -> u64
 }
 
 /// The words of a `serve` line: few points and writes, or up to the greatest counts and
-/// one more. One word of many is out of its range at most.
+/// one more, then in as many digits as there may be. One word of many is out of its range
+/// at most.
 fn serve_words(random: &mut Random) -> Vec<String> {
     let most = *random.pick(&[1, 2, 3, 4, 40, 41]);
     let (n, m) = (random.below(most + 1), random.below(most + 1));
@@ -113,10 +114,11 @@ fn serve_words(random: &mut Random) -> Vec<String> {
     let mut mosts = vec![31; n];
     mosts.extend([0xFFFF_FFFF, 1_100, 255].repeat(m));
     let odd = random.below(2 * mosts.len() + 1);
+    let width = if n + m > 60 { 20 } else { 1 };
     let mut words = vec!["serve".to_string(), n.to_string(), m.to_string()];
     for (i, &most) in mosts.iter().enumerate() {
-        let small = random.any() % most.min(600);
-        words.push(if i == odd { number_word(random, most) } else { small.to_string() });
+        let small = format!("{:0width$}", random.any() % most.min(600));
+        words.push(if i == odd { number_word(random, most) } else { small });
     }
     words
 }

@@ -2,6 +2,7 @@
 
 use crate::acts::*;
 use crate::alterations::alter_any;
+use crate::bench::MOST_LISTED;
 use crate::forge::{broken_entry, lawful_entry};
 use crate::image::*;
 use crate::ladder::climb;
@@ -96,9 +97,9 @@ fn a_common_list(maker: &mut Maker) -> Vec<usize> {
 /// each in a block of its own, or anywhere. Long ones only for few points.
 pub fn some_writes(random: &mut Random, count: usize) -> Vec<ListedWrite> {
     let base = an_offset(random) % 100_000;
-    let (offset, length) = match (random.below(4), count) {
-        (0, 1..=5) => (512 * random.below(3) + 511, 514),
-        (1, 1..=8) => (base, random.between(1, 1_024)),
+    let (offset, length) = match random.below(4) {
+        0 if (1..=5).contains(&count) => (512 * random.below(3) + 511, 514),
+        1 if (1..=8).contains(&count) => (base, random.between(1, 1_024)),
         _ => (base, random.between(1, 600)),
     };
     let style = random.below(5);
@@ -109,11 +110,11 @@ pub fn some_writes(random: &mut Random, count: usize) -> Vec<ListedWrite> {
         3 => (FILE_BYTES - random.between(1, 1_200), random.between(1, 600)),
         _ => (an_offset(random), a_length(random)),
     };
-    (0..count).map(|i| write(i, random)).map(|(o, l)| (o, l, random_seed(o, l))).collect()
+    (0..count).map(|i| write(i, random)).map(|(o, l)| (o, l, a_seed(o, l))).collect()
 }
 
-/// Some seed; which one does not matter.
-fn random_seed(offset: usize, length: usize) -> usize {
+/// The seed of a write; which one it is does not matter.
+fn a_seed(offset: usize, length: usize) -> usize {
     (31 * offset + length) % 256
 }
 
@@ -178,10 +179,12 @@ fn tail(maker: &Maker) -> Option<(usize, usize)> {
 /// Puts lawful entries at the tail until only `left` slots are empty.
 fn fill_log(maker: &mut Maker, left: usize) {
     let Some((block, slot)) = tail(maker) else { return };
-    let known = maker.bench.image[place_of(block, FIRST_SLOT)];
+    // The block's first entry again, or one that is far from the others.
+    let entry = match maker.bench.image[place_of(block, FIRST_SLOT)] {
+        0 => Entry { v: 240, b: 1, n: 1, u: 512, point: 0, rest: 0 }.pack(),
+        known => known,
+    };
     for slot in slot..END_SLOT.saturating_sub(left) {
-        // The same again, or block 1 twice: nothing else is replaced.
-        let entry = if known == 0 { 0x0002_0001_0001_00F0 } else { known };
         maker.say(&format!("set {} {entry}", place_of(block, slot)));
     }
 }
@@ -373,12 +376,9 @@ fn list_again(maker: &mut Maker, list: &mut Vec<usize>) {
     if let Some(&p) = list.first() {
         let at = maker.random.between(1, list.len());
         list.insert(at, p);
-        list.truncate(MOST_LISTED);
+        list.truncate(MOST_LISTED as usize);
     }
 }
-
-/// The longest list of a line.
-const MOST_LISTED: usize = 40;
 
 /// Two places of the list have one number, above 31 or not.
 fn number_again(maker: &mut Maker, list: &[usize]) {

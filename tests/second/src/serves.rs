@@ -8,6 +8,7 @@ use crate::step::{settle, Answer};
 use crate::tally::happened;
 
 /// What the turns of one call have met so far.
+#[derive(Default)]
 pub struct Seen {
     /// How many steps each point was given.
     steps: Vec<usize>,
@@ -21,15 +22,7 @@ pub struct Seen {
 
 impl Seen {
     pub fn new(count: usize) -> Seen {
-        Seen {
-            steps: vec![0; count],
-            begun: false,
-            kept_write: false,
-            kept_read: false,
-            linked: false,
-            link_lost: false,
-            refilled: false,
-        }
+        Seen { steps: vec![0; count], ..Seen::default() }
     }
 
     /// Looks at a turn, at the record before and after it and at its answer.
@@ -56,8 +49,7 @@ impl Seen {
         let ends_zeroing = was_zeroing && after.write.phase == Phase::Filling;
         self.linked |= ends_zeroing && answer == Some(&Answer::Stored);
         self.link_lost |= ends_zeroing && answer == Some(&Answer::Moved);
-        let refills =
-            [Phase::RefillingFirst, Phase::RefillingLast, Phase::RefillingBoth];
+        let refills = [Phase::RefillingFirst, Phase::RefillingLast, Phase::RefillingBoth];
         self.refilled |= refills.contains(&before.write.phase) && answer == Some(&Answer::Stored);
     }
 }
@@ -99,46 +91,68 @@ impl Bench {
                 _ => self.tally.count("serve", "stored"),
             }
         }
-        let any = |is_so: &dyn Fn(&Answer) -> bool| answers.iter().any(is_so);
-        let any_of = |is_so: &dyn Fn(usize) -> bool| (0..places.len()).any(is_so);
-        let is_refused = |answer: &Answer| matches!(answer, Answer::Refused(_));
-        let is_committed = |answer: &Answer| matches!(answer, Answer::Committed(_));
-        let is_unfinished = |answer: &Answer| !is_refused(answer) && !is_committed(answer);
-        let is_broken = |i: usize| answers[i] == Answer::Refused(Refusal::LogBroken);
-        let record_of = |i: usize| &self.records[places[i]];
-        let would_go_on = |i: usize| settle(&self.image, &self.shared, record_of(i)).is_ok();
-        let in_last_round = |i: usize| seen.steps[i] == most_rounds(places.len());
-        let no_run = Answer::Refused(Refusal::NoRun);
-        let has_stepped = |i: usize| seen.steps[i] > 0;
-        let is_other = |i: usize| has_stepped(i) && record_of(i).number != places[i];
-        let events = happened(&[
+        self.tally.events(&happened(&[
             (places.len() == 1, "served one point"),
             (places.len() == MOST_POINTS, "served 32 points"),
-            (any(&is_refused) && any(&is_committed), "served, some refused and some committed"),
-            (
-                seen.begun && any_of(&|i| is_broken(i) && !has_stepped(i)),
-                "served, 18 at a beginning beside a write begun",
-            ),
-            (seen.begun && answers.contains(&no_run), "served, 19 beside a write begun"),
-            (seen.kept_write, "served, a write under way kept"),
-            (seen.kept_read, "served, a read under way kept"),
-            (any_of(&|i| is_broken(i) && has_stepped(i)), "served, 18 at a step"),
-            (
-                any_of(&|i| is_broken(i) && has_stepped(i) && would_go_on(i)),
-                "served, 18 at a step, gone by the end",
-            ),
-            (seen.linked && seen.link_lost, "served, linked and a link lost"),
-            (seen.refilled, "served, a block filled again"),
-            (
-                any_of(&|i| is_committed(&answers[i]) && in_last_round(i)),
-                "served, committed in the last round",
-            ),
-            (
-                any(&is_unfinished) && any(&is_committed),
-                "served, unfinished beside a committed one",
-            ),
-            (any_of(&is_other), "served, reported for another number"),
-        ]);
+        ]));
+        self.tally.events(&seen.turns_events());
+        self.tally.events(&answers_events(answers, seen));
+        let events = self.records_events(places, answers, seen);
         self.tally.events(&events);
     }
+
+    /// The events that the records after the call show.
+    fn records_events(
+        &self,
+        places: &[usize],
+        answers: &[Answer],
+        seen: &Seen,
+    ) -> Vec<&'static str> {
+        let stepped = || (0..places.len()).filter(|&i| seen.steps[i] > 0);
+        let record_of = |i: usize| &self.records[places[i]];
+        let would_go_on = |i: usize| settle(&self.image, &self.shared, record_of(i)).is_ok();
+        let mut broken = stepped().filter(|&i| answers[i] == BROKEN);
+        let is_other = |i: usize| record_of(i).number != places[i];
+        happened(&[
+            (broken.any(would_go_on), "served, 18 at a step, gone by the end"),
+            (stepped().any(is_other), "served, reported for another number"),
+        ])
+    }
+}
+
+const BROKEN: Answer = Answer::Refused(Refusal::LogBroken);
+
+impl Seen {
+    fn turns_events(&self) -> Vec<&'static str> {
+        happened(&[
+            (self.kept_write, "served, a write under way kept"),
+            (self.kept_read, "served, a read under way kept"),
+            (self.linked && self.link_lost, "served, linked and a link lost"),
+            (self.refilled, "served, a block filled again"),
+        ])
+    }
+}
+
+/// The events that the answers show.
+fn answers_events(answers: &[Answer], seen: &Seen) -> Vec<&'static str> {
+    let is_refused = |answer: &Answer| matches!(answer, Answer::Refused(_));
+    let is_committed = |answer: &Answer| matches!(answer, Answer::Committed(_));
+    let refused = answers.iter().any(is_refused);
+    let committed = answers.iter().any(is_committed);
+    let unfinished = answers.iter().any(|answer| !is_refused(answer) && !is_committed(answer));
+    let any = |is_so: &dyn Fn(&Answer, usize) -> bool| {
+        answers.iter().zip(&seen.steps).any(|(answer, &steps)| is_so(answer, steps))
+    };
+    let begun_broken = any(&|answer, steps| *answer == BROKEN && steps == 0);
+    let no_run = answers.contains(&Answer::Refused(Refusal::NoRun));
+    let rounds = most_rounds(answers.len());
+    let in_last_round = any(&|answer, steps| is_committed(answer) && steps == rounds);
+    happened(&[
+        (refused && committed, "served, some refused and some committed"),
+        (seen.begun && begun_broken, "served, 18 at a beginning beside a write begun"),
+        (seen.begun && no_run, "served, 19 beside a write begun"),
+        (any(&|answer, steps| *answer == BROKEN && steps > 0), "served, 18 at a step"),
+        (in_last_round, "served, committed in the last round"),
+        (unfinished && committed, "served, unfinished beside a committed one"),
+    ])
 }

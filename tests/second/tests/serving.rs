@@ -112,8 +112,8 @@ fn long_lines() {
         says(&mut bench, line);
     }
     let mut line = format!("serve {:020} {:020}", 40, 40);
-    for number in (0..40).chain((0..40).flat_map(|i| [512 * i, 1_100, 255])) {
-        line.push_str(&format!("{}{:020}", " ".repeat(900), number % 65_536 % 32));
+    for number in 0..160 {
+        line.push_str(&format!("{}{:020}", " ".repeat(900), number % 32));
     }
     assert_eq!(says(&mut bench, &line), "refused 26\n");
     assert_eq!(says(&mut bench, &format!("{line} 0")), "error\n");
