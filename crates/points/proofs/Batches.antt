@@ -19,8 +19,8 @@ use Rattle.points.specs.Record.{runWords, withHead, writing}
 use Rattle.points.specs.Fill.{newWord}
 use Rattle.points.specs.Plan.{Outcome}
 use Rattle.points.specs.Stepping.{turned, filled, stepping}
-use Rattle.points.specs.Serving.{Turned, Common, stepped, stepGoesOn, isUnfinished, Listed, inTurn, rounds, stepTurn}
-use Rattle.points.specs.Batch.{filledAt, fillsNext, zeroesNext, movedOn, lastOn, listedOn, allOn, storedIn, storedRound, storedRounds}
+use Rattle.points.specs.Serving.{Turned, Common, Last, stepped, stepGoesOn, isUnfinished, Listed, inTurn, rounds, stepTurn}
+use Rattle.points.specs.Batch.{filledAt, zeroedOn, fillsNext, zeroesNext, movedOn, lastOn, listedOn, allOn, storedIn, storedRound, storedRounds}
 use Rattle.points.proofs.Ready.{Ready}
 use Rattle.points.proofs.ReadyOn.{step-ready, step-others}
 use Rattle.points.proofs.Turns.{storedTurn, turn-of, no-turn, fill-turn, zero-turn}
@@ -280,3 +280,29 @@ pub zero-rounds : (E : Edition) (s : Shared) (m : ℕ) (words : List ℕ) (xs : 
     → rounds m (stepTurn E) (record { words = words; shared = s }) xs
     ≡ record { common = record { words = storedRounds (zeroesNext E) 0 m xs words; shared = s }; own = allOn m xs }
 zero-rounds E s m words xs = plain-rounds E s (zeroesNext E) (CanZero E s) (zero-plain E s) m words xs
+
+-- ---- a list of one that zeroes (Turns has one that fills)
+
+zeroes-lone : (E : Edition) (m r : ℕ) (p : Point) (last : Last) (words : List ℕ) → isUnfinished last ≡ true
+    → storedRounds (zeroesNext E) r m (record { point = p; last = last } ∷ []) words
+    ≡ zeroedOn E (p .head .write .zeroing) (r + p .head .write .position) m words
+unfolding storedRounds storedRound zeroedOn
+zeroes-lone E zero r p last words u = refl
+zeroes-lone E (suc m) r p last words u =
+    let e : suc r + p .head .write .position ≡ suc (r + p .head .write .position) = omega arith in
+    ap (storedRounds (zeroesNext E) (suc r) m (record { point = p; last = last } ∷ [])) (choose-true (isUnfinished last) (zeroesNext E r p words) words u)
+    ∙ zeroes-lone E m (suc r) p last (zeroesNext E r p words) u
+    ∙ ap (λ (k : ℕ). zeroedOn E (p .head .write .zeroing) k m (zeroesNext E r p words)) e
+
+pub zero-turns :
+    (m : ℕ) (E : Edition) (words : List ℕ) (s : Shared) (p : Point) (last : Last) → Ready E words s p → p .head .write .phase ≡ Zeroing
+    → m + p .head .write .position ≤ E .blockWords → isUnfinished last ≡ true
+    → rounds m (stepTurn E) (record { words = words; shared = s }) (record { point = p; last = last } ∷ [])
+    ≡ record {
+      common = record { words = zeroedOn E (p .head .write .zeroing) (p .head .write .position) m words; shared = s };
+      own = record { point = movedOn m p; last = lastOn m last } ∷ [];
+    }
+zero-turns m E words s p last r f l u =
+    let z : 0 + p .head .write .position ≡ p .head .write .position = omega arith in
+    zero-rounds E s m words (record { point = p; last = last } ∷ []) ((λ v. (r, f, l)), tt)
+    ∙ rw (listed-on m (record { point = p; last = last }) u, zeroes-lone E m 0 p last words u, z)

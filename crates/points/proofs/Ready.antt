@@ -7,20 +7,22 @@ use mathlib.Core.Bool.{true, false}
 use mathlib.Core.List.{List}
 use lib.ListN.{length}
 use borrow.Author.Tests.{not-false, le-leb}
-use Rattle.words.specs.Edition.{Edition, chainMax, fileEnd}
+use Rattle.words.specs.Edition.{Edition, one, chainMax, fileEnd}
 use Rattle.words.specs.Memory.{after}
 use Rattle.words.proofs.Logic.{all-every}
 use Rattle.words.proofs.Choice.{choose-false}
 use Rattle.log.specs.declared.Shared.{Shared}
 use Rattle.points.specs.declared.Phase.{Phase}
 use Rattle.points.specs.declared.Point.{Point}
-use Rattle.points.specs.Record.{isIdle, isReading, isWriting, writeFits}
+use Rattle.points.specs.Record.{isZeroing, runWords, isIdle, isReading, isWriting, writeFits}
 use Rattle.points.specs.Record.{rangeFits, headFits, allBelow, fits, isJoined, unfit, fileAt, writing}
 use Rattle.points.specs.Plan.{reported}
 use Rattle.points.specs.Stepping.{refused}
+use Rattle.points.specs.Lent.{TextFits}
 use Rattle.points.specs.Stepping.{stepRefusal}
 use Rattle.points.proofs.Phases.{is-writing, writing-busy, writing-apart}
 use Rattle.points.proofs.RecordFacts.{SharedFits, PlaceFits, shared-facts, shared-fits, fits-place, fits-length, fits-write, fits-table}
+use Rattle.points.proofs.RecordFacts.{RunFits, ZeroingFits, run-facts, write-zeroing-facts, write-position}
 use Rattle.points.proofs.NotRefused.{step-shared, step-fits, step-joined, step-busy}
 use Rattle.points.proofs.StepFacts.{under-way}
 use Rattle.points.proofs.Kept.{FileFits, place-fits}
@@ -120,3 +122,22 @@ others-ready {E} {words} {after} {s} {t} {q} k r =
       writing = f .writing;
       joined = rw (k .joined) (f .joined);
     })
+
+-- ---- what a ready record tells of its write
+
+module _ {E : Edition} {words : List ℕ} {s : Shared} {p : Point} (r : Ready E words s p) where
+  abbrev under : writeFits E (s .blocks) (p .head .place) (p .head .write) ≡ true
+  under = tests r .write
+
+  pub ready-run : RunFits E (s .blocks) (p .head .write)
+  ready-run = run-facts E (s .blocks) (p .head .place) (p .head .write) under
+
+  pub ready-zeroing : isZeroing (p .head .write .phase) ≡ true → ZeroingFits E (s .blocks) (p .head .place) (p .head .write)
+  ready-zeroing z = write-zeroing-facts E (s .blocks) (p .head .place) (p .head .write) under z
+
+  pub ready-position : isZeroing (p .head .write .phase) ≡ false → p .head .write .position ≤ runWords E (p .head .write)
+  ready-position z = omega (arith, write-position E (s .blocks) (p .head .place) (p .head .write) under z)
+
+-- as the code's contracts ask for it
+pub ready-text : {words : List ℕ} {s : Shared} {p : Point} → Ready one words s p → TextFits (p .head .write)
+ready-text r = let t = ready-run r .text in (t .some-text, t .few-text, t .ends-inside)

@@ -173,3 +173,8 @@ module _ (next : ℕ → Point → List ℕ → List ℕ) where
   unfoldable pub storedRounds : ℕ → ℕ → List Listed → List ℕ → List ℕ
   storedRounds r zero xs words = words
   storedRounds r (suc m) xs words = storedRounds (suc r) m xs (storedRound r xs words)
+
+-- m words of a block become 0, one after the other
+unfoldable pub zeroedOn : Edition → ℕ → ℕ → ℕ → List ℕ → List ℕ
+zeroedOn E b k zero words = words
+zeroedOn E b k (suc m) words = zeroedOn E b (suc k) m (after E words (some (record { block = b; word = k; value = 0 })))

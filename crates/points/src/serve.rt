@@ -14,7 +14,7 @@ ghost use Rattle.points.specs.declared.Phase.the-variants.{Filling};
 ghost use Rattle.points.specs.declared.Head.{Head};
 ghost use Rattle.points.specs.Record.{textMax, runWords};
 ghost use Rattle.points.specs.Fill.{newWord};
-ghost use Rattle.points.specs.Batch.{filledAt, filledOn, rowOf, Fillable, Prepared, InRow, InOneBlock};
+ghost use Rattle.points.specs.Batch.{filledAt, filledOn, zeroedOn, rowOf, Fillable, Prepared, InRow, InOneBlock};
 ghost use Rattle.points.specs.Batch.{Filled, Alone, Aside, Passes, passing, MovesByOne, Enterable, Commits, CommitsByHead};
 use crate::Head;
 use crate::Phase;
@@ -171,6 +171,22 @@ pub fn fill_words(
     let mut left = m;
     while 0 < left {
         put_row_word(image, row, text, i);
+        i += 1;
+        left -= 1;
+    }
+}
+
+// m words of a block from word k on become 0, as many as a block has at most: single stores too.
+pub fn zero_words(image: &mut [u64], block: u32, k: u32, m: u32)
+    ensures { λ _. ⌜ (k + m ≤ 64 → now (image .exit) ≡ zeroedOn one block k m (now (image .entry))) ⌝ }
+{
+    if 64 < k as u64 + m as u64 {
+        return;
+    }
+    let mut i = k;
+    let mut left = m;
+    while 0 < left {
+        words::image::store(image, block, i as usize, 0);
         i += 1;
         left -= 1;
     }
