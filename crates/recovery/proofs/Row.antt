@@ -1,0 +1,3 @@
+-- A row: each of several points has a turn.
+pub mod Rank
+pub mod Sight
