@@ -1,3 +1,4 @@
 -- A row: each of several points has a turn.
 pub mod Rank
 pub mod Sight
+pub mod Step
