@@ -2,3 +2,6 @@
 pub mod Rank
 pub mod Sight
 pub mod Step
+pub mod Listed
+pub mod OneTurn
+pub mod Round
