@@ -5,3 +5,4 @@ pub mod Step
 pub mod Listed
 pub mod OneTurn
 pub mod Round
+pub mod Begun

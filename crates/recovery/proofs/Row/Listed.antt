@@ -57,32 +57,33 @@ module _ (t : Turn) (ts : List Turn) (e : Event) (es : List Event) where
   stops-first g = choose-false (goesOn e) (t ∷ unfinished ts es) (unfinished ts es) g
 
   -- whether the first is or not
-  either : (P : List Turn → Type 0) → P (t ∷ unfinished ts es) → P (unfinished ts es) → P (unfinished (t ∷ ts) (e ∷ es))
+  pub either : (P : List Turn → Type 0) → (goesOn e ≡ true → P (t ∷ unfinished ts es)) → (goesOn e ≡ false → P (unfinished ts es))
+      → P (unfinished (t ∷ ts) (e ∷ es))
   either P x y = go (goesOn e) refl
     where
       go : (b : Bool) → goesOn e ≡ b → P (unfinished (t ∷ ts) (e ∷ es))
-      go true g = subst P (sym (goes-first g)) x
-      go false g = subst P (sym (stops-first g)) y
+      go true g = subst P (sym (goes-first g)) (x g)
+      go false g = subst P (sym (stops-first g)) (y g)
 
 pub each-unfinished : (P : Turn → Type 0) (ts : List Turn) (es : List Event) → Each P ts → Each P (unfinished ts es)
 unfolding unfinished
 each-unfinished P [] es ps = tt
 each-unfinished P (t ∷ ts) [] ps = tt
-each-unfinished P (t ∷ ts) (e ∷ es) ps = let r = each-unfinished P ts es (ps .1) in either t ts e es (Each P) (ps .0, r) r
+each-unfinished P (t ∷ ts) (e ∷ es) ps = let r = each-unfinished P ts es (ps .1) in either t ts e es (Each P) (λ g. (ps .0, r)) (λ g. r)
 
 pub apart-unfinished : (ts : List Turn) (es : List Event) → Apart ts → Apart (unfinished ts es)
 unfolding unfinished
 apart-unfinished [] es a = tt
 apart-unfinished (t ∷ ts) [] a = tt
 apart-unfinished (t ∷ ts) (e ∷ es) a = let r = apart-unfinished ts es (a .1) in
-    either t ts e es Apart (each-unfinished (λ u. u .number ≢ t .number) ts es (a .0), r) r
+    either t ts e es Apart (λ g. (each-unfinished (λ u. u .number ≢ t .number) ts es (a .0), r)) (λ g. r)
 
 pub fewer-unfinished : (ts : List Turn) (es : List Event) → length (unfinished ts es) ≤ length ts
 unfolding unfinished
 fewer-unfinished [] es = omega arith
 fewer-unfinished (t ∷ ts) [] = omega arith
 fewer-unfinished (t ∷ ts) (e ∷ es) = let r = fewer-unfinished ts es in
-    either t ts e es (λ us. length us ≤ length (t ∷ ts)) (omega arith) (omega arith)
+    either t ts e es (λ us. length us ≤ length (t ∷ ts)) (λ g. omega arith) (λ g. omega arith)
 
 -- ---- calls one list after the other
 
