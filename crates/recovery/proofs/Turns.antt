@@ -1,22 +1,18 @@
 -- Everybody gets a turn: in a row that begins at any cut, of at most 32 points, none listed twice, nobody is unfinished after `serveRounds`, and no step is
 -- refused but by 20 or 21. Beginnings leave each live point a rank of at most that (Row.Begun); each round lowers it (Row.Round).
 -- That so many rounds are needed, but one, is computed (TurnSessions).
-use mathlib.Core.Path.{_≡_, refl, ap}
-use mathlib.Core.List.{List, map}
-use mathlib.Core.Bool.{true, false}
-use Prim.Native.Nat.{ℕ, _≤_}
+use mathlib.Core.List.{map}
 use native.Mathlib.Omega.{arith}
 use lib.ListN.{length}
 use Rattle.words.specs.Edition.{Edition}
-use Rattle.words.specs.Logic.{all-of}
-use Rattle.points.specs.Serving.{serveRounds, twice}
-use Rattle.recovery.specs.World.{World, events}
-use Rattle.recovery.specs.History.{bytesIn, callsBefore, atCut}
-use Rattle.recovery.specs.Row.{Turn, beginOf, begunWorld, begunTurns, roundCalls, afterRounds}
+use Rattle.points.specs.Serving.{serveRounds}
+use Rattle.recovery.specs.World.{events}
+use Rattle.recovery.specs.History.{callsBefore, atCut}
+use Rattle.recovery.specs.Row.{beginOf, begunWorld, begunTurns}
 use Rattle.recovery.specs.Claim.{Turns}
 use Rattle.recovery.proofs.Claim.{opens-enough, same-start, bytesBefore}
 use Rattle.recovery.proofs.Demand3.{after-tied}
-use Rattle.recovery.proofs.Row.Listed.{Each, each-map, once-apart, apart-unfinished, fewer-unfinished}
+use Rattle.recovery.proofs.Row.Listed.{each-map, once-apart, apart-unfinished, fewer-unfinished}
 use Rattle.recovery.proofs.Row.OneTurn.{Live, Holds}
 use Rattle.recovery.proofs.Row.Round.{rounds-end}
 use Rattle.recovery.proofs.Row.Begun.{Fresh, all-begun, fresh-live}

@@ -1,8 +1,8 @@
 -- The beginnings of a row store nothing, and a point whose write is begun has caught up: so nothing is ahead of any, and its rank is at most the rounds.
-use mathlib.Core.Path.{_≡_, refl, sym, ap, _∙_, subst}
+use mathlib.Core.Path.{_≡_, refl, sym, ap, subst}
 use mathlib.Core.List.{List, [], _∷_, map}
 use mathlib.Core.Bool.{true, false}
-use Prim.Native.Nat.{ℕ, zero, suc, _+_, _*_, _-_, _≤_, _<_}
+use Prim.Native.Nat.{ℕ, zero, suc, _+_, _-_, _≤_, _<_}
 use native.Mathlib.Omega.{arith}
 use lib.ListN.{length, getD}
 use Rattle.words.specs.Edition.{Edition}
@@ -19,13 +19,11 @@ use Rattle.points.specs.Serving.{serveRounds}
 use Rattle.points.proofs.NotRefused.{begin-either, begin-joined}
 use Rattle.points.proofs.Phases.{writing-busy}
 use Rattle.recovery.specs.World.{World, handed, withNewest, serve, world, events}
-use Rattle.recovery.specs.Book.{Book}
 use Rattle.recovery.specs.History.{bytesIn}
 use Rattle.recovery.specs.Row.{Turn, beginOf, goesOn, replyGoesOn, unfinished, begunWorld, begunTurns}
 use Rattle.recovery.proofs.Demand3.{small-text}
 use Rattle.recovery.proofs.Model.Walk.{stop}
-use Rattle.recovery.proofs.Calls.Mapping.{Tied, handed-newest, is-joined, withNewest-same}
-use Rattle.recovery.proofs.Calls.CatchUp.{arrived}
+use Rattle.recovery.proofs.Calls.Mapping.{handed-newest, is-joined, withNewest-same}
 use Rattle.recovery.proofs.Calls.Begin.{ahead-is, begin-tied, done, begin-eq-done, begin-eq-refused}
 use Rattle.recovery.proofs.Lone.Bystander.{Kept, begin-kept}
 use Rattle.recovery.proofs.LoneWrite.{few-words, left-most}

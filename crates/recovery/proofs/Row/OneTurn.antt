@@ -1,17 +1,15 @@
 -- One live point's step: its own rank falls, or its write is over; and no other live point's rank rises.
 use mathlib.Core.Path.{_≡_, refl, sym, ap, _∙_, subst}
 use mathlib.Core.Logic.{_≢_, _⊎_, inl, inr}
-use mathlib.Core.List.{List, [], _∷_, _++_, map}
-use mathlib.Core.Bool.{Bool, true, false, _&&_, _||_}
-use Prim.Native.Nat.{ℕ, zero, suc, _+_, _-_, _≤_, _<_}
+use mathlib.Core.List.{List, [], _∷_}
+use mathlib.Core.Bool.{true, false, _||_}
+use Prim.Native.Nat.{ℕ, suc, _-_, _≤_}
 use native.Mathlib.Omega.{arith}
-use lib.ListN.{length}
 use lib.Dec.{eqb}
 use Rattle.words.specs.Edition.{Edition}
 use Rattle.words.specs.Word.{bit}
-use Rattle.words.specs.Logic.{all-of, member}
+use Rattle.words.specs.Logic.{member}
 use Rattle.words.specs.Memory.{memory}
-use Rattle.words.proofs.Logic.{and-both}
 use Rattle.words.proofs.Tests.{or-split, or-1, or-2, no-true}
 use Rattle.log.specs.CatchUp.{Walk, ahead}
 use Rattle.points.specs.declared.Point as PP
@@ -21,19 +19,17 @@ use Rattle.points.specs.Record.{isJoined, isWriting}
 use Rattle.points.specs.Plan.{Outcome}
 use Rattle.points.specs.Serving.{stepGoesOn}
 use Rattle.points.specs.Stepping.{stepping}
-use Rattle.recovery.specs.World.{World, Call, Event, handed, withNewest, serve, world, events}
-use Rattle.recovery.specs.Book.{Book, recordedStep}
+use Rattle.recovery.specs.World.{World, handed, serve, world}
+use Rattle.recovery.specs.Book.{Book}
 use Rattle.recovery.specs.History.{stepFinishes, stepRefused}
-use Rattle.recovery.specs.Row.{Turn, stepOf, goesOn, unfinished, roundCalls, afterRounds}
+use Rattle.recovery.specs.Row.{Turn, stepOf, goesOn}
 use Rattle.recovery.specs.Claim.{isEndOrGoesOn}
 use Rattle.recovery.proofs.Calls.Mapping.{Tied, handed-newest, withNewest-same, withNewest-other}
 use Rattle.recovery.proofs.Calls.Step.{step-tied}
-use Rattle.recovery.proofs.Row.Rank.{turnRank, Settled, Grown, Linked, rank-some, grown-rank, grown-settled, linked-rank, linked-settled, fewer-rank}
+use Rattle.recovery.proofs.Row.Rank.{turnRank, Settled, grown-rank, grown-settled, linked-rank, linked-settled, fewer-rank}
 use Rattle.recovery.proofs.Row.Rank.{fewer-settled}
 use Rattle.recovery.proofs.Row.Sight.{sight, seenAfter, Still, AllGrown, AllLinked}
 use Rattle.recovery.proofs.Row.Step.{Fair, ends, goes, step-fair}
-use Rattle.recovery.proofs.Row.Listed.{Each, each-map, each-two, Apart, goes-first, stops-first, apart-unfinished, fewer-unfinished}
-use Rattle.recovery.proofs.Row.Listed.{events-after, all-after}
 
 -- ---- answers
 
@@ -168,4 +164,5 @@ module _ {E : Edition} (w : World) (h : Holds E w) (t : Turn) (n : ℕ) (some : 
       pick : Fair E w (n - 1) k out → Turned E w t n r
       pick (ends f jo s) = over (ends-stop (out .step) f) (fine-end (out .step) f) (ended jo s)
       pick (goes g jo b set low s) = on g (fine-on (out .step) g)
-          (live-by v k (out .point) _ (ap (λ (y : ℕ). bit y k) jo ∙ l .joined) (withNewest-same w k (out .point)) refl b set (omega (arith, l .low))) (went jo s)
+          (live-by v k (out .point) _ (ap (λ (y : ℕ). bit y k) jo ∙ l .joined) (withNewest-same w k (out .point)) refl b set (omega (arith, l .low)))
+          (went jo s)

@@ -1,6 +1,6 @@
 -- The rank of a live point of a row, how many of its steps are left at most: the words left to fill; for each other live point, which may commit first, and
 -- for each entry ahead, a Moved and two edge blocks filled again; and what chaining a log block may cost it, where the tail's has not room for all live points.
-use mathlib.Core.Path.{_≡_, refl, sym, ap, _∙_}
+use mathlib.Core.Path.{_≡_, refl, sym, _∙_}
 use mathlib.Core.Logic.{_≢_, _⊎_, inl, inr}
 use mathlib.Core.Bool.{Bool, true, false}
 use Prim.Native.Nat.{ℕ, suc, _+_, _*_, _-_, _≤_, _<_}

@@ -1,17 +1,15 @@
 -- What a step of one point leaves of the walks ahead of all: each is as it was, or one entry longer by a commit, or ends in a new log block by a link.
-use mathlib.Core.Path.{_≡_, refl, sym, ap, _∙_}
-use mathlib.Core.Logic.{_≢_}
+use mathlib.Core.Path.{_≡_, refl, sym, _∙_}
 use mathlib.Core.List.{List, [], _∷_, _++_}
 use mathlib.Core.Bool.{true, false}
 use mathlib.Core.Option.{none}
-use Prim.Native.Nat.{ℕ, suc, _+_, _≤_, _<_}
+use Prim.Native.Nat.{ℕ, suc, _≤_, _<_}
 use native.Mathlib.Omega.{arith}
 use lib.ListN.{length, length-append}
 use Rattle.words.specs.Edition.{Edition, chainMax}
 use Rattle.words.specs.Memory as M
 use Rattle.words.specs.Memory.{Memory, memory, after}
 use Rattle.words.proofs.Grid.{wordAt, store, word-view}
-use Rattle.log.specs.Chain.{nextIndex}
 use Rattle.log.specs.declared.Place.{Place}
 use Rattle.log.specs.CatchUp.{Walk, ahead}
 use Rattle.log.proofs.Cover as C
@@ -29,7 +27,7 @@ use Rattle.recovery.proofs.Model.LogPlace.{LogEnd, endBehind, endIn}
 use Rattle.recovery.proofs.Model.Walk.{LogWalk, stop, walk-end, walk-empty}
 use Rattle.recovery.proofs.Model.State.{WriteState, span, firstBlock, used}
 use Rattle.recovery.proofs.Model.Invariant.{PointInv, WriteInv, the-write, Core}
-use Rattle.recovery.proofs.Model.Frame.{Quiet, quiet-core, quiet-walk, quiet-store}
+use Rattle.recovery.proofs.Model.Frame.{quiet-core, quiet-walk, quiet-store}
 use Rattle.recovery.proofs.Outcomes.CommitFile.{commit-core, commit-walks}
 use Rattle.recovery.proofs.Outcomes.Link.{link-core, link-walks}
 use Rattle.recovery.proofs.Calls.CatchUp.{arrived, walk-ahead}
@@ -91,7 +89,7 @@ module _ {E : Edition} {L : List ℕ} (w : World) (bk : Book) (h : Tied E L w bk
   wi = the-write (worldOf w) bk (h .inv) n v j (isBusy w bk h n j busyPhase)
 
   -- a word of the image, as the definitions read it
-  pub word-is : (b i : ℕ) → i < E .blockWords → M.wordAt m b i ≡ wordAt E I b i
+  word-is : (b i : ℕ) → i < E .blockWords → M.wordAt m b i ≡ wordAt E I b i
   word-is b i l = word-view E I B (h .inv .core .image .size) b i l
 
   -- nothing is stored
@@ -139,15 +137,15 @@ module _ {E : Edition} {L : List ℕ} (w : World) (bk : Book) (h : Tied E L w bk
 
   -- ---- the link
   module _ (z : isZeroing (p .head .write .phase) ≡ true) (done : E .blockWords ≤ p .head .write .position)
-      (full : p .head .place .slot ≡ E .blockWords) (last : nextIndex m (p .head .place .block) ≡ 0) where
+      (full : p .head .place .slot ≡ E .blockWords) (last : wordAt E I (p .head .place .block) 0 ≡ 0) where
     abbrev y : ℕ
     y = p .head .write .zeroing
 
     free-from : suc (T .links) < chainMax
-    free-from = omega (arith, link-room w bk h n j busyPhase z full last, h .inv .length)
+    free-from = omega (arith, link-room w bk h n j busyPhase z full (word-is (p .head .place .block) 0 (omega arith) ∙ last), h .inv .length)
 
     stands : (p .head .place .block ≡ T .blk) × (T .slot ≡ E .blockWords)
-    stands = let s = walk-end (pi .place .walk) full (sym (word-is (p .head .place .block) 0 (omega arith)) ∙ last) in (s .block, sym (s .slot) ∙ full)
+    stands = let s = walk-end (pi .place .walk) full last in (s .block, sym (s .slot) ∙ full)
 
     zeroes : (i : ℕ) → i < E .blockWords → wordAt E I y i ≡ 0
     zeroes i l = wi .zero (zeroing-phase (p .head .write .phase) z) .zeroes i (omega arith) l

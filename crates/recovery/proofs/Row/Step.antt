@@ -1,40 +1,30 @@
 -- A step of a live point of a row, outcome by outcome: it ends the write, or lowers the point's rank.
-use mathlib.Core.Path.{_≡_, refl, sym, ap, _∙_, subst}
+use mathlib.Core.Path.{_≡_, refl, sym, ap, _∙_}
 use mathlib.Core.Logic.{_≢_, _⊎_, inl, inr}
-use mathlib.Core.List.{List, [], _∷_}
-use mathlib.Core.Bool.{Bool, true, false, _&&_, _||_}
+use mathlib.Core.List.{List, []}
+use mathlib.Core.Bool.{Bool, true, false, _&&_}
 use Prim.Native.Nat.{ℕ, zero, suc, _+_, _*_, _-_, _/_, _%_, _≤_, _<_}
 use native.Mathlib.Omega.{arith}
+use native.Mathlib.Decide.{decLt}
 use lib.ListN.{length}
-use lib.Dec.{ltb, eqb}
-use borrow.Author.Tests.{ltb-true, ltb-false, lt-ltb, lt-leb, eqb-true, eq-eqb}
 use Rattle.words.proofs.Sizes.{split-word, word-in}
-use Rattle.words.proofs.Logic.{and-left, and-right, and-both}
 use Rattle.words.proofs.Grid.{wordAt}
-use Rattle.words.proofs.Tests.{passes, nonzero, zero-is, is-zero, first-is, no-true}
-use Rattle.words.specs.Edition.{Edition, chainMax}
-use Rattle.words.specs.Logic.{isZero, first, some-of}
-use Rattle.words.specs.Memory as M
+use Rattle.words.proofs.Tests.{no-true}
+use Rattle.words.specs.Edition.{Edition}
+use Rattle.words.specs.Logic.{some-of}
 use Rattle.words.specs.Memory.{Memory, memory}
-use Rattle.log.specs.Chain.{nextIndex}
 use Rattle.log.specs.Entry.{covers}
 use Rattle.log.specs.declared.Shared.{Shared}
 use Rattle.log.specs.CatchUp.{Walk}
 use Rattle.points.specs.declared.Point as PP
-use Rattle.points.specs.declared.Head.{Head}
 use Rattle.points.specs.declared.Write as PW
-use Rattle.points.specs.declared.plan.Plan.{Plan}
 use Rattle.points.specs.Record.{isJoined, isZeroing, isWriting, runFirst, runBlocks, runWords, caughtUp, firstEdge, lastEdge}
 use Rattle.points.specs.Fill.{nextWord, newWord}
 use Rattle.points.specs.Search.{search}
-use Rattle.points.specs.Plan.{Outcome, carriedOut}
+use Rattle.points.specs.Plan.{Outcome}
 use Rattle.points.specs.Serving.{stepGoesOn}
-use Rattle.points.specs.Stepping.{endsWrite, atEnd, committing, extending, writeOn, refill, refillAfter, stepping}
+use Rattle.points.specs.Stepping.{stepping, atEnd, refill, refillAfter}
 use Rattle.points.proofs.CarriedOut.{afterFill, afterCommit, afterGiveUp, afterExtend, afterLink, afterGiveBack, afterZero, afterMove}
-use Rattle.points.proofs.CarriedOut.{fill-leaves, commit-leaves, give-up-leaves, move-leaves, extend-leaves, zero-leaves, link-leaves, give-back-leaves}
-use Rattle.points.proofs.StepCases.{on-zeroing, on-filling, zero-on, link-on, lost-on, fill-on, commit-on, store-on, end-on, move-on, extend-on, give-on}
-use Rattle.points.proofs.StepCases.{empty, ended, endReasons}
-use Rattle.points.proofs.Phases.{writing-busy, writing-apart}
 use Rattle.recovery.specs.World.{World}
 use Rattle.recovery.specs.Book.{Book}
 use Rattle.recovery.specs.History.{stepFinishes}
@@ -45,15 +35,14 @@ use Rattle.recovery.proofs.Model.Invariant.{PointInv}
 use Rattle.recovery.proofs.Calls.CatchUp.{arrived}
 use Rattle.recovery.proofs.Calls.Mapping.{Tied, pointOf, zeroing-phase}
 use Rattle.recovery.proofs.Calls.Begin.{ahead-is}
-use Rattle.recovery.proofs.Calls.Extend.{link-room}
 use Rattle.recovery.proofs.Calls.StepTied.{isBusy, sp, stored-is, unstored}
-use Rattle.recovery.proofs.Calls.Step.{step-done}
-use Rattle.recovery.proofs.Calls.NotRefused.{step-on, not-broken, pos-most}
+use Rattle.recovery.proofs.Calls.Ways.{each-way}
+use Rattle.recovery.proofs.Calls.NotRefused.{pos-most}
 use Rattle.recovery.proofs.Lone.Rank.{leftIn, next-fewer}
 use Rattle.recovery.proofs.Lone.Falls.{refill-left, refill-phase, moved-busy}
-use Rattle.recovery.proofs.Row.Rank.{turnRank, Settled, rank-zeroing, rank-plain, waits, waits-more, waits-le, extension, tailCost}
+use Rattle.recovery.proofs.Row.Rank.{turnRank, Settled, rank-zeroing, rank-plain, waits, waits-more, waits-le, tailCost}
 use Rattle.recovery.proofs.Row.Rank.{cost-tight, cost-there, cost-apart, cost-low, cost-caught}
-use Rattle.recovery.proofs.Row.Sight.{sight, seenAfter, Still, AllGrown, AllLinked, from-core, wi, word-is}
+use Rattle.recovery.proofs.Row.Sight.{sight, seenAfter, Still, AllGrown, AllLinked, from-core, wi}
 use Rattle.recovery.proofs.Row.Sight.{unstored-still, held-still, commit-grown, link-seen, link-linked}
 
 -- how a step of point n went, which has o other live points
@@ -168,7 +157,7 @@ module _ {E : Edition} {L : List ℕ} (w : World) (bk : Book) (h : Tied E L w bk
       → turnRank E o c q ≡ waits E (o + length (c .entries)) + tailCost E o c (q .head .place .block) + 1
   to-commit c q z e = rank-plain E o c q z ∙ rw e (omega arith)
 
-  link-fair : isZeroing (p .head .write .phase) ≡ true → E .blockWords ≤ p .head .write .position → nextIndex m (p .head .place .block) ≡ 0
+  link-fair : isZeroing (p .head .write .phase) ≡ true → E .blockWords ≤ p .head .write .position → wordAt E I (p .head .place .block) 0 ≡ 0
       → Goes (afterLink E m s p)
   unfolding afterLink
   link-fair z at e =
@@ -182,7 +171,7 @@ module _ {E : Edition} {L : List ℕ} (w : World) (bk : Book) (h : Tied E L w bk
       (inr (link-linked w bk h n j busyPhase z at (at-slot z) e))
 
   -- the next index that is there is not the tail's
-  lost-fair : isZeroing (p .head .write .phase) ≡ true → nextIndex m (p .head .place .block) ≢ 0 → Goes (afterGiveBack E m s p)
+  lost-fair : isZeroing (p .head .write .phase) ≡ true → wordAt E I (p .head .place .block) 0 ≢ 0 → Goes (afterGiveBack E m s p)
   unfolding afterGiveBack
   lost-fair z x =
       let r = afterGiveBack E m s p in
@@ -191,8 +180,7 @@ module _ {E : Edition} {L : List ℕ} (w : World) (bk : Book) (h : Tied E L w bk
       (unstored-still w bk h n j busyPhase r refl refl)
     where
       apart : p .head .place .block ≢ a .block
-      apart e = x (word-is w bk h n j busyPhase (p .head .place .block) 0 (omega arith)
-          ∙ ap (λ (y : ℕ). wordAt E I y 0) (e ∙ a-block) ∙ h .inv .core .log .tail .last)
+      apart e = x (ap (λ (y : ℕ). wordAt E I y 0) (e ∙ a-block) ∙ h .inv .core .log .tail .last)
 
       lower : (p .head .place .block ≡ a .block) ⊎ (a .slot + o < E .blockWords)
           → suc (waits E (o + length (a .entries)) + tailCost E o a (p .head .place .block) + 1)
@@ -201,11 +189,11 @@ module _ {E : Edition} {L : List ℕ} (w : World) (bk : Book) (h : Tied E L w bk
       lower (inr l) = let c = cost-low E o a (p .head .place .block) l in omega arith
 
   -- ---- extending: the point stands at the tail, which is full
-  extend-fair : isZeroing (p .head .write .phase) ≡ false → p .head .place .slot ≡ E .blockWords → nextIndex m (p .head .place .block) ≡ 0
+  extend-fair : isZeroing (p .head .write .phase) ≡ false → p .head .place .slot ≡ E .blockWords → wordAt E I (p .head .place .block) 0 ≡ 0
       → Goes (afterExtend E m s p (search s 1))
   unfolding afterExtend
   extend-fair z full e =
-      let st = walk-end (pi .place .walk) full (sym (word-is w bk h n j busyPhase (p .head .place .block) 0 (omega arith)) ∙ e) in
+      let st = walk-end (pi .place .walk) full e in
       let r = afterExtend E m s p (search s 1) in
       stays r refl refl refl refl (λ x. inl (st .block ∙ sym a-block))
       (rw (
@@ -266,78 +254,28 @@ module _ {E : Edition} {L : List ℕ} (w : World) (bk : Book) (h : Tied E L w bk
       (rw same (moved-lower (r .point) refl a-block (onward (h .inv .core .log .tail) (pi .place .walk) not-at) z))
       (inl (unstored-still w bk h n j busyPhase r refl refl))
 
+  -- at the tail the word is empty, or the block ends with no next index
+  not-at : (p .head .place .slot < E .blockWords → wordAt E I (p .head .place .block) (p .head .place .slot) ≢ 0)
+      → (p .head .place .slot ≡ E .blockWords → wordAt E I (p .head .place .block) 0 ≢ 0) → p .head .place .block ≡ T .blk → p .head .place .slot ≡ T .slot → ⊥
+  not-at e f b sl = go (decLt (T .slot) (E .blockWords))
+    where
+      t : Tail E I (h .inv .own) T
+      t = h .inv .core .log .tail
+
+      go : Dec (T .slot < E .blockWords) → ⊥
+      go (yes l) = e (omega arith) (rw (b, sl) (t .clean (T .slot) (omega arith) l))
+      go (no l) = f (omega (arith, t .high)) (rw b (t .last))
+
   -- ---- whichever way
-  abbrev q : Head
-  q = p .head
-
-  abbrev out : Plan → Outcome
-  out = carriedOut E m s p
-
-  zeroing-fair : isZeroing (x .phase) ≡ true → Goes (out (extending E m q (s .chain)))
-  zeroing-fair z = go (ltb (x .position) (E .blockWords)) (isZero (nextIndex m (q .place .block))) refl refl
-    where
-      go : (a b : Bool) → ltb (x .position) (E .blockWords) ≡ a → isZero (nextIndex m (q .place .block)) ≡ b → Goes (out (extending E m q (s .chain)))
-      go true b e f = let l = ltb-true (x .position) (E .blockWords) e in
-          subst Goes (sym (ap out (zero-on E m q (s .chain) e) ∙ zero-leaves E m s p l)) (zero-fair z l)
-      go false true e f =
-          let last = zero-is (nextIndex m (q .place .block)) f in
-          let room = lt-leb chainMax (s .chain) (link-room w bk h n j busyPhase z (at-slot z) last) in
-          subst Goes (sym (ap out (link-on E m q (s .chain) e f room) ∙ link-leaves E m s p)) (link-fair z (ltb-false (x .position) (E .blockWords) e) last)
-      go false false e f = subst Goes (sym (ap out (lost-on E m q (s .chain) e f) ∙ give-back-leaves E m s p)) (lost-fair z (nonzero _ f))
-
-  module _ (z : isZeroing (x .phase) ≡ false) (filled : runWords E x ≤ nextWord E x) where
-    -- at the tail the word is empty, or the block ends with no next index
-    not-at : empty E m q ≡ false → ended E m q ≡ false → q .place .block ≡ T .blk → q .place .slot ≡ T .slot → ⊥
-    not-at e f b sl = go (ltb (q .place .slot) (E .blockWords)) refl
-      where
-        go : (t : Bool) → ltb (q .place .slot) (E .blockWords) ≡ t → ⊥
-        go true l =
-            let k = ltb-true (q .place .slot) (E .blockWords) l in
-            let y = h .inv .core .log .tail .clean (T .slot) (omega arith) (omega arith) in
-            no-true (and-both (ltb (q .place .slot) (E .blockWords)) _ l
-            (is-zero _ (word-is w bk h n j busyPhase (q .place .block) (q .place .slot) k ∙ rw (b, sl) y))) e
-        go false l =
-            let k : q .place .slot ≡ E .blockWords =
-            omega (arith, ltb-false (q .place .slot) (E .blockWords) l, h .inv .core .log .tail .high) in
-            no-true (and-both (eqb (q .place .slot) (E .blockWords)) _ (eq-eqb (q .place .slot) (E .blockWords) k)
-            (is-zero _ (word-is w bk h n j busyPhase (q .place .block) 0 (omega arith) ∙ rw b (h .inv .core .log .tail .last)))) f
-
-    gives-up : (k : ℕ) → endsWrite k ≡ true → Goes (afterGiveUp E m s p k)
-    unfolding afterGiveUp
-    gives-up k e = ends e refl (inl (unstored-still w bk h n j busyPhase (afterGiveUp E m s p k) refl refl))
-
-    at-end : ended E m q ≡ true → (k : ℕ) → first (endReasons E m q s) ≡ k → Goes (out (atEnd E m q s))
-    at-end f zero e = subst Goes (sym
-        (ap out (extend-on E m q s e) ∙ extend-leaves E m s p (search s 1) (nonzero _ (passes (endReasons E m q s) refl e 1))))
-        (extend-fair z (eqb-true (q .place .slot) (E .blockWords) (and-left _ (isZero (nextIndex m (q .place .block))) f))
-        (zero-is (nextIndex m (q .place .block)) (and-right (eqb (q .place .slot) (E .blockWords)) _ f)))
-    at-end f (suc k) e = subst Goes (sym (ap out (give-on E m q s k e) ∙ give-up-leaves E m s p (suc k)))
-        (gives-up (suc k) (first-is (λ i. eqb i 20 || eqb i 21) (endReasons E m q s) refl k e))
-
-    commits : empty E m q ≡ true → Goes (afterCommit E m s p)
-    unfolding afterCommit
-    commits e =
-        let l = ltb-true (q .place .slot) (E .blockWords) (and-left _ (isZero (M.wordAt m (q .place .block) (q .place .slot))) e) in
-        let y = zero-is (M.wordAt m (q .place .block) (q .place .slot)) (and-right (ltb (q .place .slot) (E .blockWords)) _ e) in
-        ends refl refl (inr (commit-grown w bk h n j busyPhase filled z l
-        (sym (word-is w bk h n j busyPhase (q .place .block) (q .place .slot) l) ∙ y)))
-
-    committing-fair : Goes (out (committing E m q s))
-    committing-fair = go (empty E m q) (ended E m q) refl refl
-      where
-        go : (a b : Bool) → empty E m q ≡ a → ended E m q ≡ b → Goes (out (committing E m q s))
-        go true b e f = subst Goes (sym (ap out (store-on E m q s e) ∙ commit-leaves E m s p
-            (ltb-true (q .place .slot) (E .blockWords) (and-left _ (isZero (M.wordAt m (q .place .block) (q .place .slot))) e)))) (commits e)
-        go false true e f = subst Goes (sym (ap out (end-on E m q s e f))) (at-end f (first (endReasons E m q s)) refl)
-        go false false e f = subst Goes (sym (ap out (move-on E m q s e f) ∙ move-leaves E m s p (not-broken w bk h n j))) (moved-fair z (not-at e f))
-
   pub step-fair : Goes (stepping E I s p)
-  step-fair = subst Goes (sym (step-done w bk h n p p (writing-apart (x .phase) busyPhase) (step-on w bk h n j (writing-busy (x .phase) busyPhase))))
-      (go (isZeroing (x .phase)) (ltb (nextWord E x) (runWords E x)) refl refl)
-    where
-      go : (a b : Bool) → isZeroing (x .phase) ≡ a → ltb (nextWord E x) (runWords E x) ≡ b → Goes (out (writeOn E m s p))
-      go true b e f = subst Goes (sym (ap out (on-zeroing E m s p e))) (zeroing-fair e)
-      go false true e f = subst Goes (sym (ap out (on-filling E m s p e ∙ fill-on E m s p f) ∙ fill-leaves E m s p (nextWord E x)))
-          (fill-fair e (ltb-true (nextWord E x) (runWords E x) f))
-      go false false e f = subst Goes (sym (ap out (on-filling E m s p e ∙ commit-on E m s p f)))
-          (committing-fair e (ltb-false (nextWord E x) (runWords E x) f))
+  unfolding afterGiveUp afterCommit
+  step-fair = each-way w bk h n j busyPhase Goes (record {
+    fills = fill-fair;
+    zeroes = zero-fair;
+    links = link-fair;
+    loses = lost-fair;
+    commits = λ z filled l e. ends refl refl (inr (commit-grown w bk h n j busyPhase filled z l e));
+    extends = extend-fair;
+    gives-up = λ k e. ends e refl (inl (unstored-still w bk h n j busyPhase (afterGiveUp E m s p k) refl refl));
+    moves = λ z e f. moved-fair z (not-at e f);
+  })
