@@ -6,3 +6,5 @@ pub mod Listed
 pub mod OneTurn
 pub mod Round
 pub mod Begun
+pub mod Together
+pub mod Served

@@ -33,7 +33,7 @@ abbrev pub Apart : List Turn → Type 0
 Apart [] = Unit {0}
 Apart (t ∷ ts) = Each (λ u. u .number ≢ t .number) ts × Apart ts
 
-not-among : (k : ℕ) (ts : List Turn) → member k (map (λ t. t .number) ts) ≡ false → Each (λ u. u .number ≢ k) ts
+pub not-among : (k : ℕ) (ts : List Turn) → member k (map (λ t. t .number) ts) ≡ false → Each (λ u. u .number ≢ k) ts
 not-among k [] e = tt
 not-among k (t ∷ ts) e =
     (member-head k (t .number) (map (λ u. u .number) ts) e, not-among k ts (member-tail k (t .number) (map (λ u. u .number) ts) e))
@@ -86,6 +86,11 @@ fewer-unfinished (t ∷ ts) (e ∷ es) = let r = fewer-unfinished ts es in
     either t ts e es (λ us. length us ≤ length (t ∷ ts)) (λ g. omega arith) (λ g. omega arith)
 
 -- ---- calls one list after the other
+
+pub world-after : (E : Edition) (w : World) (cs ds : List Call) → world E w (cs ++ ds) ≡ world E (world E w cs) ds
+unfolding world
+world-after E w [] ds = refl
+world-after E w (c ∷ cs) ds = world-after E (serve E w c .world) cs ds
 
 pub events-after : (E : Edition) (w : World) (cs ds : List Call) → events E w (cs ++ ds) ≡ events E w cs ++ events E (world E w cs) ds
 unfolding events world
