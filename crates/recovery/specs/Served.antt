@@ -23,7 +23,7 @@ use Rattle.points.specs.declared.Stepped.{Stepped}
 use Rattle.points.specs.declared.Left.{Left}
 use Rattle.points.specs.Record.{isJoined}
 use Rattle.points.specs.Stepping.{bytesAfter}
-use Rattle.points.specs.Serving.{Request, Common, Service}
+use Rattle.points.specs.Serving.{Request, Service}
 use Rattle.recovery.specs.World.{World, join, begin, beginRead, step, leave, joined, begun, begunRead, stepped, left}
 use Rattle.recovery.specs.World.{handed, withNewest, joinedAs, serve, start, world}
 use Rattle.recovery.specs.Row.{Turn, rowCalls}

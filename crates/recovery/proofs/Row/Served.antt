@@ -93,8 +93,8 @@ module _ (E : Edition) where
   module _ (v : World) (t : Turn) (ts : List Turn) (p : Point) (ps : List Point) (qs : List Request) (c : Common) (e : commonOf v ≡ c)
       (apart : Each (λ u. u .number ≢ t .number) ts) (hand : handed v (t .number) (t .given) ≡ p) (number : t .number ≡ p .head .number)
       (g : Hands v ts ps qs)
-      (ih : (u : World) (d : Common) → commonOf u ≡ d → Hands u ts ps qs → let r = inTurn (beginTurn E) d (asking ps qs) in Began u ts (r .common) (r .own))
-      where
+      (ih : (u : World) (d : Common) → commonOf u ≡ d → Hands u ts ps qs
+      → let r = inTurn (beginTurn E) d (asking ps qs) in Began u ts (r .common) (r .own)) where
     abbrev n : ℕ
     n = t .number
 
