@@ -90,10 +90,10 @@ module _ {E : Edition} {L : List ℕ} (w : W.World) (bk : Book) (h : Tied E L w 
   word-is : q .place .slot < E .blockWords → M.wordAt m (q .place .block) (q .place .slot) ≡ wordAt E I (q .place .block) (q .place .slot)
   word-is l = word-view E I (s .blocks) (h .inv .core .image .size) (q .place .block) (q .place .slot) l
 
-  -- the slot behind the last, where a zeroing point stands
   zeroing-way : isZeroing (x .phase) ≡ true → P (out (extending E m q (s .chain)))
   zeroing-way z = go (ltb (x .position) (E .blockWords)) (isZero (nextIndex m (q .place .block))) refl refl
     where
+      -- a zeroing point stands at the slot behind the last
       full : q .place .slot ≡ E .blockWords
       full = (rw (isBusy w bk h n j busyPhase) at (h .inv .points n j .atEnd)) (zeroing-phase (x .phase) z) .0
 
