@@ -192,7 +192,7 @@ knownAfter E v known (leave n p) = 0
 
 -- ---- what is known stays
 
-Known : World → ℕ → Type 0
+pub Known : World → ℕ → Type 0
 Known w known = (n : ℕ) → known ≡ suc n → (isJoined (w .shared) n ≡ true) × (allBelow (w .shared .blocks) (w .newest n .table) ≡ true)
 
 fit-is : (E : Edition) (w : World) (known n : ℕ) (p : Point) → Known w known
@@ -255,7 +255,7 @@ known-step E w n p j c f i e =
           ∙ ap₂ (λ (s : Shared) (t : List ℕ). allBelow (s .blocks) t) (q .0) (q .1) ∙ f,
     )
 
-nothing-known : (w : World) → Known w 0
+pub nothing-known : (w : World) → Known w 0
 unfolding Known
 nothing-known w n e = absurd (omega arith)
 
@@ -330,12 +330,12 @@ serve-length E w (leave n p) = refl
 serve-whole : (E : Edition) (w : World) (c : Call) → Whole E (w .words) → Whole E (serve E w c .world .words)
 serve-whole E w c e = subst (λ (n : ℕ). n ≡ n / E .blockWords * E .blockWords) (sym (serve-length E w c)) e
 
-world-whole : (E : Edition) (w : World) (cs : List Call) → Whole E (w .words) → Whole E (world E w cs .words)
+pub world-whole : (E : Edition) (w : World) (cs : List Call) → Whole E (w .words) → Whole E (world E w cs .words)
 unfolding world
 world-whole E w [] e = e
 world-whole E w (c ∷ cs) e = world-whole E (serve E w c .world) cs (serve-whole E w c e)
 
-cut-run-is : (E : Edition) (w : World) (known : ℕ) (cs : List Call) → Whole E (w .words) → Known w known
+pub cut-run-is : (E : Edition) (w : World) (known : ℕ) (cs : List Call) → Whole E (w .words) → Known w known
     → cutRun E (cutWorld E w) known cs ≡ ran (events E w cs) (cutWorld E (world E w cs))
 unfolding cutRun events world
 cut-run-is E w known [] e k = refl

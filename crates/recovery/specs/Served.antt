@@ -4,11 +4,12 @@
 use Prim.Native.Nat.{ℕ, _+_, _*_, _<_}
 use mathlib.Core.Path.{_≡_}
 use mathlib.Core.Bool.{true, false}
-use mathlib.Core.List.{List, _++_}
+use mathlib.Core.List.{List, [], _∷_, _++_, map}
 use lib.ListN.{length, getD, drop}
 use Rattle.words.specs.Edition.{Edition, blockBytes, fileBlocks}
 use Rattle.words.specs.Memory.{memory}
-use Rattle.log.specs.declared.Reply.the-variants.{Done}
+use Rattle.words.specs.Logic.{member}
+use Rattle.log.specs.declared.Reply.the-variants.{Done, Refused}
 use Rattle.log.specs.Replay.{mappedByte}
 use Rattle.log.specs.Opening.{openRefusal, numberOf}
 use Rattle.log.specs.declared.Shared.{Shared}
@@ -22,8 +23,10 @@ use Rattle.points.specs.declared.Stepped.{Stepped}
 use Rattle.points.specs.declared.Left.{Left}
 use Rattle.points.specs.Record.{isJoined}
 use Rattle.points.specs.Stepping.{bytesAfter}
+use Rattle.points.specs.Serving.{Request, Service}
 use Rattle.recovery.specs.World.{World, join, begin, beginRead, step, leave, joined, begun, begunRead, stepped, left}
-use Rattle.recovery.specs.World.{handed, withNewest, joinedAs, serve, start}
+use Rattle.recovery.specs.World.{handed, withNewest, joinedAs, serve, start, world}
+use Rattle.recovery.specs.Row.{Turn, rowCalls}
 use Rattle.recovery.specs.History.{History, openWorld, atCut, bookFile, isFault}
 use Rattle.recovery.specs.Claim.{partOf}
 
@@ -103,3 +106,29 @@ LocateServed E words s head table v r =
     (h : History E) (n : ℕ) → StandsAt h words s n head table
     → (isFault (numberOf (r .reply)) ≡ false)
     × ((q : ℕ) → v < fileBlocks → q < blockBytes E → mappedByte (memory E words) (r .count) q ≡ getD (bookFile h) (blockBytes E * v + q) 0)
+
+-- ---- the call that serves a list of points, as a row of calls (document 02, K6)
+
+-- a world in which these turns are of these points, each with its number, and of these writes
+abbrev pub TurnsOf : World → List ℕ → Shared → List Turn → List Point → List Request → Type 0
+TurnsOf w words s [] [] [] = Unit {0}
+TurnsOf w words s (t ∷ ts) (p ∷ ps) (q ∷ qs) =
+    (HandsIn w words s (t .number) (t .given) p × (t .number ≡ p .head .number) × (t .request ≡ q)) × TurnsOf w words s ts ps qs
+TurnsOf w words s [] [] (q ∷ qs) = ⊥
+TurnsOf w words s [] (p ∷ ps) qs = ⊥
+TurnsOf w words s (t ∷ ts) [] qs = ⊥
+TurnsOf w words s (t ∷ ts) (p ∷ ps) [] = ⊥
+
+-- the row leaves image and shared record as the call does, the newest records of the listed points too, and those of all others as they were
+pub record RowServed (w v : World) (ts : List Turn) (r : Service) : Type 0 where
+  pub image : v .words ≡ r .common .words
+  pub shared : v .shared ≡ r .common .shared
+  pub listed : map (λ t. v .newest (t .number)) ts ≡ r .points
+  pub others : (k : ℕ) → member k (map (λ t. t .number) ts) ≡ false → v .newest k ≡ w .newest k
+
+-- refused, nothing is begun
+unfoldable pub ServeServed : Edition → List ℕ → Shared → List Point → List Request → Service → Type 0
+ServeServed E words s points requests r =
+    (r .reply ≡ Done → (w : World) → w .words ≡ words → w .shared ≡ s → (ts : List Turn) → TurnsOf w words s ts points requests
+    → RowServed w (world E w (rowCalls E w ts)) ts r)
+    × ((n : ℕ) → r .reply ≡ Refused n → (r .common ≡ record { words = words; shared = s }) × (r .points ≡ points))

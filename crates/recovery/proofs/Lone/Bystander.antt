@@ -1,4 +1,5 @@
--- What a call that is not the point's own step, and not its leaving, leaves to a point whose write or read is under way: the image, its record, its bit.
+-- What a call that is not the point's own step, and not its leaving, leaves to a point whose write or read is under way: the image and its blocks, its
+-- record, its bit.
 -- Its own joining and beginning are refused, by 13 and 15.
 use mathlib.Core.Path.{_≡_, refl, sym, ap, _∙_, subst}
 use mathlib.Core.Logic.{_≢_}
@@ -29,6 +30,7 @@ pub record Kept (w v : World) (n : ℕ) : Type 0 where
   pub words : v .words ≡ w .words
   pub newest : v .newest n ≡ w .newest n
   pub joined : isJoined (v .shared) n ≡ true
+  pub blocks : v .shared .blocks ≡ w .shared .blocks
 
 module _ {E : Edition} {L : List ℕ} (w : World) (bk : Book) (h : Tied E L w bk) (n : ℕ) (j : isJoined (w .shared) n ≡ true)
     (busy : isIdle (w .newest n .head .write .phase) ≡ false) where
@@ -40,11 +42,12 @@ module _ {E : Edition} {L : List ℕ} (w : World) (bk : Book) (h : Tied E L w bk
       after r = record { words = w .words; shared = r .shared; newest = joinedAs (r .reply) w k (r .point) }
 
       go : (i : ℕ) → joinRefusal E (w .words) (w .shared) k ≡ i → Kept w (after (joining E (w .words) (w .shared) k)) n
-      go (suc i) e = subst (λ (r : Joined). Kept w (after r) n) (sym (join-eq-refused w bk h k i e)) (record { words = refl; newest = refl; joined = j })
+      go (suc i) e = subst (λ (r : Joined). Kept w (after r) n) (sym (join-eq-refused w bk h k i e))
+          (record { words = refl; newest = refl; joined = j; blocks = refl })
       go zero e =
           let apart : n ≢ k = λ s. no-true (rw s at j) (join-apart E (w .words) (w .shared) k e) in
           subst (λ (r : Joined). Kept w (after r) n) (sym (join-eq-done w bk h k e))
-          (record { words = refl; newest = withNewest-other w k _ n apart; joined = withBit-other true (w .shared .joined) k n apart ∙ j })
+          (record { words = refl; newest = withNewest-other w k _ n apart; joined = withBit-other true (w .shared .joined) k n apart ∙ j; blocks = refl })
 
   -- one that begins is idle, so another
   busy-apart : (k : ℕ) (p : PP.Point) → not (isIdle (handed w k p .head .write .phase)) ≡ false → n ≢ k
@@ -65,11 +68,11 @@ module _ {E : Edition} {L : List ℕ} (w : World) (bk : Book) (h : Tied E L w bk
       go : (i : ℕ) → beginRefusal E (w .words) (w .shared) (y .head) (y .table) o (length text) ≡ i
           → Kept w (after (beginning E (w .words) (w .shared) y o text)) n
       go (suc i) e = subst (λ (r : Begun). Kept w (after r) n) (sym (begin-eq-refused w bk h k p o text bytes y i e))
-          (record { words = refl; newest = withNewest-handed w k p n j; joined = j })
+          (record { words = refl; newest = withNewest-handed w k p n j; joined = j; blocks = refl })
       go zero e =
           let apart = busy-apart k p (begin-idle E (w .words) (w .shared) y o (length text) (begin-either E (w .words) (w .shared) y o (length text) e)) in
           subst (λ (r : Begun). Kept w (after r) n) (sym (begin-eq-done w bk h k p o text bytes y e))
-          (record { words = refl; newest = withNewest-other w k _ n apart; joined = j })
+          (record { words = refl; newest = withNewest-other w k _ n apart; joined = j; blocks = refl })
 
   pub begin-read-kept : (k : ℕ) (p : PP.Point) (o size : ℕ) → Kept w (serve E w (beginRead k p o size) .world) n
   unfolding serve
@@ -84,10 +87,15 @@ module _ {E : Edition} {L : List ℕ} (w : World) (bk : Book) (h : Tied E L w bk
       go : (i : ℕ) → beginReadRefusal E (w .words) (w .shared) (y .head) (y .table) o size ≡ i
           → Kept w (after (beginningRead E (w .words) (w .shared) y o size)) n
       go (suc i) e = subst (λ (r : Begun). Kept w (after r) n) (sym (begin-read-eq-refused w bk h k p o size y i e))
-          (record { words = refl; newest = withNewest-handed w k p n j; joined = j })
+          (record { words = refl; newest = withNewest-handed w k p n j; joined = j; blocks = refl })
       go zero e =
           subst (λ (r : Begun). Kept w (after r) n) (sym (begin-read-eq-done w bk h k p o size y e))
-          (record { words = refl; newest = withNewest-other w k _ n (busy-apart k p (begin-idle E (w .words) (w .shared) y o size e)); joined = j })
+          (record {
+            words = refl;
+            newest = withNewest-other w k _ n (busy-apart k p (begin-idle E (w .words) (w .shared) y o size e));
+            joined = j;
+            blocks = refl;
+          })
 
   pub leave-kept : (k : ℕ) (p : PP.Point) → k ≢ n → Kept w (serve E w (leave k p) .world) n
   unfolding serve
@@ -100,10 +108,11 @@ module _ {E : Edition} {L : List ℕ} (w : World) (bk : Book) (h : Tied E L w bk
       after r = record { words = w .words; shared = r .shared; newest = w .newest }
 
       go : (i : ℕ) → unfit E (w .words) (w .shared) (y .head) (y .table) ≡ i → Kept w (after (leaving E (w .words) (w .shared) y)) n
-      go (suc i) e = subst (λ (r : Left). Kept w (after r) n) (sym (leave-eq-refused w bk h k p i e)) (record { words = refl; newest = refl; joined = j })
+      go (suc i) e = subst (λ (r : Left). Kept w (after r) n) (sym (leave-eq-refused w bk h k p i e))
+          (record { words = refl; newest = refl; joined = j; blocks = refl })
       go zero e =
           let own = is-joined w bk h k p (leave-joined E (w .words) (w .shared) y e) in
           let num : y .head .number ≡ k = ap (λ (q : PP.Point). q .head .number) (handed-newest w k p own) ∙ h .numbers k own in
           let other : n ≢ y .head .number = λ s. apart (sym (s ∙ num)) in
           subst (λ (r : Left). Kept w (after r) n) (sym (leave-eq-done w bk h k p e))
-          (record { words = refl; newest = refl; joined = withBit-other false (w .shared .joined) (y .head .number) n other ∙ j })
+          (record { words = refl; newest = refl; joined = withBit-other false (w .shared .joined) (y .head .number) n other ∙ j; blocks = refl })
