@@ -6,6 +6,7 @@ ghost use Rattle.log.specs.Opening.{layoutRefusal, layout};
 ghost use Rattle.log.specs.Listing.{rowsOf};
 ghost use Rattle.c_lent.specs.Calls.{OpensFor, left, stepLeft, sharedLeft, readLeft};
 ghost use Rattle.c_lent.specs.Calls.{sharedFor, joinFor, beginFor, beginReadFor, stepFor, leaveFor, readFor, locateFor};
+ghost use Rattle.c_lent.specs.Serving.{commonLent, serveLeft, serveFor};
 ghost use Rattle.c_api.specs.Records.{version, sharedParts, pointParts, textlessParts};
 use c_lent::Answer;
 use c_lent::Count;
@@ -31,7 +32,7 @@ pub struct PointRecord {
 pub extern "C" fn store_version() -> u32
     ensures { λ r. ⌜ r ≡ version ⌝ }
 {
-    4
+    5
 }
 
 #[no_mangle]
@@ -202,4 +203,33 @@ pub extern "C" fn store_open(
         × (sharedParts (now (shared .exit)) ≡ sharedFor (now (image .entry)) (now (scratch .entry))) ⌝ }
 {
     c_lent::open(image, scratch, &mut shared.numbers, &mut shared.taken)
+}
+
+#[no_mangle]
+pub extern "C" fn store_serve(
+    image: &mut [u64],
+    shared: &mut SharedRecord,
+    heads: &mut [[u32; 11]],
+    tables: &mut [[u16; 256]],
+    texts: &mut [[u8; 1024]],
+    answers: &mut [[u32; 2]],
+    writes: &[[usize; 2]],
+    bytes: &[u8],
+) -> u32
+    ensures { λ r. ⌜ serveLeft r (commonLent (now (image .exit)) (sharedParts (now (shared .exit))))
+        (now (heads .exit)) (now (tables .exit)) (now (texts .exit)) (now (answers .exit))
+        ≡ serveFor (commonLent (now (image .entry)) (sharedParts (now (shared .entry))))
+        (now (heads .entry)) (now (tables .entry)) (now (texts .entry)) (now (answers .entry)) (now (writes .entry)) (now (bytes .entry)) ⌝ }
+{
+    c_lent::serve::serve(
+        image,
+        &mut shared.numbers,
+        &mut shared.taken,
+        heads,
+        tables,
+        texts,
+        answers,
+        writes,
+        bytes,
+    )
 }
