@@ -257,6 +257,12 @@ uint32_t store_begin_read(const uint64_t *image, size_t words, store_shared *sha
    write. */
 store_answer store_step(uint64_t *image, size_t words, store_shared *shared, store_point *point, uint8_t *bytes);
 
+/* The library's call behind store_serve: it takes the shared record as its numbers, 35 from `blocks` on, and its map. */
+uint32_t store_serve_parts(uint64_t *image, size_t words, uint32_t *numbers, uint64_t *taken, store_head *heads, size_t head_count,
+                           uint16_t (*tables)[256], size_t table_count, uint8_t (*texts)[1024], size_t text_count,
+                           store_served *answers, size_t answer_count, const store_write *writes, size_t write_count,
+                           const uint8_t *bytes, size_t size);
+
 /* Serves a list of 1 to 32 points with one write each, the n points at places 0 to n - 1 of the arrays: begins all writes in list order,
    then gives each unfinished one a step a round, in list order, until all are done: after at most 129 * (n - 1) + 260 rounds. It leaves
    what these calls of store_begin and store_step leave, one after the other; a point refused at its beginning or at a step gets no
@@ -270,9 +276,14 @@ store_answer store_step(uint64_t *image, size_t words, store_shared *shared, sto
    of store_begin and of store_step.
    Words are stored in the order of the steps, with nothing between them: where each must be written back before the next (a cached image),
    use store_begin and store_step. */
-uint32_t store_serve(uint64_t *image, size_t words, store_shared *shared, store_head *heads, size_t head_count, uint16_t (*tables)[256],
-                     size_t table_count, uint8_t (*texts)[1024], size_t text_count, store_served *answers, size_t answer_count,
-                     const store_write *writes, size_t write_count, const uint8_t *bytes, size_t size);
+static inline uint32_t store_serve(uint64_t *image, size_t words, store_shared *shared, store_head *heads, size_t head_count,
+                                   uint16_t (*tables)[256], size_t table_count, uint8_t (*texts)[1024], size_t text_count,
+                                   store_served *answers, size_t answer_count, const store_write *writes, size_t write_count,
+                                   const uint8_t *bytes, size_t size)
+{
+    return store_serve_parts(image, words, &shared->blocks, shared->taken, heads, head_count, tables, table_count, texts, text_count,
+                             answers, answer_count, writes, write_count, bytes, size);
+}
 
 /* Puts a point's record into place i of the three arrays, as after joining; and gets it from there, for a call that takes a whole record.
    Of the two copies only the one that a call has changed last is the point's record. */

@@ -3,7 +3,7 @@
 --     slice-in, slice-out, record-in, record-out, array-out, number-in     the kinds: a `&` and a `&mut` slice, a `&` and a `&mut` record,
 --       a `&mut` array, a number
 --     Kinds, stays     for a function's parameters.      valued, passed     their machine values, by parameter and in a row
---     Walked           what a walk shows.      Done     what it ends in.      Exits, ends-well     its last step: the contract's clause holds of what is had
+--     Walked           what a walk shows.      Exits, ends-well     its last step: the contract's clause holds of what is had
 --     proved-by        the theorem, from the walk at every choice of lifetimes, shares and arguments, and the callee's theorem
 -- `ends-well` takes `Given`. The rest assumes nothing.
 use mathlib.Core.Path.{_≡_, refl}
@@ -139,7 +139,7 @@ module _ (T : Ended) (hs : Kinds (T .signature .params) (T .kept)) where
       (qs : Shares (T .signature .lifetimes)) (bounds : AllOutlive (T .signature .lifetimes) (T .signature .outlives) κs)
       (a : Args (T .signature) κs) (g : c κs a .ghost) where
     -- what a walk ends in
-    abbrev pub Done : Val → SProp 𝓤
+    abbrev Done : Val → SProp 𝓤
     Done = walkOf 𝓤 H A T stayed c .post ((κs, qs, bounds, a, valued κs a), g)
 
     -- what a walk shows, of the function's code

@@ -1,10 +1,9 @@
--- Both records, as `Parts.antt` lends them; and the arrays that are lent: the room for a read's bytes; in lists of points heads, tables, texts, answers, writes.
--- Assumes nothing.
+-- Both records, as `Parts.antt` lends them; and the room for a read's bytes. Assumes nothing.
 use Prim.Native.Nat.{ℕ, _+_}
 use mathlib.Core.List.{List, map-id}
 use base.Fml.{GName}
 use denote.Array.{Array}
-use denote.Builtin.{u8, u16, u32, usize}
+use denote.Builtin.{u8}
 use denote.Laws.{Is, shows}
 use denote.Memory.{part-halves}
 use denote.RattleType.{RattleType}
@@ -26,18 +25,6 @@ PointRow = P.the-row
 
 abbrev pub BytesRow : RattleType
 BytesRow = Array u8 1024
-
-abbrev pub HeadRow : RattleType
-HeadRow = Array u32 11
-
-abbrev pub TableRow : RattleType
-TableRow = Array u16 256
-
-abbrev pub AnswerRow : RattleType
-AnswerRow = Array u32 2
-
-abbrev pub WriteRow : RattleType
-WriteRow = Array usize 2
 
 abbrev pub Shared : Lendable
 Shared = record {

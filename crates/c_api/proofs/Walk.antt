@@ -63,7 +63,6 @@ pub use Rattle.c_api.specs.Records.{sharedParts, pointParts, textlessPar
 pub use Rattle.c_api.proofs.Parts.{stars}
 pub use Rattle.c_api.proofs.Params.{Param, Xs, Zs, facts, alive, owns, served}
 pub use Rattle.c_api.proofs.Handed.{shr-slice, mut-slice, mut-array, number, mut-record, shr-record}
-pub use Rattle.c_api.proofs.Records.{Shared, SharedRow, numbersRef, takenRef, sharedAt, Point, PointRow, headRef, tableRef, textRef, pointAt}
-pub use Rattle.c_api.proofs.Records.{BytesRow, HeadRow, TableRow, AnswerRow, WriteRow}
+pub use Rattle.c_api.proofs.Records.{Shared, SharedRow, numbersRef, takenRef, sharedAt, Point, PointRow, headRef, tableRef, textRef, pointAt, BytesRow}
 pub use Rattle.c_api.proofs.Locals.{starts, slice-fits, pointer-fits, number-fits, lends-field, lends-whole, lends-start, lends-slice, loads, goes-home}
 pub use Rattle.c_api.proofs.Ends.{Kinds, slice-in, slice-out, record-in, record-out, array-out, number-in, passed, Walked, Exits, ends-well, proved-by}
