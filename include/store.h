@@ -281,7 +281,7 @@ static inline uint32_t store_serve(uint64_t *image, size_t words, store_shared *
                                    store_served *answers, size_t answer_count, const store_write *writes, size_t write_count,
                                    const uint8_t *bytes, size_t size)
 {
-    return store_serve_parts(image, words, &shared->blocks, shared->taken, heads, head_count, tables, table_count, texts, text_count,
+    return store_serve_parts(image, words, (uint32_t *)shared, shared->taken, heads, head_count, tables, table_count, texts, text_count,
                              answers, answer_count, writes, write_count, bytes, size);
 }
 
