@@ -1,7 +1,8 @@
 /* The main loop of a controller over the calls of store.h: 8 points, or as many as the argument says (1 to 32), each with a queue of readings.
 
-   The program fills two files: in the first, one counter gives each reading its place; in the second, each point has blocks of its own. Each time
-   the power fails once in the middle and once at the end; the file is opened again, read and checked. docs/GUIDE.md explains it and quotes the loop. */
+   The program fills two files: in the first, one counter gives each reading its place; in the second, each point has blocks of its own. Each turn of
+   the loop is one call that serves all points with a reading waiting. Each time the power fails once in the middle of such a call and once at the end;
+   the file is opened again, read and checked. docs/GUIDE.md explains it and quotes the loop. */
 #include <stdio.h>
 #include <stdlib.h>
 #include <string.h>
@@ -12,23 +13,25 @@ enum {
     READING = 32,   /* bytes of a reading: a divisor of 512, so that none lies in two blocks */
     READINGS = 24,  /* of each point */
     QUEUE = 4,      /* readings that wait at a point, at most */
-    EVERY = 50,     /* turns between two readings of a point */
-    STEPS = 1,      /* of each point in a turn */
-    CUT = 1000,     /* turns before the power fails */
+    EVERY = 3,      /* turns between two readings of a point */
+    CUT = 40,       /* the turn in which the power fails */
     BLOCK = 512     /* bytes of a block */
 };
 
-/* Memory that survives. `image` is what the processor sees, through its cache; `arrived` stands for the memory behind the cache. */
+/* Memory that survives, mapped so that each store arrives there before the next. */
 static uint64_t image[STORE_BLOCKS_MOST * STORE_BLOCK_WORDS];
-static uint64_t arrived[STORE_BLOCKS_MOST * STORE_BLOCK_WORDS];
 static int new_file_wanted; /* a note of the firmware's own, outside the image */
 
 /* Ordinary memory. */
 static size_t words; /* of the image that are used */
 static store_shared shared;
-static store_point points[STORE_POINTS];
+static store_head heads[STORE_POINTS]; /* the points' records, in any order: heads[i].number says whose are at place i */
+static uint16_t tables[STORE_POINTS][STORE_VIRTUAL_BLOCKS];
+static uint8_t texts[STORE_POINTS][STORE_TEXT_MOST];
+static store_write writes[STORE_POINTS]; /* of the list that is served, with their bytes and what each point is answered */
+static uint8_t readings[STORE_POINTS * READING];
+static store_served answers[STORE_POINTS];
 static uint16_t scratch[STORE_SCRATCH];
-static uint8_t bytes[STORE_TEXT_MOST]; /* for reads in steps: examples/display.c */
 static size_t reserved; /* bytes of the file that have been given to readings */
 static size_t places[STORE_POINTS];
 static int has_place[STORE_POINTS];
@@ -44,7 +47,7 @@ static struct {
 /* How many points, which places, and what is counted. */
 static uint32_t count = 8;
 static int own_blocks;
-static uint32_t turns, steps, moved;
+static uint32_t turns, calls, listed, moved;
 
 static void fault(const char *what, uint32_t number)
 {
@@ -69,13 +72,6 @@ static void measure(uint32_t p, uint32_t number, uint8_t text[READING])
     text[2] = (uint8_t)number;
 }
 
-/* Makes a stored word last before anything else is stored. On a board: write back the cache line of image[word] and wait until it has arrived;
-   nothing where the image is not cached. */
-static void make_lasting(size_t word)
-{
-    arrived[word] = image[word];
-}
-
 /* Opens the file, after every reset; all points join. It lays out on order only, never because opening was refused. */
 static store_opened start(void)
 {
@@ -83,17 +79,17 @@ static store_opened start(void)
         uint32_t refused = store_lay_out(image, words);
         if (refused != STORE_DONE)
             turned_down("laying out was refused", refused);
-        for (size_t w = 0; w < 2 * STORE_BLOCK_WORDS; w++)
-            make_lasting(w);
         new_file_wanted = 0;
     }
     store_opened opened = store_open(image, words, scratch, STORE_SCRATCH, &shared);
     if (opened.refused != STORE_DONE)
         turned_down("the image does not open; save it, call service", opened.refused);
     for (uint32_t p = 0; p < count; p++) {
-        uint32_t refused = store_join(image, words, &shared, p, &points[p]);
+        store_point point;
+        uint32_t refused = store_join(image, words, &shared, p, &point);
         if (refused != STORE_DONE)
             turned_down("joining was refused", refused);
+        store_put(heads, tables, texts, p, &point);
     }
     reserved = ((size_t)opened.length + READING - 1) / READING * READING;
     memset(has_place, 0, sizeof has_place);
@@ -101,6 +97,21 @@ static store_opened start(void)
     recording = 1;
     scarce = 0;
     return opened;
+}
+
+/* After a loss of power: a reading that was stored and not yet acknowledged is known by its number, and acknowledged now. */
+static void acknowledge_found(uint32_t length)
+{
+    store_point point;
+    uint8_t text[READING];
+    store_get(heads, tables, texts, 0, &point);
+    for (size_t place = 0; place < length; place += READING) {
+        store_count got = store_read(image, words, &shared, &point, place, text, READING);
+        if (got.refused != STORE_DONE)
+            turned_down("reading was refused", got.refused);
+        if (text[0] != 0 && text[2] == queues[text[1]].stored)
+            queues[text[1]].stored++;
+    }
 }
 
 /* The place in the file of point p's oldest reading. The counter gives it once, and it is kept until the reading is stored. */
@@ -116,61 +127,69 @@ static size_t place_of(uint32_t p)
     return places[p];
 }
 
-static int another_writes(uint32_t p)
+/* Two records change places. */
+static void exchange(uint32_t i, uint32_t k)
 {
-    for (uint32_t q = 0; q < count; q++)
-        if (q != p && points[q].head.phase != STORE_IDLE)
-            return 1;
-    return 0;
+    store_point one, other;
+    store_get(heads, tables, texts, i, &one);
+    store_get(heads, tables, texts, k, &other);
+    store_put(heads, tables, texts, k, &one);
+    store_put(heads, tables, texts, i, &other);
 }
 
-/* A beginning or a step was refused. The reading stays in its queue. */
-static void refused_write(uint32_t p, uint32_t why)
+/* Lists the points that have a reading waiting: brings their records to the front, and says what each writes. Answers how many. */
+static uint32_t list_waiting(void)
+{
+    uint32_t n = 0;
+    for (uint32_t i = 0; i < count && !(scarce && n == 1); i++) {
+        uint32_t p = heads[i].number;
+        if (queues[p].stored == queues[p].made)
+            continue;
+        if (i != n)
+            exchange(i, n);
+        measure(p, queues[p].stored, readings + (size_t)n * READING);
+        writes[n].offset = place_of(p);
+        writes[n].size = READING;
+        n++;
+    }
+    return n;
+}
+
+/* A write of a list of n was refused. The reading stays in its queue. */
+static void refused_write(uint32_t n, uint32_t why)
 {
     int no_block = why == STORE_NO_RUN || why == STORE_NO_LOG_BLOCK;
-    if (no_block && (!scarce || another_writes(p)))
-        scarce = 1; /* try again, but one at a time: else each block that one gives up is taken by another, and nobody commits */
+    if (no_block && n > 1)
+        scarce = 1; /* try again, but one at a time */
     else if (no_block || why == STORE_PAST_END || why == STORE_LOG_FULL)
         recording = 0; /* the file is full */
     else
         turned_down("a write was refused", why);
 }
 
-static void begin_oldest(uint32_t p)
-{
-    uint8_t text[READING];
-    measure(p, queues[p].stored, text);
-    uint32_t refused = store_begin(image, words, &shared, &points[p], place_of(p), text, READING);
-    if (refused != STORE_DONE)
-        refused_write(p, refused);
-}
-
-static void step(uint32_t p)
-{
-    store_answer answer = store_step(image, words, &shared, &points[p], bytes);
-    steps++;
-    if (answer.word != 0)
-        make_lasting(answer.word); /* before anything else is stored */
-    if (answer.kind == STORE_COMMITTED) {
-        queues[p].stored++; /* acknowledged now, and not before */
-        has_place[p] = 0;
-        entries++;
-    }
-    if (answer.kind == STORE_MOVED)
-        moved++;
-    if (answer.kind == STORE_REFUSED)
-        refused_write(p, answer.value);
-}
-
 static void turn(void)
 {
-    for (uint32_t p = 0; p < count; p++) {
-        int waiting = recording && queues[p].stored < queues[p].made;
-        if (waiting && points[p].head.phase == STORE_IDLE && !(scarce && another_writes(p)))
-            begin_oldest(p);
-        for (int k = 0; k < STEPS && points[p].head.phase != STORE_IDLE; k++)
-            step(p);
+    uint32_t n = list_waiting();
+    if (n == 0)
+        return;
+    uint32_t refused =
+        store_serve(image, words, &shared, heads, n, tables, n, texts, n, answers, n, writes, n, readings, (size_t)n * READING);
+    if (refused != STORE_DONE)
+        turned_down("the list was refused", refused);
+    for (uint32_t i = 0; i < n; i++) {
+        uint32_t p = heads[i].number;
+        if (answers[i].kind == STORE_COMMITTED) {
+            queues[p].stored++; /* acknowledged now, and not before */
+            has_place[p] = 0;
+            entries++;
+            moved += answers[i].value;
+        } else if (answers[i].kind == STORE_REFUSED)
+            refused_write(n, answers[i].value);
+        else
+            fault("a write that does not end, of point", p);
     }
+    calls++;
+    listed += n;
 }
 
 /* The devices measure: a reading every so many turns, as long as there is room in the queue. Answers whether a reading is still to be stored. */
@@ -185,13 +204,36 @@ static int devices_measure(void)
     return more;
 }
 
-/* The power fails and comes back: ordinary memory is lost, and of the image what had not arrived. */
+/* The power fails and comes back: ordinary memory is lost. */
 static void lose_power(void)
 {
-    memcpy(image, arrived, sizeof image);
     memset(&shared, 0xFF, sizeof shared);
-    memset(points, 0xFF, sizeof points);
+    memset(heads, 0xFF, sizeof heads);
+    memset(tables, 0xFF, sizeof tables);
+    memset(texts, 0xFF, sizeof texts);
     reserved = entries = 0;
+}
+
+/* The power fails inside a turn's call, right after the first write of its list is committed. The call makes these beginnings and steps in this order,
+   so the image is as the call leaves it at that moment. */
+static void turn_cut_short(void)
+{
+    static store_point points[STORE_POINTS];
+    uint8_t room[STORE_TEXT_MOST]; /* for reads in steps: examples/display.c */
+    store_answer answer = {0, 0, 0};
+    uint32_t n = list_waiting();
+    for (uint32_t i = 0; i < n; i++) {
+        store_get(heads, tables, texts, i, &points[i]);
+        uint32_t refused = store_begin(image, words, &shared, &points[i], writes[i].offset, readings + (size_t)i * READING, READING);
+        if (refused != STORE_DONE)
+            turned_down("a write was refused", refused);
+    }
+    for (uint32_t i = 0; n > 0 && answer.kind != STORE_COMMITTED; i = (i + 1) % n) {
+        answer = store_step(image, words, &shared, &points[i], room);
+        if (answer.kind == STORE_REFUSED)
+            turned_down("a write was refused", answer.value);
+    }
+    lose_power();
 }
 
 /* Free blocks at this moment: what opening answers, kept up by every call. */
@@ -208,12 +250,14 @@ static uint32_t free_blocks(void)
 static uint32_t check_file(uint32_t length)
 {
     uint8_t seen[STORE_POINTS][READINGS] = {{0}}, none[READING] = {0}, text[READING], wanted[READING];
+    store_point point;
+    store_get(heads, tables, texts, 0, &point);
     uint32_t found = 0, empty = 0;
     for (size_t place = 0; place < length; place += READING) {
-        store_count got = store_read(image, words, &shared, &points[0], place, text, READING);
+        store_count got = store_read(image, words, &shared, &point, place, text, READING);
         if (got.refused != STORE_DONE || got.count != READING)
             turned_down("reading was refused", got.refused);
-        const uint64_t *block = store_view(image, words, &shared, &points[0], place / BLOCK);
+        const uint64_t *block = store_view(image, words, &shared, &point, place / BLOCK);
         if (memcmp(block ? (const uint8_t *)block + place % BLOCK : none, text, READING) != 0)
             fault("a view shows something else at byte", (uint32_t)place);
         if (memcmp(text, none, READING) == 0) {
@@ -234,11 +278,11 @@ static uint32_t check_file(uint32_t length)
     return empty;
 }
 
-/* Blocks that an image needs for so many writes, each inside one block, and so many blocks of the file: superblock, log, file, and for each point
+/* Blocks that an image needs for so many writes in all, each inside one block, and so many blocks of the file: superblock, log, file, and for each point
    the block that it fills and a log block that it may be zeroing. */
-static size_t blocks_needed(size_t writes, size_t file_blocks)
+static size_t blocks_needed(size_t all, size_t file_blocks)
 {
-    return 1 + (writes / 62 + 1) + file_blocks + 2 * (size_t)count;
+    return 1 + (all / 62 + 1) + file_blocks + 2 * (size_t)count;
 }
 
 /* All readings of all points go into a new file. */
@@ -250,26 +294,27 @@ static void run(const char *title)
     words = STORE_BLOCK_WORDS * blocks;
     memset(queues, 0, sizeof queues);
     new_file_wanted = 1;
-    turns = steps = moved = 0;
+    turns = calls = listed = moved = 0;
     printf("%s, image of %u blocks\n", title, (unsigned)blocks);
 
     start();
     while (devices_measure() && recording) {
-        turn();
-        if (++turns == CUT) {
-            uint32_t committed = entries;
-            lose_power();
-            store_opened opened = start();
-            if (opened.entries != committed)
-                fault("entries lost or won", opened.entries);
-            uint32_t empty = check_file(opened.length);
-            printf("  power lost in turn %u: %u readings stored, all there; %u empty places\n", (unsigned)turns, (unsigned)opened.entries,
-                   (unsigned)empty);
+        if (++turns != CUT) {
+            turn();
+            continue;
         }
+        uint32_t acknowledged = entries;
+        turn_cut_short();
+        store_opened opened = start();
+        acknowledge_found(opened.length);
+        uint32_t empty = check_file(opened.length);
+        printf("  power lost inside the call of turn %u: %u readings acknowledged before, %u stored, all there; %u empty places\n", (unsigned)turns,
+               (unsigned)acknowledged, (unsigned)opened.entries, (unsigned)empty);
     }
     if (!recording)
         fault("the file is full; entries", entries);
-    printf("  %u readings stored in %u turns, %u steps, %u of them Moved\n", (unsigned)entries, (unsigned)turns, (unsigned)steps, (unsigned)moved);
+    printf("  %u readings stored in %u turns by %u calls, which listed %u; a write was moved %u times\n", (unsigned)entries, (unsigned)turns,
+           (unsigned)calls, (unsigned)listed, (unsigned)moved);
 
     uint32_t left = free_blocks();
     lose_power();

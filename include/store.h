@@ -15,8 +15,9 @@
 
    What is answered. A refusal is the number of the first fault, by name below; 0 is no refusal. A call that is refused leaves image
    and records as they were, a write or a read under way too, with these exceptions: STORE_LOG_FULL and STORE_NO_LOG_BLOCK end the
-   write; a refused opening makes a shared record of zeros, a refused joining a point's record of zeros. Only store_lay_out and
-   store_step write to the image, and store_step stores at most one word, in a read none. */
+   write; a refused opening makes a shared record of zeros, a refused joining a point's record of zeros. Only store_lay_out,
+   store_step and store_serve write to the image. store_step stores at most one word, in a read none; store_serve stores what its
+   steps store, one word after the other: power lost meanwhile is power lost between two of its steps. */
 
 #ifndef STORE_H
 #define STORE_H
@@ -43,7 +44,7 @@ enum {
 
 /* The version of this header: it rises when a call, a record or the image changes. A program compares it with what the library that
    it is linked with answers, before any other call: a library of another version may take its records for something else. */
-enum { STORE_VERSION = 4 };
+enum { STORE_VERSION = 5 };
 uint32_t store_version(void);
 
 /* Why a call is refused; store_reason has a sentence for each. */
@@ -70,12 +71,15 @@ enum {
     STORE_NO_RUN = 19,
     STORE_LOG_FULL = 20,
     STORE_NO_LOG_BLOCK = 21,
-    STORE_NOT_MAPPED = 22
+    STORE_NOT_MAPPED = 22,
+    STORE_NOT_ONE_EACH = 26, /* 23 to 25 are no refusal's */
+    STORE_LISTED_TWICE = 27
 };
 
 /* A sentence for a refusal's number. The sentences are part of the program that calls this, not of the library. */
 static inline const char *store_reason(uint32_t number)
 {
+    static const char *const none = "no number of a refusal";
     static const char *const reasons[] = {
         "not refused",
         "the image is no multiple of 64 words, or not 4 to 1,024 blocks long",
@@ -100,8 +104,13 @@ static inline const char *store_reason(uint32_t number)
         "one more log block is needed and 64 are chained; the write is ended",
         "a log block is needed and none is free; the write is ended",
         "nothing is mapped there",
+        0, /* 23, 24 and 25 are not in use */
+        0,
+        0,
+        "no points are listed, more than 32, or not one write, with its room, for each",
+        "a point is listed twice",
     };
-    return number < sizeof reasons / sizeof reasons[0] ? reasons[number] : "no number of a refusal";
+    return number < sizeof reasons / sizeof reasons[0] && reasons[number] ? reasons[number] : none;
 }
 
 /* What a step answers. */
@@ -166,6 +175,17 @@ typedef struct store_answer {
     size_t word;
 } store_answer;
 
+/* A write of a list, for store_serve: at which byte of the file it begins, and how many bytes of the text it has. */
+typedef struct store_write {
+    size_t offset, size;
+} store_write;
+
+/* What serving answers for a point: what its last beginning or step answered. After the call STORE_COMMITTED, its value as a step's; or
+   STORE_REFUSED, the value says why. Another kind only with numbers that no call left: the write is still under way then. */
+typedef struct store_served {
+    uint32_t kind, value;
+} store_served;
+
 /* What reading and locating answer. */
 typedef struct store_count {
     uint32_t refused, count;
@@ -177,7 +197,9 @@ typedef char store_records_stand_so[offsetof(store_shared, joined) == 4 && offse
                                             sizeof(store_shared) == 272 && sizeof(store_head) == 44 &&
                                             offsetof(store_point, table) == 44 && offsetof(store_point, text) == 556 &&
                                             sizeof(store_point) == 1580 && offsetof(store_answer, word) == 8 &&
-                                            sizeof(store_answer) == 16 && sizeof(size_t) == 8
+                                            sizeof(store_answer) == 16 && sizeof(size_t) == 8 &&
+                                            offsetof(store_write, size) == 8 && sizeof(store_write) == 16 &&
+                                            offsetof(store_served, value) == 4 && sizeof(store_served) == 8
                                         ? 1
                                         : -1];
 
@@ -234,6 +256,54 @@ uint32_t store_begin_read(const uint64_t *image, size_t words, store_shared *sha
    Refusals, as value of STORE_REFUSED: 10, 11, 14, 15, 18, after which the write or the read is still under way; 20, 21, which end the
    write. */
 store_answer store_step(uint64_t *image, size_t words, store_shared *shared, store_point *point, uint8_t *bytes);
+
+/* The library's call behind store_serve: it takes the shared record as its numbers, 35 from `blocks` on, and its map. */
+uint32_t store_serve_parts(uint64_t *image, size_t words, uint32_t *numbers, uint64_t *taken, store_head *heads, size_t head_count,
+                           uint16_t (*tables)[256], size_t table_count, uint8_t (*texts)[1024], size_t text_count,
+                           store_served *answers, size_t answer_count, const store_write *writes, size_t write_count,
+                           const uint8_t *bytes, size_t size);
+
+/* Serves a list of 1 to 32 points with one write each, the n points at places 0 to n - 1 of the arrays: begins all writes in list order,
+   then gives each unfinished one a step a round, in list order, until all are done: after at most 129 * (n - 1) + 260 rounds. It leaves
+   what these calls of store_begin and store_step leave, one after the other; a point refused at its beginning or at a step gets no
+   further step, and the others go on. Each answer is its point's last. A point with a write or a read under way is refused by 15 and
+   keeps it.
+   Lent: the image; the shared record; the points' records in three arrays, heads, tables and texts (store_put and store_get move a
+   whole record into and out of a place); room for the answers; the writes; and their texts, one after the other in list order, `size`
+   bytes together.
+   Refusals of the call, before all else, nothing begun and nothing changed: 26, where the five counts are not one number from 1 to 32, or
+   the sizes of the writes together are not `size`; 27, where one number stands in two of the heads. Refusals of a point, in its answer: those
+   of store_begin and of store_step.
+   Words are stored in the order of the steps, with nothing between them: where each must be written back before the next (a cached image),
+   use store_begin and store_step. */
+static inline uint32_t store_serve(uint64_t *image, size_t words, store_shared *shared, store_head *heads, size_t head_count,
+                                   uint16_t (*tables)[256], size_t table_count, uint8_t (*texts)[1024], size_t text_count,
+                                   store_served *answers, size_t answer_count, const store_write *writes, size_t write_count,
+                                   const uint8_t *bytes, size_t size)
+{
+    return store_serve_parts(image, words, (uint32_t *)shared, shared->taken, heads, head_count, tables, table_count, texts, text_count,
+                             answers, answer_count, writes, write_count, bytes, size);
+}
+
+/* Puts a point's record into place i of the three arrays, as after joining; and gets it from there, for a call that takes a whole record.
+   Of the two copies only the one that a call has changed last is the point's record. */
+static inline void store_put(store_head *heads, uint16_t (*tables)[256], uint8_t (*texts)[1024], size_t i, const store_point *point)
+{
+    heads[i] = point->head;
+    for (size_t v = 0; v < STORE_VIRTUAL_BLOCKS; v++)
+        tables[i][v] = point->table[v];
+    for (size_t b = 0; b < STORE_TEXT_MOST; b++)
+        texts[i][b] = point->text[b];
+}
+
+static inline void store_get(const store_head *heads, uint16_t (*tables)[256], uint8_t (*texts)[1024], size_t i, store_point *point)
+{
+    point->head = heads[i];
+    for (size_t v = 0; v < STORE_VIRTUAL_BLOCKS; v++)
+        point->table[v] = tables[i][v];
+    for (size_t b = 0; b < STORE_TEXT_MOST; b++)
+        point->text[b] = texts[i][b];
+}
 
 /* The point leaves; a write or a read that was under way is given up, and a write's blocks become free. The shared record reports 0
    for it.

@@ -17,4 +17,4 @@ textlessParts p = record { head = p .head; table = p .table; text = noText }
 
 -- the version of the calls for C, the records and the image: it rises when one of them changes
 abbrev pub version : ℕ
-version = 4
+version = 5
