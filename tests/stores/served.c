@@ -13,10 +13,10 @@ uint32_t serve_all(size_t n, size_t offset, size_t apart, size_t size)
     return serve(0, n, writes, n, n * size);
 }
 
-/* Two points meet in one block, and the log gets a block. */
+/* Two points meet in one block. */
 void serve_short(void)
 {
-    lend_chain(10, 0, 1, 61);
+    lend_empty(8, 0);
     start(2, 3);
     serve_all(2, 0, 8, 8);
 }
