@@ -4,18 +4,25 @@
 #include <sys/mman.h>
 #include <unistd.h>
 
+#include "row.h"
 #include "stored.h"
 
 uint64_t *image;
 size_t words;
 store_shared shared;
-store_point points[POINTS];
+store_point points[STORE_POINTS];
+struct row last_row;
+void (*watching)(int is_lent);
 
 static size_t shift_now;
 static int memory;
 static uint64_t state;
+static store_head heads[LISTED_MOST]; /* a list's records and answers */
+static uint16_t tables[LISTED_MOST][256];
+static uint8_t texts[LISTED_MOST][1024];
+static store_served answers[LISTED_MOST];
 static uint16_t scratch[STORE_SCRATCH + 8], rows[STORE_VIRTUAL_BLOCKS];
-static uint8_t text[TEXT_BYTES], buffer[ROOM]; /* the buffer is also the room for the bytes of a read in steps */
+static uint8_t text[TEXT_BYTES], list_text[LIST_BYTES], buffer[ROOM]; /* the buffer is also the room for the bytes of a read in steps */
 
 uint64_t any(void)
 {
@@ -36,6 +43,8 @@ void seed_with(uint64_t seed)
     state += !state;
     for (size_t i = 0; i < TEXT_BYTES; i++)
         text[i] = (uint8_t)(any() >> 32);
+    for (size_t i = 0; i < LIST_BYTES; i++)
+        list_text[i] = (uint8_t)(text[i % TEXT_BYTES] + i / TEXT_BYTES);
 }
 
 /* Whether `bytes` of a file, or of no file, can be mapped at an address. */
@@ -81,7 +90,7 @@ static void before(enum call call)
 
 static uint32_t after(enum call call, uint32_t refused)
 {
-    mark(ANSWER_MARK(call, refused <= STORE_NOT_MAPPED ? refused : ODD));
+    mark(ANSWER_MARK(call, refused <= STORE_LISTED_TWICE ? refused : ODD));
     return refused;
 }
 
@@ -136,6 +145,61 @@ uint32_t begin_read(store_point *point, size_t offset, size_t size)
 {
     before(BEGIN_READ);
     return after(BEGIN_READ, store_begin_read(image, words, &shared, point, offset, size));
+}
+
+/* By what a list is refused, 0 for nothing. */
+static uint32_t refusal_of(size_t first, size_t n, const store_write *writes, size_t given, size_t size)
+{
+    size_t sum = 0;
+    for (size_t i = 0; i < given; i++)
+        sum += writes[i].size;
+    if (n < 1 || n > STORE_POINTS || given != n || sum != size)
+        return STORE_NOT_ONE_EACH;
+    for (size_t i = 0; i < n; i++)
+        for (size_t k = 0; k < i; k++)
+            if (points[first + i].head.number == points[first + k].head.number)
+                return STORE_LISTED_TWICE;
+    return STORE_DONE;
+}
+
+/* Whether image, shared record and the n records are those of the row. */
+static int is_row(size_t n)
+{
+    if (memcmp(last_row.image, image, 8 * words) != 0 || memcmp(&last_row.shared, &shared, sizeof shared) != 0)
+        return 0;
+    for (size_t i = 0; i < n; i++)
+        if (memcmp(&last_row.points[i].head, &heads[i], sizeof heads[i]) != 0 || memcmp(last_row.points[i].table, tables[i], sizeof tables[i]) != 0
+            || memcmp(last_row.points[i].text, texts[i], sizeof texts[i]) != 0)
+            return 0;
+    return 1;
+}
+
+uint32_t serve(size_t first, size_t n, const store_write *writes, size_t given, size_t size)
+{
+    size_t kept = n < STORE_POINTS ? n : STORE_POINTS;
+    memcpy(last_row.image, image, 8 * words);
+    last_row.shared = shared;
+    for (size_t i = 0; i < n; i++)
+        store_put(heads, tables, texts, i, &points[first + (i < kept ? i : 0)]);
+    for (size_t i = 0; i < kept; i++)
+        last_row.points[i] = points[first + i];
+    uint32_t expected = refusal_of(first, n, writes, given, size);
+    last_row.count = 0;
+    if (expected == STORE_DONE)
+        make_row(&last_row, words, n, writes, list_text);
+    if (watching)
+        watching(1);
+    before(SERVE);
+    uint32_t refused = store_serve(image, words, &shared, heads, n, tables, n, texts, n, answers, n, writes, given, list_text, size);
+    for (size_t i = 0; i < last_row.count; i++)
+        mark(WORD_MARK(last_row.stores[i].word % AREA_WORDS));
+    int same = refused == expected && is_row(kept) && (refused || memcmp(answers, last_row.answers, n * sizeof *answers) == 0);
+    mark(ANSWER_MARK(SERVE, same ? refused : ODD));
+    if (watching)
+        watching(0);
+    for (size_t i = 0; i < kept; i++)
+        store_get(heads, tables, texts, i, &points[first + i]);
+    return refused;
 }
 
 uint32_t leave(const store_point *point)

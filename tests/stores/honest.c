@@ -171,6 +171,7 @@ void run_short(void)
     leave(&points[0]);
     leave(&points[0]);
     uint64_t first = digest();
+    serve_short();
     lend_chain(8, 0, 1, 62);
     start(1, 0);
     begin(&points[0], 9, 30);

@@ -1,5 +1,6 @@
 /* What driver and watcher agree on: where the memory lies, and the marks. A mark is a store to a known address outside the image; in the
-   trace it says which image is lent, which call begins, which word a step should have stored, and what the call has answered. */
+   trace it says which image is lent, which call begins, which word a step should have stored, which words in which order a call that serves, and what
+   the call has answered. */
 #ifndef PLACES_H
 #define PLACES_H
 
@@ -25,9 +26,9 @@
 #define ANSWER_MARK(call, answer) (MARKS + MARKS_BYTES / 4 * 3 + 8 * (ANSWERS * (uint64_t)(call) + (uint64_t)(answer)))
 #define END_MARK (MARKS + MARKS_BYTES - 8)
 
-enum call { LAY_OUT, OPEN, LIST, JOIN, BEGIN, BEGIN_READ, STEP, LEAVE, READ, LOCATE, VIEW, CALLS };
+enum call { LAY_OUT, OPEN, LIST, JOIN, BEGIN, BEGIN_READ, STEP, SERVE, LEAVE, READ, LOCATE, VIEW, CALLS };
 
-/* What a call answers: its refusal, 1 to 22; 0 for none; for a step that is not refused one of these. ODD is what no call may answer. */
+/* What a call answers: its refusal, 1 to 27; 0 for none; for a step that is not refused one of these. ODD is what no call may answer. */
 enum answer {
     FILLED = 32,
     REFILLED,

@@ -20,10 +20,17 @@ uint32_t start(size_t count, uint32_t number);
 /* Steps until the write or read is done, but at most so often. Answers the last step's answer. */
 store_answer steps(store_point *point, size_t most);
 
+/* Serves the first n points by writes of so many bytes from `offset` on, each `apart` bytes behind the one before. */
+uint32_t serve_all(size_t n, size_t offset, size_t apart, size_t size);
+
 /* The runs. The short one makes each call and prints what memory holds then. */
 void run_short(void);
 void run_honest(void);
 void run_directed(void);
 void run_hostile(size_t runs);
+
+/* Lists that are served: honest ones, the largest of `all` points, and hostile ones. */
+void run_served(size_t runs, size_t all);
+void serve_short(void);
 
 #endif

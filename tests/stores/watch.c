@@ -28,14 +28,15 @@ static const struct {
     [BEGIN_READ] = {"begin_read", {8, 0, 10, 11, 14, 15, 16, 17, 18}},
     [STEP] = {"step", {18, FILLED, REFILLED, ZEROED, LINKED, CAUGHT_UP, LOST_LINK, EXTENDING, COMMITTED, COPIED, READ_MOVED, READ_ENDED,
                        10, 11, 14, 15, 18, 20, 21}},
+    [SERVE] = {"serve", {3, 0, 26, 27}},
     [LEAVE] = {"leave", {4, 0, 10, 11, 14}},
     [READ] = {"read", {5, 0, 10, 11, 14, 18}},
     [LOCATE] = {"locate", {7, 0, 10, 11, 14, 17, 18, 22}},
     [VIEW] = {"view", {7, 0, 10, 11, 14, 17, 18, 22}},
 };
 
-/* The rules. The first have the numbers of the calls other than a step. */
-enum { ONE = CALLS, NONE, WIDTH, ALIGNED, INSIDE, WHERE, LISTED, WHOLE, MET, RULES };
+/* The rules. The first have the numbers of the calls other than a step and serving. */
+enum { ONE = CALLS, NONE, WIDTH, ALIGNED, INSIDE, WHERE, ROW_COUNT, ROW_ORDER, LISTED, WHOLE, MET, RULES };
 
 static const struct {
     const char *name, *text;
@@ -52,10 +53,12 @@ static const struct {
     [VIEW] = {"view", "viewing makes none"},
     [ONE] = {"one", "a step that answers Stored or Committed makes one store"},
     [NONE] = {"none", "a step that answers Moved, Extending, Refused, Copied or Bytes makes none"},
-    [WIDTH] = {"width", "a step's store is eight bytes wide"},
-    [ALIGNED] = {"aligned", "a step's store is aligned to eight bytes"},
-    [INSIDE] = {"inside", "a step's store lies in the image that is lent"},
+    [WIDTH] = {"width", "a store of a step or of serving is eight bytes wide"},
+    [ALIGNED] = {"aligned", "a store of a step or of serving is aligned to eight bytes"},
+    [INSIDE] = {"inside", "a store of a step or of serving lies in the image that is lent"},
     [WHERE] = {"where", "a step's store is that of the word which its record names"},
+    [ROW_COUNT] = {"row_count", "serving makes as many stores as its row of steps, and none if refused"},
+    [ROW_ORDER] = {"row_order", "serving stores the words that its row of steps stores, in that order"},
     [LISTED] = {"listed", "each answer is one that the header lists for the call"},
     [WHOLE] = {"whole", "each call that begins ends, and the trace goes on to its end"},
     [MET] = {"met", "each call has given each of its answers"},
@@ -74,6 +77,12 @@ static unsigned under_way = CALLS;
 static long number, made;
 static uint64_t last_word, image, image_bytes;
 static int has_ended;
+
+/* Of serving: the words stored, NO_WORD for a store that is none of a word; and how many its row has stored, the first difference among them. */
+#define NO_WORD UINT64_MAX
+enum { SERVED_MOST = 200000 };
+static uint64_t served[SERVED_MOST];
+static long in_row, first_other;
 
 /* The answer's name: a refusal is a number. */
 static const char *answer_name(unsigned answer)
@@ -112,13 +121,15 @@ static void see_store(uint64_t address, uint64_t width)
     made++;
     stores[under_way]++;
     widths[under_way][width <= WIDEST ? width : WIDEST]++;
-    if (under_way != STEP) {
+    if (under_way != STEP && under_way != SERVE) {
         if (under_way != LAY_OUT || at >= 2 * BLOCK_BYTES || at + width > 2 * BLOCK_BYTES)
             broken_by(under_way, at, width);
         return;
     }
     int is_inside = at < image_bytes && at + width <= image_bytes;
     last_word = width == 8 && address % 8 == 0 && is_inside ? at : image_bytes;
+    if (made <= SERVED_MOST)
+        served[made - 1] = last_word == image_bytes ? NO_WORD : last_word / 8;
     if (width != 8)
         broken_by(WIDTH, at, width);
     if (address % 8 != 0)
@@ -127,9 +138,16 @@ static void see_store(uint64_t address, uint64_t width)
         broken_by(INSIDE, at, width);
 }
 
-/* The word that a step should have stored. Only a word's store is compared, and only if there is no other: else another rule is broken. */
+/* The word that a step should have stored. Only a word's store is compared, and only if there is no other: else another rule is broken.
+   In serving it is the next word of its row. */
 static void see_word(uint64_t word)
 {
+    if (under_way == SERVE) {
+        if (in_row < made && in_row < SERVED_MOST && served[in_row] != NO_WORD && served[in_row] != word && first_other < 0)
+            first_other = in_row;
+        in_row++;
+        return;
+    }
     if (made == 1 && last_word != image_bytes && last_word != 8 * word)
         broken(WHERE, "at byte %" PRIu64 " of the image, not %" PRIu64, last_word, 8 * word);
 }
@@ -155,6 +173,10 @@ static void see_answer(unsigned call, unsigned answer)
         broken(LISTED, "answer %s", answer_name(answer));
     if (call == STEP && made != step_stores(answer))
         broken(step_stores(answer) ? ONE : NONE, "answer %s, stores %ld", answer_name(answer), made);
+    if (call == SERVE && made != in_row)
+        broken(ROW_COUNT, "answer %s, stores %ld, its row %ld", answer_name(answer), made, in_row);
+    else if (call == SERVE && first_other >= 0)
+        broken(ROW_ORDER, "store %ld of %ld is of word %" PRIu64, first_other + 1, made, served[first_other]);
     if (call == LAY_OUT && answer != 0 && made != 0)
         broken(LAY_OUT, "answer %s, stores %ld", answer_name(answer), made);
     under_way = CALLS;
@@ -177,6 +199,8 @@ static void see_mark(uint64_t address)
         under_way = (unsigned)((address - CALL_MARK(0)) / 8);
         number++;
         made = 0;
+        in_row = 0;
+        first_other = -1;
     } else if (address == END_MARK) {
         has_ended = 1;
     } else {
@@ -233,7 +257,7 @@ static int print_rules(int in_part)
 {
     int count = 0;
     for (unsigned rule = 0; rule < RULES; rule++) {
-        if (rule == STEP || (rule == MET && in_part))
+        if (rule == STEP || rule == SERVE || (rule == MET && in_part))
             continue;
         printf("%s: %s: ", rules[rule].name, rules[rule].text);
         if (breaches[rule].count > 0)

@@ -28,7 +28,7 @@ impl Run {
     }
 
     /// How many words a call is lent.
-    fn words(&mut self) -> usize {
+    pub fn words(&mut self) -> usize {
         let (usual, known) = (self.usual(), self.world.image().len());
         if !self.random.once_in(4 * self.strange) {
             return usual;
@@ -65,7 +65,7 @@ impl Run {
         }
     }
 
-    fn joined(&self, p: usize) -> bool {
+    pub fn joined(&self, p: usize) -> bool {
         let number = self.world.point(p).head.number;
         number < 32 && self.world.shared().joined >> number & 1 == 1
     }
@@ -301,7 +301,7 @@ impl Run {
 
     /// One act of honest work.
     pub fn work(&mut self) -> Done {
-        match self.random.below(40) {
+        match self.random.below(42) {
             0..=7 => self.begin(),
             8 | 9 => self.begin_read(),
             10..=20 => self.some_steps(),
@@ -312,6 +312,7 @@ impl Run {
             33 => self.begin_again(),
             34 | 35 => self.race(),
             36 | 37 => self.watch(),
+            38 | 39 => self.serve(),
             _ => self.conflict(),
         }
     }

@@ -61,12 +61,30 @@ pub struct Count {
     pub count: u32,
 }
 
+#[repr(C)]
+#[derive(Clone, Copy, Debug, PartialEq, Eq)]
+pub struct Write {
+    pub offset: usize,
+    pub size: usize,
+}
+
+#[repr(C)]
+#[derive(Clone, Copy, Debug, PartialEq, Eq)]
+pub struct Served {
+    pub kind: u32,
+    pub value: u32,
+}
+
+pub type Table = [u16; 256];
+pub type Text = [u8; 1024];
+
 const _: () = {
     assert!(size_of::<Shared>() == 272 && align_of::<Shared>() == 8 && offset_of!(Shared, joined) == 4);
     assert!(offset_of!(Shared, chain) == 8 && offset_of!(Shared, reports) == 12 && offset_of!(Shared, taken) == 144);
     assert!(size_of::<Head>() == 44 && align_of::<Head>() == 4 && offset_of!(Head, retries) == 40);
     assert!(size_of::<Point>() == 1_580 && offset_of!(Point, table) == 44 && offset_of!(Point, text) == 556);
     assert!(size_of::<Opened>() == 16 && size_of::<Answer>() == 16 && size_of::<Count>() == 8);
+    assert!(size_of::<Write>() == 16 && size_of::<Served>() == 8 && offset_of!(Write, size) == 8 && offset_of!(Served, value) == 4);
 };
 
 /// What a step answers.
@@ -131,6 +149,25 @@ extern "C" {
         point: *mut Point,
         bytes: *mut u8,
     ) -> Answer;
+    pub fn shim_serve(
+        image: *mut u64,
+        words: usize,
+        shared: *mut Shared,
+        heads: *mut Head,
+        head_count: usize,
+        tables: *mut Table,
+        table_count: usize,
+        texts: *mut Text,
+        text_count: usize,
+        answers: *mut Served,
+        answer_count: usize,
+        writes: *const Write,
+        write_count: usize,
+        bytes: *const u8,
+        size: usize,
+    ) -> u32;
+    pub fn shim_put(heads: *mut Head, tables: *mut Table, texts: *mut Text, i: usize, point: *const Point);
+    pub fn shim_get(heads: *const Head, tables: *mut Table, texts: *mut Text, i: usize, point: *mut Point);
     pub fn shim_leave(image: *const u64, words: usize, shared: *mut Shared, point: *const Point) -> u32;
     pub fn shim_read(
         image: *const u64,

@@ -1,12 +1,15 @@
 //! What the calls of the header answer and leave, by the second
 //! implementation: its records from the header's and back.
 
+use std::convert::Infallible;
+
 use second::calls;
 use second::image::lay_out as second_lay_out;
 use second::open::{open as second_open, show};
 use second::reading;
 use second::record::{self, Phase, Record};
 use second::refusal::{refuse, Refusal};
+use second::serve::{ask_list, row, Turn};
 use second::step::{settle, step as second_step, Answer as StepAnswer};
 
 use crate::c::*;
@@ -178,6 +181,51 @@ pub fn step(image: &mut [u64], shared: &mut Shared, point: &mut Point, bytes: &m
         }
     };
     Answer { kind, value, word: store.map_or(0, |(place, _)| place) }
+}
+
+/// Serving, by the second implementation's row. 26 is also where lists are
+/// not equally long, or sizes and bytes differ.
+pub fn serve(
+    image: &mut [u64],
+    shared: &mut Shared,
+    points: &mut [Point],
+    is_even: bool,
+    answers: &mut [Served],
+    writes: &[Write],
+    bytes: &[u8],
+) -> u32 {
+    let sum = writes.iter().try_fold(0usize, |sum, write| sum.checked_add(write.size));
+    if !is_even || sum != Some(bytes.len()) {
+        return number(Refusal::BadList);
+    }
+    let numbers: Vec<usize> = points.iter().map(|point| point.head.number as usize).collect();
+    if let Err(why) = ask_list(&numbers, writes.len()) {
+        return number(why);
+    }
+    let start = |i: usize| writes[..i].iter().map(|write| write.size).sum::<usize>();
+    let made: Result<_, Infallible> = row(points.len(), |turn| {
+        let (i, answer) = match turn {
+            Turn::Begin(i) => {
+                let text = &bytes[start(i)..][..writes[i].size];
+                match begin(image, shared, &mut points[i], writes[i].offset, text) {
+                    0 => return Ok(None),
+                    why => (i, Served { kind: REFUSED, value: why }),
+                }
+            }
+            Turn::Step(i) => {
+                let Answer { kind, value, .. } = step(image, shared, &mut points[i], &mut [0; 1_024]);
+                (i, Served { kind, value })
+            }
+        };
+        answers[i] = answer;
+        // Only whether the write goes on matters to the row.
+        Ok(Some(match answer.kind {
+            COMMITTED => StepAnswer::Committed(0),
+            REFUSED => StepAnswer::Refused(Refusal::NoRun),
+            _ => StepAnswer::Stored,
+        }))
+    });
+    made.map_or(0, |_| 0)
 }
 
 pub fn leave(image: &[u64], shared: &mut Shared, point: &Point) -> u32 {

@@ -100,6 +100,7 @@ impl Run {
             0 => shared.blocks = value,
             1 => shared.joined = value,
             2 => shared.taken = [u64::MAX; 16],
+            3 if word % 4 == 0 => shared.taken = [0; 16],
             3 => shared.taken[0] = word,
             4 => shared.chain = chain,
             5 | 6 => shared.reports[p] = report,
@@ -205,7 +206,8 @@ impl Run {
         }
         let (words, offset) = (self.usual(), self.offset());
         for _ in 0..self.random.between(1, 4) {
-            match self.random.below(10) {
+            match self.random.below(12) {
+                10 => self.serve_among(Some(p))?,
                 0 => self.world.begin(words, p, offset, &[5; 600], 600).map(drop)?,
                 8 => self.world.begin_read(words, p, offset, 600).map(drop)?,
                 9 => self.world.behind(words, self.random.below(33) as u32)?,

@@ -6,7 +6,9 @@ mod c;
 mod expected;
 mod hostile;
 mod lent;
+mod lists;
 mod runs;
+mod served;
 mod table;
 mod world;
 

@@ -152,6 +152,7 @@ impl Run {
         for number in 0..32 {
             self.world.join(words, 0, number)?;
         }
+        self.serve_beyond(words)?;
         self.world.lay_out(words)?;
         self.world.list(words, 1_024)?;
         self.world.open(words, 1_024)?;

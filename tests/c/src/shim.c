@@ -49,6 +49,14 @@ SIZE_IS(store_count, 8, 4);
 PLACE_IS(store_count, refused, 4, 0);
 PLACE_IS(store_count, count, 4, 4);
 
+SIZE_IS(store_write, 16, 8);
+PLACE_IS(store_write, offset, 8, 0);
+PLACE_IS(store_write, size, 8, 8);
+
+SIZE_IS(store_served, 8, 4);
+PLACE_IS(store_served, kind, 4, 0);
+PLACE_IS(store_served, value, 4, 4);
+
 uint32_t shim_lay_out(uint64_t *image, size_t words)
 {
     return store_lay_out(image, words);
@@ -83,6 +91,24 @@ uint32_t shim_begin_read(const uint64_t *image, size_t words, store_shared *shar
 store_answer shim_step(uint64_t *image, size_t words, store_shared *shared, store_point *point, uint8_t *bytes)
 {
     return store_step(image, words, shared, point, bytes);
+}
+
+uint32_t shim_serve(uint64_t *image, size_t words, store_shared *shared, store_head *heads, size_t head_count, uint16_t (*tables)[256],
+                    size_t table_count, uint8_t (*texts)[1024], size_t text_count, store_served *answers, size_t answer_count,
+                    const store_write *writes, size_t write_count, const uint8_t *bytes, size_t size)
+{
+    return store_serve(image, words, shared, heads, head_count, tables, table_count, texts, text_count, answers, answer_count, writes,
+                       write_count, bytes, size);
+}
+
+void shim_put(store_head *heads, uint16_t (*tables)[256], uint8_t (*texts)[1024], size_t i, const store_point *point)
+{
+    store_put(heads, tables, texts, i, point);
+}
+
+void shim_get(const store_head *heads, uint16_t (*tables)[256], uint8_t (*texts)[1024], size_t i, store_point *point)
+{
+    store_get(heads, tables, texts, i, point);
 }
 
 uint32_t shim_leave(const uint64_t *image, size_t words, store_shared *shared, const store_point *point)

@@ -6,7 +6,7 @@ use second::tally::Tally;
 use crate::c::*;
 
 /// Each call with its answers and the refusals that the header lists for it.
-pub const CALLS: [(&str, &[&str], &[u32]); 12] = [
+pub const CALLS: [(&str, &[&str], &[u32]); 14] = [
     ("lay_out", &["done"], &[1]),
     ("open", &["done"], &[1, 2, 3, 4, 5, 6, 7, 8, 9]),
     ("list", &["done"], &[1, 2, 3, 4, 5, 6, 7, 8, 9]),
@@ -18,6 +18,8 @@ pub const CALLS: [(&str, &[&str], &[u32]); 12] = [
         &["stored", "moved", "extending", "committed", "copied", "bytes"],
         &[10, 11, 14, 15, 18, 20, 21],
     ),
+    ("serve", &["done", "beside its row"], &[26, 27]),
+    ("served", &["committed"], &[10, 11, 14, 15, 16, 17, 18, 19, 20, 21]),
     ("leave", &["done"], &[10, 11, 14]),
     ("read", &["done"], &[10, 11, 14, 18]),
     ("locate", &["done"], &[10, 11, 14, 17, 18, 22]),
@@ -25,17 +27,41 @@ pub const CALLS: [(&str, &[&str], &[u32]); 12] = [
     ("behind", &["by none", "by some"], &[]),
 ];
 
-const TURNS: [&str; 10] = [
+/// Turns of a write's step, alone and in a list that is served.
+const TURNS: [&str; 8] = [
     "linked",
     "lost link",
-    "20 at the link",
     "refills nothing",
     "refills first",
     "refills last",
     "refills both",
     "committed after moved",
-    "a read begins again",
-    "a read's 18",
+    "a write's 18",
+];
+
+/// Those that a list has none of: in it every write is begun anew, with fewer
+/// than 64 log blocks where it takes one.
+const OTHER_TURNS: [&str; 3] = ["20 at the link", "a read begins again", "a read's 18"];
+
+/// What lists must bring.
+const LISTS: [&str; 17] = [
+    "of no points",
+    "of one point",
+    "of 32 points",
+    "of 33 points",
+    "of more points",
+    "with tables too few or too many",
+    "with texts too few or too many",
+    "with answers too few or too many",
+    "with writes too few or too many",
+    "with bytes too few or too many",
+    "with sizes that wrap",
+    "with a place twice",
+    "with a number above 31 twice",
+    "with heads beyond 32 bits",
+    "with bytes beyond 32 bits",
+    "with an image beyond 32 bits",
+    "with a read under way",
 ];
 
 const INPUTS: [&str; 17] = [
@@ -66,6 +92,8 @@ const WITH_RECORD: [&str; 7] = ["begin", "begin_read", "step", "leave", "read", 
 pub trait Counting {
     fn answered(&mut self, call: &str, refused: u32);
     fn stepped(&mut self, answer: Answer, before: &Head, after: &Head);
+    fn turned(&mut self, who: &str, answer: Answer, before: &Head, after: &Head);
+    fn served(&mut self, answer: Served);
     fn refused_record(&mut self, call: &str, before: &Head, refused: u32);
     fn input_if(&mut self, is: bool, input: &str);
 }
@@ -79,7 +107,6 @@ impl Counting for Tally {
     }
 
     fn stepped(&mut self, answer: Answer, before: &Head, after: &Head) {
-        let was_zeroing = before.phase == 5;
         match answer.kind {
             STORED => self.count("step", "stored"),
             MOVED => self.count("step", "moved"),
@@ -89,6 +116,19 @@ impl Counting for Tally {
             BYTES => self.count("step", "bytes"),
             _ => self.refused("step", u64::from(answer.value)),
         }
+        self.turned("turn", answer, before, after);
+    }
+
+    fn served(&mut self, answer: Served) {
+        match answer.kind {
+            COMMITTED => self.count("served", "committed"),
+            REFUSED => self.refused("served", u64::from(answer.value)),
+            _ => self.count("served", "unfinished"),
+        }
+    }
+
+    fn turned(&mut self, who: &str, answer: Answer, before: &Head, after: &Head) {
+        let was_zeroing = before.phase == 5;
         let turn = match (answer.kind, after.phase) {
             (STORED, 1) if was_zeroing => "linked",
             (MOVED, _) if was_zeroing => "lost link",
@@ -100,9 +140,10 @@ impl Counting for Tally {
             (MOVED, READING) => "a read begins again",
             (REFUSED, READING) if answer.value == 18 => "a read's 18",
             (COMMITTED, _) if answer.value > 0 => "committed after moved",
+            (REFUSED, _) if answer.value == 18 => "a write's 18",
             _ => return,
         };
-        self.count("turn", turn);
+        self.count(who, turn);
     }
 
     fn refused_record(&mut self, call: &str, before: &Head, refused: u32) {
@@ -134,7 +175,9 @@ fn lines() -> Vec<(&'static str, Vec<String>)> {
     let refusals: Vec<String> = WITH_RECORD.iter().flat_map(|call| [format!("{call} 10"), format!("{call} 11")]).collect();
     lines.push(("phase above 6", refusals.clone()));
     lines.push(("retries above 65,535", refusals));
-    lines.push(("turn", TURNS.map(String::from).to_vec()));
+    lines.push(("turn", [TURNS.map(String::from).to_vec(), OTHER_TURNS.map(String::from).to_vec()].concat()));
+    lines.push(("turn of a list", TURNS.map(String::from).to_vec()));
+    lines.push(("list", LISTS.map(String::from).to_vec()));
     lines.push(("input", INPUTS.map(String::from).to_vec()));
     lines
 }

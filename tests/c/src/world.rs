@@ -15,14 +15,17 @@ use crate::table::*;
 /// Places for points' records; any point may join at any place.
 pub const PLACES: usize = 5;
 
+/// With those that only lists have.
+pub const LISTABLE: usize = 40;
+
 /// Elements beyond what 32 bits can count.
 pub const WIDE: usize = 1 << 32;
 
 pub struct World {
-    random: Random,
-    image: Both<u64>,
-    shared: Both<Shared>,
-    points: Vec<Both<Point>>,
+    pub random: Random,
+    pub image: Both<u64>,
+    pub shared: Both<Shared>,
+    pub points: Vec<Both<Point>>,
     /// Whether more elements than 32 bits can count are there to be lent.
     pub is_wide: bool,
     pub calls: usize,
@@ -32,7 +35,7 @@ pub struct World {
 }
 
 /// Where two records differ.
-fn difference(there: &Point, here: &Point) -> String {
+pub fn difference(there: &Point, here: &Point) -> String {
     if there.head != here.head {
         return format!("C {:?}, here {:?}", there.head, here.head);
     }
@@ -51,7 +54,7 @@ impl World {
             Both::new(&mut random, content)
         };
         let shared = Both::new(&mut random, &[no_shared()]);
-        let points = (0..PLACES).map(|_| Both::new(&mut random, &[no_point()])).collect();
+        let points = (0..LISTABLE).map(|_| Both::new(&mut random, &[no_point()])).collect();
         World {
             random,
             image,
@@ -96,7 +99,7 @@ impl World {
 
     /// Memory that one call is lent; where there is more room than content it
     /// is not guarded.
-    fn both<T: Copy + PartialEq + Debug>(&mut self, content: &[T], room: usize) -> Both<T> {
+    pub fn both<T: Copy + PartialEq + Debug>(&mut self, content: &[T], room: usize) -> Both<T> {
         if room > content.len() {
             Both::reserved(content, room)
         } else {
@@ -105,24 +108,24 @@ impl World {
     }
 
     /// What C is lent of the world.
-    fn there(&self, p: usize) -> (*mut u64, *mut Shared, *mut Point) {
+    pub fn there(&self, p: usize) -> (*mut u64, *mut Shared, *mut Point) {
         (self.image.there.pointer(), self.shared.there.pointer(), self.points[p].there.pointer())
     }
 
     /// What the second implementation is lent.
-    fn here(&mut self, words: usize, p: usize) -> (&mut [u64], &mut Shared, &mut Point) {
+    pub fn here(&mut self, words: usize, p: usize) -> (&mut [u64], &mut Shared, &mut Point) {
         let shared = &mut self.shared.here.all_mut()[0];
         (self.image.here.part_mut(words), shared, &mut self.points[p].here.all_mut()[0])
     }
 
     /// After a call: answers and memory agree.
-    fn agree<A: PartialEq + Debug>(&mut self, there: A, here: A) -> Result<(), String> {
+    pub fn agree<A: PartialEq + Debug>(&mut self, there: A, here: A) -> Result<(), String> {
         self.calls += 1;
         if there != here {
             return Err(format!("C answers {there:?}, here {here:?}"));
         }
         self.shared.agree("shared record")?;
-        for (p, point) in self.points.iter().enumerate() {
+        for (p, point) in self.points.iter().enumerate().take(PLACES) {
             point.agree_by(&format!("record at place {p}"), difference)?;
         }
         self.image.agree("image")
@@ -335,7 +338,7 @@ impl World {
         self.tally.refused_record(call, before, refused);
     }
 
-    fn count_image(&mut self, words: usize) {
+    pub fn count_image(&mut self, words: usize) {
         self.tally.input_if(words == 0, "an image of 0 words");
         self.tally.input_if(words % 64 != 0, "an image of no multiple of 64 words");
         self.tally.input_if(words >= WIDE, "an image beyond 32 bits");
