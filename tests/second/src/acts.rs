@@ -6,6 +6,7 @@ use crate::maker::Maker;
 use crate::random::Random;
 use crate::readers::{begin_read_any, watch};
 use crate::record::Phase;
+use crate::servers::serve_any;
 
 /// An offset: mostly near the edges of a few blocks.
 pub fn an_offset(random: &mut Random) -> usize {
@@ -190,6 +191,7 @@ pub fn work(maker: &mut Maker) {
         35 | 36 if maker.joined().len() < 6 => join_any(maker),
         37 => leave_any(maker),
         38 if maker.random.once_in(4) => cut_and_open(maker),
+        38 if maker.random.once_in(8) => serve_any(maker),
         39 if maker.random.once_in(4) => race_to_extend(maker),
         39 if maker.random.once_in(3) => conflict(maker),
         39 => watch(maker),

@@ -1,5 +1,7 @@
 //! The session program: an interpreter of bench scripts.
 
+use std::convert::Infallible;
+
 use crate::calls;
 use crate::digest::*;
 use crate::image::lay_out;
@@ -12,6 +14,8 @@ use crate::record::*;
 use crate::refusal::Refusal;
 use crate::reports::*;
 use crate::searches::*;
+use crate::serve::{ask_list, row, take_turn, Turn};
+use crate::serves::*;
 use crate::step::{step, Answer};
 use crate::tally::Tally;
 use crate::words::*;
@@ -23,11 +27,15 @@ pub const MOST_WORDS: u64 = 65_600;
 /// The largest number below 2^32.
 pub const MOST_32: u64 = 0xFFFF_FFFF;
 
+/// `serve N M ...`: "N and M 0 to 40".
+pub const MOST_LISTED: u64 = 40;
+
 /// Every command.
-pub const COMMANDS: [&str; 28] = [
+pub const COMMANDS: [&str; 29] = [
     "image", "noise", "set", "word", "layout", "open", "cut", "join", "joinas", "begin", "step",
     "leave", "read", "show", "locate", "view", "record", "shared", "alter", "table", "text",
     "altershared", "map", "copy", "digest", "free", "beginread", "report",
+    "serve",
 ];
 
 /// "What the bench holds", and a tally of what was answered.
@@ -101,11 +109,12 @@ impl Bench {
             [b"cut"] => self.cut(),
             [b"join", p] => self.join("join", point(p)?),
             [b"joinas", n] => self.join("join", at_most(n, MOST_32)?),
-            [b"begin", p, o, l, s] => {
-                self.begin(point(p)?, at_most(o, MOST_32)?, at_most(l, 1_100)?, at_most(s, 255)?)
-            }
+            [b"begin", p, write @ ..] => self.begin(point(p)?, a_write(write)?),
             [b"beginread", p, o, l] => {
                 self.begin_read(point(p)?, at_most(o, MOST_32)?, at_most(l, 1_100)?)
+            }
+            [b"serve", n, m, rest @ ..] => {
+                self.serve_line(at_most(n, MOST_LISTED)?, at_most(m, MOST_LISTED)?, rest)
             }
             [b"step", p, k] => self.steps(point(p)?, at_most(k, 100_000)?),
             [b"leave", p] => self.leave(point(p)?),
@@ -204,8 +213,7 @@ impl Bench {
         })
     }
 
-    fn begin(&mut self, p: usize, offset: usize, length: usize, seed: usize) -> Option<String> {
-        let text: Vec<u8> = (0..length).map(|i| ((seed + 7 * i) % 256) as u8).collect();
+    fn begin(&mut self, p: usize, (offset, text): (usize, Vec<u8>)) -> Option<String> {
         let before = self.records[p].clone();
         Some(match calls::begin(&self.image, &self.shared, &before, offset, &text) {
             Ok((shared, record)) => {
@@ -224,7 +232,7 @@ impl Bench {
                 }
                 self.refusal_events(why, &before, false);
                 if why == Refusal::NoRun {
-                    let write = Write { offset, text_length: length, ..Write::idle() };
+                    let write = Write { offset, text_length: text.len(), ..Write::idle() };
                     self.tally.events(&no_run_events(&self.shared, write.span()));
                     self.count_private(p, "19");
                 }
@@ -250,6 +258,52 @@ impl Bench {
                 self.refused("beginread", why)
             }
         })
+    }
+
+    /// The words after N and M: N places, then M writes.
+    fn serve_line(&mut self, n: usize, m: usize, rest: &[&[u8]]) -> Option<String> {
+        if rest.len() != n + 3 * m {
+            return None;
+        }
+        let places: Option<Vec<usize>> = rest[..n].iter().map(|word| point(word)).collect();
+        let writes: Option<Vec<_>> = rest[n..].chunks(3).map(a_write).collect();
+        Some(self.serve(&places?, &writes?))
+    }
+
+    /// K6's call, "lent a list of N records, those of places P1 to PN in this order, with M
+    /// writes".
+    fn serve(&mut self, places: &[usize], writes: &[(usize, Vec<u8>)]) -> String {
+        let numbers: Vec<usize> = places.iter().map(|&p| self.records[p].number).collect();
+        if let Err(why) = ask_list(&numbers, writes.len()) {
+            self.count_unserved(places, &numbers, writes.len());
+            return self.refused("serve", why);
+        }
+        let mut seen = Seen::new(places.len());
+        let Ok(answers) = row(places.len(), |turn| {
+            Ok::<_, Infallible>(self.turn(turn, places, writes, &mut seen))
+        });
+        self.count_served(places, &answers, &seen);
+        let lines = places.iter().zip(answers);
+        let lines = lines.map(|(p, answer)| format!("served {p} {}", stretch_line((answer, 1))));
+        lines.collect::<Vec<String>>().join("\n")
+    }
+
+    /// A beginning or a step of the row, of place P's record.
+    fn turn(
+        &mut self,
+        turn: Turn,
+        places: &[usize],
+        writes: &[(usize, Vec<u8>)],
+        seen: &mut Seen,
+    ) -> Option<Answer> {
+        let (Turn::Begin(i) | Turn::Step(i)) = turn;
+        let before = self.records[places[i]].clone();
+        let (answer, shared, record) =
+            take_turn(turn, &mut self.image, &self.shared, &before, &writes[i]);
+        seen.turn(turn, &before, &record, answer.as_ref());
+        self.shared = shared;
+        self.records[places[i]] = record;
+        answer
     }
 
     /// What a refused beginning or step says of reads.
@@ -521,6 +575,14 @@ impl Bench {
 /// "P is a number from 0 to 31"
 pub fn point(word: &[u8]) -> Option<usize> {
     at_most(word, 31)
+}
+
+/// O, L and S of a write: "at offset O of L bytes, byte i being (S + 7 × i) mod 256".
+fn a_write(words: &[&[u8]]) -> Option<(usize, Vec<u8>)> {
+    let [o, l, s] = words else { return None };
+    let (length, seed) = (at_most(l, 1_100)?, at_most(s, 255)?);
+    let text = (0..length).map(|i| ((seed + 7 * i) % 256) as u8).collect();
+    Some((at_most(o, MOST_32)?, text))
 }
 
 /// "the answer, then ` x C` where the stretch has C > 1"

@@ -9,7 +9,7 @@ const PLACE: u64 = u64::MAX - 1;
 
 /// Each command with the greatest value of each of its numbers; u64::MAX where
 /// any number is allowed, 0 for a field's name.
-const SHAPES: [(&str, &[u64]); 28] = [
+const SHAPES: [(&str, &[u64]); 29] = [
     ("image", &[65_600]),
     ("noise", &[PLACE, PLACE, u64::MAX]),
     ("set", &[PLACE, u64::MAX]),
@@ -21,6 +21,7 @@ const SHAPES: [(&str, &[u64]); 28] = [
     ("joinas", &[0xFFFF_FFFF]),
     ("begin", &[31, 0xFFFF_FFFF, 1_100, 255]),
     ("beginread", &[31, 0xFFFF_FFFF, 1_100]),
+    ("serve", &[40, 40]),
     ("step", &[31, 100_000]),
     ("leave", &[31]),
     ("read", &[31, 0xFFFF_FFFF, 4_096]),
@@ -103,8 +104,30 @@ fn greatest(random: &mut Random, command: &str, most: u64, places: usize) -> u64
     }
 }
 
+/// The words of a `serve` line: few points and writes, or up to the greatest counts and
+/// one more, then in as many digits as there may be. One word of many is out of its range
+/// at most.
+fn serve_words(random: &mut Random) -> Vec<String> {
+    let most = *random.pick(&[1, 2, 3, 4, 40, 41]);
+    let (n, m) = (random.below(most + 1), random.below(most + 1));
+    let m = if random.once_in(2) { n } else { m };
+    let mut mosts = vec![31; n];
+    mosts.extend([0xFFFF_FFFF, 1_100, 255].repeat(m));
+    let odd = random.below(2 * mosts.len() + 1);
+    let width = if n + m > 60 { 20 } else { 1 };
+    let mut words = vec!["serve".to_string(), n.to_string(), m.to_string()];
+    for (i, &most) in mosts.iter().enumerate() {
+        let small = format!("{:0width$}", random.any() % most.min(600));
+        words.push(if i == odd { number_word(random, most) } else { small });
+    }
+    words
+}
+
 fn good_words(random: &mut Random, places: usize) -> Vec<String> {
     let (command, mosts) = random.pick(&SHAPES);
+    if *command == "serve" && !random.once_in(4) {
+        return serve_words(random);
+    }
     let mut words = vec![command.to_string()];
     for (i, &most) in mosts.iter().enumerate() {
         let is_field = (*command == "alter" && i == 1) || (*command == "altershared" && i == 0);

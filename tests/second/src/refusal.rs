@@ -1,6 +1,6 @@
 //! Document 01, "Why a call is turned down". Document 02, K1: "11, 15, 16 and 17 now
 //! speak of reads too." K4: 10 looks at reports and chain length, 20 reads the chain
-//! length, 18 has another limit.
+//! length, 18 has another limit. K6 brings 26 and 27.
 
 /// The reasons, in the order and with the numbers of document 01.
 #[derive(Clone, Copy, Debug, PartialEq, Eq, PartialOrd, Ord)]
@@ -49,6 +49,10 @@ pub enum Refusal {
     NoLogBlock = 21,
     /// 22: "nothing is mapped there"
     Unmapped = 22,
+    /// 26: "no points, more than 32 or not one write for each"
+    BadList = 26,
+    /// 27: "a point listed twice"
+    ListedTwice = 27,
 }
 
 impl Refusal {

@@ -8,10 +8,11 @@ use crate::maker::Maker;
 use crate::maps::a_map;
 use crate::random::Random;
 use crate::readers::*;
+use crate::servers::serving;
 use crate::standing::*;
 
 /// The kinds of scripts.
-pub const KINDS: [&str; 13] = [
+pub const KINDS: [&str; 14] = [
     "ordinary work",
     "nearly full log",
     "nearly full image",
@@ -25,6 +26,7 @@ pub const KINDS: [&str; 13] = [
     "stretches",
     "reads",
     "standing",
+    "serving",
 ];
 
 /// A script of a kind.
@@ -44,7 +46,8 @@ pub fn make(random: Random, kind: usize) -> Vec<u8> {
         9 => mixed(&mut maker, lines),
         10 => stretches(&mut maker, lines),
         11 => reads(&mut maker, lines),
-        _ => standing(&mut maker, lines),
+        12 => standing(&mut maker, lines),
+        _ => serving(&mut maker, lines),
     }
     look_at_all(&mut maker);
     maker.script

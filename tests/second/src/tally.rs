@@ -2,14 +2,14 @@
 
 use std::collections::BTreeMap;
 
-/// A call and what it answered, or what happened inside it.
+/// By call: what it answered, or what happened inside it.
 #[derive(Clone, Debug, Default)]
 pub struct Tally {
-    counts: BTreeMap<(String, String), u64>,
+    counts: BTreeMap<String, BTreeMap<String, u64>>,
 }
 
 /// "Which call gives which refusal", with the answers.
-pub const TABLE: [(&str, &[&str], &[u64]); 11] = [
+pub const TABLE: [(&str, &[&str], &[u64]); 12] = [
     ("layout", &["laid out"], &[1]),
     ("open", &["opened"], &[1, 2, 3, 4, 5, 6, 7, 8, 9]),
     ("join", &["joined"], &[10, 12, 13, 18]),
@@ -20,6 +20,11 @@ pub const TABLE: [(&str, &[&str], &[u64]); 11] = [
         &["stored", "extending", "moved", "committed", "copied", "read"],
         &[10, 11, 14, 15, 18, 20, 21],
     ),
+    (
+        "serve",
+        &["committed at once", "committed after moved", "stored", "moved", "extending"],
+        &[10, 11, 14, 15, 16, 17, 18, 19, 20, 21, 26, 27],
+    ),
     ("leave", &["left"], &[10, 11, 14]),
     ("read", &["read"], &[10, 11, 14, 18]),
     ("show", &["show"], &[10, 11, 14, 18]),
@@ -28,7 +33,7 @@ pub const TABLE: [(&str, &[&str], &[u64]); 11] = [
 ];
 
 /// What happens inside the calls and is to be met too.
-pub const EVENTS: [&str; 147] = [
+pub const EVENTS: [&str; 170] = [
     "linked",
     "moved by a lost link",
     "moved, refills nothing",
@@ -176,6 +181,29 @@ pub const EVENTS: [&str; 147] = [
     "caught up, 64 log blocks entered",
     "caught up, more than 64 log blocks entered",
     "caught up, as many entered as can be",
+    "served one point",
+    "served 32 points",
+    "served, some refused and some committed",
+    "served, 18 at a beginning beside a write begun",
+    "served, 19 beside a write begun",
+    "served, a write under way kept",
+    "served, a read under way kept",
+    "served, 18 at a step",
+    "served, 18 at a step, gone by the end",
+    "served, linked and a link lost",
+    "served, a block filled again",
+    "served, committed in the last round",
+    "served, unfinished beside a committed one",
+    "served, reported for another number",
+    "26 of no points",
+    "26 of 33 points",
+    "26 for another count of writes",
+    "26 with a point listed twice",
+    "26 with an unfit shared record",
+    "27 with an unfit shared record",
+    "27 of points that are no neighbours",
+    "27 of two places",
+    "27 above 31",
 ];
 
 /// The names of those that happened.
@@ -189,7 +217,14 @@ impl Tally {
     }
 
     pub fn count_times(&mut self, call: &str, answer: &str, times: u64) {
-        *self.counts.entry((call.to_string(), answer.to_string())).or_insert(0) += times;
+        // Most pairs are there already: no string is made for those.
+        match self.counts.get_mut(call).and_then(|answers| answers.get_mut(answer)) {
+            Some(count) => *count += times,
+            None => {
+                let answers = self.counts.entry(call.to_string()).or_default();
+                answers.insert(answer.to_string(), times);
+            }
+        }
     }
 
     pub fn refused(&mut self, call: &str, number: u64) {
@@ -207,17 +242,19 @@ impl Tally {
     }
 
     pub fn of(&self, call: &str, answer: &str) -> u64 {
-        self.counts.get(&(call.to_string(), answer.to_string())).copied().unwrap_or(0)
+        self.counts.get(call).and_then(|answers| answers.get(answer)).copied().unwrap_or(0)
     }
 
     /// All counts of a call.
     pub fn total(&self, call: &str) -> u64 {
-        self.counts.iter().filter(|((c, _), _)| c == call).map(|(_, &times)| times).sum()
+        self.counts.get(call).map_or(0, |answers| answers.values().sum())
     }
 
     pub fn add(&mut self, other: &Tally) {
-        for ((call, answer), &times) in &other.counts {
-            self.count_times(call, answer, times);
+        for (call, answers) in &other.counts {
+            for (answer, &times) in answers {
+                self.count_times(call, answer, times);
+            }
         }
     }
 

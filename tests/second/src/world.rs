@@ -10,6 +10,7 @@ use crate::reading::begin_read;
 use crate::reads::{ended_events, read_moved_events};
 use crate::record::*;
 use crate::refusal::Refusal;
+use crate::serve::{ask_list, most_rounds, row, Turn};
 use crate::step::{step, Answer};
 use crate::tally::Tally;
 
@@ -29,6 +30,9 @@ pub enum Call {
     Leave(usize, Option<Record>),
 }
 
+/// A point of K6's list: its number, and its record where it is not joined.
+pub type ListedPoint = (usize, Option<Record>);
+
 /// An opened image, the points' newest records and the book.
 pub struct World {
     pub image: Vec<u64>,
@@ -37,6 +41,10 @@ pub struct World {
     book: Book,
     log: Vec<u64>,
     moved: [u64; 32],
+    /// What the last step answered.
+    last: Option<Answer>,
+    /// The calls made, those of K6's rows one by one.
+    pub calls: usize,
     pub tally: Tally,
 }
 
@@ -61,14 +69,65 @@ impl World {
             shared: opened.shared,
             records: vec![None; 32],
             moved: [0; 32],
+            last: None,
+            calls: 0,
             tally: Tally::default(),
         };
         world.check_image()?;
         Ok(world)
     }
 
-    /// Makes the call and looks at everything.
-    pub fn call(&mut self, call: Call) -> Result<(), String> {
+    /// K6's call, "count[ed] as that row, with a cut between any two": each beginning and
+    /// step is a call of its own. Answers the rounds, of which there is one for each step of
+    /// the point that has most.
+    pub fn serve(
+        &mut self,
+        list: &[ListedPoint],
+        writes: &[(usize, Vec<u8>)],
+    ) -> Result<usize, String> {
+        let numbers: Vec<usize> = list.iter().map(|(number, _)| *number).collect();
+        if let Err(why) = ask_list(&numbers, writes.len()) {
+            return self.refused("serve", why, &[26, 27]).map(|_| 0);
+        }
+        let mut steps = vec![0; list.len()];
+        let answers = row(list.len(), |turn| match turn {
+            Turn::Begin(i) => {
+                let ((p, record), (offset, text)) = (list[i].clone(), writes[i].clone());
+                let refused = self.call(Call::Begin(p, record, offset, text))?;
+                Ok::<_, String>(refused.map(Answer::Refused))
+            }
+            Turn::Step(i) => {
+                steps[i] += 1;
+                self.call(Call::Step(list[i].0, None))?;
+                Ok(self.last.clone())
+            }
+        })?;
+        for (answer, &steps) in answers.iter().zip(&steps) {
+            self.count_end(answer, steps)?;
+        }
+        let rounds = steps.into_iter().max().unwrap_or(0);
+        must(rounds <= most_rounds(list.len()), "the number of rounds")?;
+        Ok(rounds)
+    }
+
+    /// "In demand 3's lists each write begun ends within these rounds."
+    fn count_end(&mut self, answer: &Answer, steps: usize) -> Result<(), String> {
+        match answer {
+            Answer::Committed(0) => self.tally.count("serve", "committed at once"),
+            Answer::Committed(_) => self.tally.count("serve", "committed after moved"),
+            Answer::Refused(why) => {
+                let allowed: &[u64] =
+                    if steps > 0 { &[20, 21] } else { &[11, 14, 15, 16, 17, 19] };
+                self.refused("serve", *why, allowed)?;
+            }
+            _ => return Err("a served write ends within the rounds".to_string()),
+        }
+        Ok(())
+    }
+
+    /// Makes the call and looks at everything; what it is refused by.
+    pub fn call(&mut self, call: Call) -> Result<Option<Refusal>, String> {
+        self.calls += 1;
         let before = self.image.clone();
         let shared = self.shared.clone();
         let is_of_read = self.is_of_read(&call);
@@ -89,7 +148,8 @@ impl World {
             let ends = matches!(why, Refusal::LogFull | Refusal::NoLogBlock);
             must(ends || shared == self.shared, "a refused call leaves the shared record")?;
         }
-        self.check_image()
+        self.check_image()?;
+        Ok(refused)
     }
 
     /// A beginning or a step of a read.
@@ -202,6 +262,7 @@ impl World {
             self.count_step(p, &answer, &record, &after)?;
             self.records[p] = Some(after);
         }
+        self.last = Some(answer.clone());
         Ok(match answer {
             Answer::Refused(why) => Some(why),
             _ => None,
@@ -423,4 +484,30 @@ pub fn longest_read() -> Result<usize, String> {
     }
     must(world.tally.of("step", "read") == 1, "the read has ended")?;
     Ok(steps)
+}
+
+/// The most rounds that are known: all points have the same write of 514 bytes at offset
+/// 511, and the log is one entry short of full for each of them but one.
+pub fn longest_serve(count: usize) -> Result<usize, String> {
+    let (mut world, list, writes) = longest_list(count)?;
+    let rounds = world.serve(&list, &writes)?;
+    let ends = ["committed at once", "committed after moved"].map(|end| world.tally.of("serve", end));
+    must(ends == [1, count as u64 - 1], "all have committed, and all but one after Moved")?;
+    Ok(rounds)
+}
+
+/// That list, its writes, and the world with its points.
+pub fn longest_list(count: usize) -> Result<(World, Vec<ListedPoint>, Vec<(usize, Vec<u8>)>), String> {
+    let mut image = vec![0; 64 * (8 + 4 * count)];
+    lay_out(&mut image).map_err(|_| "laying out")?;
+    for slot in FIRST_SLOT..END_SLOT + 1 - count {
+        image[place_of(1, slot)] = Entry { v: 9, b: 7, n: 1, u: 512, point: 0, rest: 0 }.pack();
+    }
+    let mut world = World::new(image)?;
+    for p in 0..count {
+        world.call(Call::Join(p))?;
+    }
+    let list = (0..count).map(|p| (p, None)).collect();
+    let writes = (0..count).map(|p| (511, vec![p as u8 + 1; 514])).collect();
+    Ok((world, list, writes))
 }

@@ -115,7 +115,7 @@ fn the_gate_script_gives_its_output() {
 /// The outputs were worked out by hand.
 #[test]
 fn the_kept_scripts_give_their_output() {
-    for name in ["stretches", "strangers", "reading", "standing"] {
+    for name in ["stretches", "strangers", "reading", "standing", "serving", "ladder"] {
         let output = run(&kept(&format!("tests/{name}.script")));
         let expected = kept(&format!("tests/{name}.expected"));
         let [output, expected] = [output, expected].map(|bytes| String::from_utf8(bytes).unwrap());
@@ -131,6 +131,8 @@ fn the_gate_script_and_the_kept_ones_meet_everything() {
     bench.script(&kept("tests/strangers.script"));
     bench.script(&kept("tests/reading.script"));
     bench.script(&kept("tests/standing.script"));
+    bench.script(&kept("tests/serving.script"));
+    bench.script(&kept("tests/ladder.script"));
     for entered in [64, 65] {
         bench.script(chains::long_chain(80, entered).as_bytes());
         bench.line(b"begin 0 0 1 1");

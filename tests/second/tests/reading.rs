@@ -112,7 +112,8 @@ fn the_kept_reads_meet_everything() {
     bench.script(&fs::read(path).expect("a kept file"));
     let of_a_read = |event: &str| {
         let of_k4 = event.starts_with("report") || event.contains("circle");
-        !of_k4 && (event.contains("read") || event.contains("copied"))
+        let of_k6 = event.starts_with("served");
+        !of_k4 && !of_k6 && (event.contains("read") || event.contains("copied"))
     };
     for event in EVENTS.into_iter().filter(|event| of_a_read(event)) {
         assert!(bench.tally.of("event", event) > 0, "{event}");

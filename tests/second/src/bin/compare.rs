@@ -18,7 +18,7 @@ use second::{images, scripts, smalls};
 
 const USAGE: &str = "compare [--session PATH] [--listing PATH] [--smalllogs PATH] [--self] \
                      [--seed S] [--scripts N] [--images N] [--jobs N] [--brief]";
-const SCRIPTS: usize = 2_860;
+const SCRIPTS: usize = 3_080;
 const IMAGES: usize = 4_800;
 const SMALL_LOGS: usize = 300;
 /// The first stream of the small logs, past those of images and scripts.

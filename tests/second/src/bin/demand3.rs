@@ -9,8 +9,10 @@ use second::image::lay_out;
 use second::random::Random;
 use second::readers::a_read_length;
 use second::record::{Phase, Record};
+use second::serve::most_rounds;
+use second::servers::some_writes;
 use second::tally::{Tally, EVENTS};
-use second::world::{longest_case, longest_read, Call, World, MOST_READ_STEPS, MOST_STEPS};
+use second::world::*;
 
 const USAGE: &str = "demand3 [--seed S] [--runs N] [--calls N]";
 
@@ -37,13 +39,30 @@ impl Alone {
     }
 }
 
+/// Lists served, and the fewest rounds that were left.
+struct Served {
+    lists: usize,
+    left: usize,
+}
+
+impl Served {
+    fn none() -> Served {
+        Served { lists: 0, left: usize::MAX }
+    }
+
+    fn add(&mut self, other: &Served) {
+        self.lists += other.lists;
+        self.left = self.left.min(other.left);
+    }
+}
+
 /// One run's walk: the world, its random numbers and what was seen.
 struct Walk {
     world: World,
     random: Random,
-    made: usize,
     limit: usize,
     alone: Alone,
+    served: Served,
     /// Beginnings refused since one that was not.
     barren: usize,
 }
@@ -62,6 +81,15 @@ fn main() -> ExitCode {
             Ok(steps) if steps == most => println!("the longest {name} takes {most} steps"),
             Ok(steps) => return failed(&format!("the longest {name} takes {steps} steps")),
             Err(why) => return failed(&format!("the longest {name}: {why}")),
+        }
+    }
+    for count in [1, 2, 3] {
+        match longest_serve(count) {
+            Ok(rounds) if rounds + 1 == most_rounds(count) => {
+                println!("the longest known call for {count} takes {rounds} rounds");
+            }
+            Ok(rounds) => return failed(&format!("the longest call for {count}: {rounds} rounds")),
+            Err(why) => return failed(&format!("the longest call for {count}: {why}")),
         }
     }
     run_all(&options)
@@ -89,7 +117,7 @@ fn options() -> Option<Options> {
 
 fn run_all(options: &Options) -> ExitCode {
     let mut tally = Tally::default();
-    let (mut calls, mut alone) = (0, Alone::default());
+    let (mut calls, mut alone, mut served) = (0, Alone::default(), Served::none());
     for run in 0..options.runs {
         let mut random = Random::stream(options.seed, run as u64);
         let image = first_image(&mut random, run);
@@ -98,21 +126,24 @@ fn run_all(options: &Options) -> ExitCode {
             Err(why) => return failed(&format!("seed {} run {run}: {why}", options.seed)),
         };
         let limit = options.calls;
+        let (alone_here, served_here) = (Alone::default(), Served::none());
         let mut walk =
-            Walk { world, random, made: 0, limit, alone: Alone::default(), barren: 0 };
+            Walk { world, random, limit, alone: alone_here, served: served_here, barren: 0 };
         if let Err(why) = walk.go() {
-            let call = walk.made;
+            let call = walk.world.calls;
             return failed(&format!("seed {} run {run} call {call}: {why}", options.seed));
         }
         tally.add(&walk.world.tally);
-        calls += walk.made;
+        calls += walk.world.calls;
         alone.add(&walk.alone);
+        served.add(&walk.served);
     }
     report(&tally);
     println!(
         "{} points stepped alone, at most {} steps of a write and {} of a read",
         alone.points, alone.write, alone.read
     );
+    println!("{} lists served, each with at least {} rounds left", served.lists, served.left);
     println!("{} runs, {calls} calls: after each, image and book agreed", options.runs);
     ExitCode::SUCCESS
 }
@@ -121,7 +152,7 @@ fn report(tally: &Tally) {
     for (call, answers, _) in second::tally::TABLE {
         let mut counts: Vec<String> =
             answers.iter().map(|answer| format!("{answer} {}", tally.of(call, answer))).collect();
-        counts.extend((1..=22).filter_map(|number| {
+        counts.extend((1..=27).filter_map(|number| {
             let times = tally.of(call, &format!("refused {number}"));
             (times > 0).then(|| format!("refused {number}: {times}"))
         }));
@@ -184,8 +215,7 @@ fn nearly_full(random: &mut Random) -> Vec<u64> {
 
 impl Walk {
     fn call(&mut self, call: Call) -> Result<(), String> {
-        self.made += 1;
-        self.world.call(call)
+        self.world.call(call).map(drop)
     }
 
     /// Random acts until the calls are spent.
@@ -193,8 +223,8 @@ impl Walk {
         for p in 0..self.random.between(1, 5) {
             self.call(Call::Join(p * 6))?;
         }
-        while self.made < self.limit && self.barren < 60 {
-            match self.random.below(60) {
+        while self.world.calls < self.limit && self.barren < 60 {
+            match self.random.below(62) {
                 _ if self.joined().is_empty() && !self.random.once_in(4) => self.join()?,
                 0 => self.join()?,
                 1 => self.leave()?,
@@ -202,6 +232,7 @@ impl Walk {
                 3..=14 => self.begin()?,
                 15..=18 => self.begin_read()?,
                 19..=21 => self.together()?,
+                22 | 23 => self.serve()?,
                 _ => self.steps()?,
             }
             if self.random.once_in(6) {
@@ -312,6 +343,32 @@ impl Walk {
         self.call(Call::Begin(p, None, offset, text))?;
         let has_begun = self.world.tally.of("begin", "begun") > begun;
         self.barren = if has_begun { 0 } else { self.barren + 1 };
+        Ok(())
+    }
+
+    /// K6's call: a list of joined points and, now and then, of others; mostly one write
+    /// for each.
+    fn serve(&mut self) -> Result<(), String> {
+        let mut list: Vec<ListedPoint> = self.joined().into_iter().map(|p| (p, None)).collect();
+        if !self.random.once_in(4) {
+            let busy = self.with_write(true);
+            list.retain(|(p, _)| !busy.contains(p));
+        }
+        if self.random.once_in(6) {
+            let (at, p) = (self.random.below(list.len() + 1), self.random.below(40));
+            list.insert(at, (p, Some(self.any_record())));
+        }
+        let shift = self.random.below(list.len().max(1));
+        list.rotate_left(shift);
+        let count = if self.random.once_in(20) { self.random.below(7) } else { list.len() };
+        let writes: Vec<(usize, Vec<u8>)> = some_writes(&mut self.random, count)
+            .into_iter()
+            .map(|(offset, length, seed)| (offset, vec![seed as u8 | 1; length]))
+            .collect();
+        let rounds = self.world.serve(&list, &writes)?;
+        if rounds > 0 {
+            self.served.add(&Served { lists: 1, left: most_rounds(list.len()) - rounds });
+        }
         Ok(())
     }
 
