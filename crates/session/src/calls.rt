@@ -82,7 +82,7 @@ fn is_done(reply: Reply) -> bool {
 }
 
 // The text of a write.
-fn fill_text(text: &mut [u8], seed: u64)
+pub(crate) fn fill_text(text: &mut [u8], seed: u64)
     requires { ⌜ (length (now text) ≤ 1100) × (seed < 256) ⌝ }
     ensures { λ _. ⌜ now (text .exit) ≡ textOf seed (length (now (text .entry))) ⌝ }
 {

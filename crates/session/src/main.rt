@@ -12,6 +12,7 @@ mod order;
 mod print;
 mod records;
 mod scan;
+mod serve;
 mod steps;
 
 use log::Shared;
@@ -24,9 +25,12 @@ struct Bench {
     shared: Shared,
 }
 
-// Does a command but `image` and writes its lines; the shared record after it.
-fn obey(image: &mut [u64], shared: Shared, places: &mut Places, o: Order) -> Shared {
+// Does a line's command but `image` and writes its lines; the shared record after it.
+fn obey(image: &mut [u64], shared: Shared, places: &mut Places, line: &[u8], o: Order) -> Shared {
     let command = o.command;
+    if command == order::SERVE {
+        return serve::obey(image, shared, places, line, o);
+    }
     if command < order::OPEN {
         image::obey(image, o);
         return shared;
@@ -42,10 +46,17 @@ fn obey(image: &mut [u64], shared: Shared, places: &mut Places, o: Order) -> Sha
 }
 
 // The same on the first words of the room that images stand in.
-fn obey_in(room: &mut [u64], words: usize, shared: Shared, places: &mut Places, o: Order) -> Shared
+fn obey_in(
+    room: &mut [u64],
+    words: usize,
+    shared: Shared,
+    places: &mut Places,
+    line: &[u8],
+    o: Order,
+) -> Shared
     requires { ⌜ words ≤ length (now room) ⌝ }
 {
-    obey(&mut room[0..words], shared, places, o)
+    obey(&mut room[0..words], shared, places, line, o)
 }
 
 // An image of so many zero words; all records become zero.
@@ -85,7 +96,7 @@ fn do_line(line: &[u8], room: &mut [u64; 65600], bench: Bench, places: &mut Plac
     }
     let words = bench.words;
     let before = bench.shared;
-    let shared = obey_in(room, words, before, places, o);
+    let shared = obey_in(room, words, before, places, line, o);
     Bench { words, shared }
 }
 

@@ -38,6 +38,8 @@ pub const STEP: u32 = 26;
 
 pub const LEAVE: u32 = 27;
 
+pub const SERVE: u32 = 28;
+
 // Looks.
 pub const READ: u32 = 30;
 
@@ -68,7 +70,7 @@ pub const MAP: u32 = 45;
 
 pub const REPORT: u32 = 46;
 
-// A command, and how many words follow its name.
+// A command, and how many words follow its name: of `serve`, the two that say how many more.
 struct Verb {
     command: u32,
     words: u32,
@@ -133,6 +135,9 @@ fn call_verb(name: &[u8]) -> Verb {
     }
     if scan::is(name, b"leave") {
         return taking(LEAVE, 1);
+    }
+    if scan::is(name, b"serve") {
+        return taking(SERVE, 2);
     }
     image_verb(name)
 }
@@ -274,6 +279,15 @@ fn plain(command: u32) -> Order {
     }
 }
 
+// Whether a line has a word more than its command takes. (Those of `serve` are counted where they are read.)
+fn has_more(line: &[u8], verb: Verb) -> bool {
+    if verb.command == SERVE {
+        return false;
+    }
+    let extra = scan::word(line, verb.words as usize + 1);
+    extra.len() != 0
+}
+
 // Whether a line writes nothing: it is empty, or its first word begins with '#'.
 fn is_silent(name: &[u8]) -> bool {
     if name.len() == 0 {
@@ -289,8 +303,7 @@ pub fn order_of(line: &[u8]) -> Order {
         return plain(SILENT);
     }
     let v = verb_of(name);
-    let extra = scan::word(line, v.words as usize + 1);
-    if extra.len() != 0 {
+    if has_more(line, v) {
         return plain(WRONG);
     }
     let Number::Value(a) = value(line, v, 1) else {

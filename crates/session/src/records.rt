@@ -68,7 +68,7 @@ fn load_head(places: &Places, p: usize) -> Head
     }
 }
 
-fn load_table(places: &Places, p: usize) -> [u16; 256]
+pub(crate) fn load_table(places: &Places, p: usize) -> [u16; 256]
     requires { ⌜ p < 32 ⌝ }
 {
     let mut table = [0u16; 256];
@@ -78,7 +78,7 @@ fn load_table(places: &Places, p: usize) -> [u16; 256]
     table
 }
 
-fn load_text(places: &Places, p: usize) -> [u8; 1024]
+pub(crate) fn load_text(places: &Places, p: usize) -> [u8; 1024]
     requires { ⌜ p < 32 ⌝ }
 {
     let mut text = [0u8; 1024];
@@ -126,7 +126,7 @@ fn save_head(places: &mut Places, p: usize, head: Head)
     save_write(places, p, head.write);
 }
 
-fn save_table(places: &mut Places, p: usize, table: &[u16; 256])
+pub(crate) fn save_table(places: &mut Places, p: usize, table: &[u16; 256])
     requires { ⌜ p < 32 ⌝ }
 {
     for i in 0..256 {
@@ -134,7 +134,7 @@ fn save_table(places: &mut Places, p: usize, table: &[u16; 256])
     }
 }
 
-fn save_text(places: &mut Places, p: usize, text: &[u8; 1024])
+pub(crate) fn save_text(places: &mut Places, p: usize, text: &[u8; 1024])
     requires { ⌜ p < 32 ⌝ }
 {
     for i in 0..1024 {
@@ -149,6 +149,48 @@ pub(crate) fn save(places: &mut Places, p: usize, point: Point)
     save_head(places, p, point.head);
     save_table(places, p, &point.table);
     save_text(places, p, &point.text);
+}
+
+// The numbers of place p's head, in the order in which they are lent.
+pub(crate) fn lent_head(places: &Places, p: usize) -> [u32; 11]
+    requires { ⌜ p < 32 ⌝ }
+{
+    [
+        number(places, p, 0),
+        number(places, p, 1),
+        number(places, p, 2),
+        number(places, p, 3),
+        number(places, p, 5),
+        number(places, p, 6),
+        number(places, p, 7),
+        number(places, p, 4),
+        number(places, p, 8),
+        number(places, p, 9),
+        number(places, p, 10),
+    ]
+}
+
+fn save_lent_write(places: &mut Places, p: usize, head: &[u32; 11])
+    requires { ⌜ p < 32 ⌝ }
+{
+    set_number(places, p, 4, head[7]);
+    set_number(places, p, 5, head[4]);
+    set_number(places, p, 6, head[5]);
+    set_number(places, p, 7, head[6]);
+    set_number(places, p, 8, head[8]);
+    set_number(places, p, 9, head[9]);
+    set_number(places, p, 10, head[10]);
+}
+
+// Place p's head gets such numbers.
+pub(crate) fn save_lent_head(places: &mut Places, p: usize, head: &[u32; 11])
+    requires { ⌜ p < 32 ⌝ }
+{
+    set_number(places, p, 0, head[0]);
+    set_number(places, p, 1, head[1]);
+    set_number(places, p, 2, head[2]);
+    set_number(places, p, 3, head[3]);
+    save_lent_write(places, p, head);
 }
 
 // Place p becomes zero.
@@ -174,6 +216,34 @@ pub fn no_shared() -> Shared {
         taken: taken,
         joined: 0,
         chain: 0,
+        reports: reports,
+    }
+}
+
+// The shared record's numbers as they are lent, beside its map.
+pub fn lent_shared(shared: Shared) -> [u32; 35] {
+    let reports = shared.reports;
+    let mut numbers = [0u32; 35];
+    numbers[0] = shared.blocks;
+    numbers[1] = shared.joined;
+    numbers[2] = shared.chain;
+    for i in 0..32 {
+        numbers[3 + i] = reports[i];
+    }
+    numbers
+}
+
+// The shared record of such numbers and its map.
+pub fn shared_of(numbers: [u32; 35], taken: [u64; 16]) -> Shared {
+    let mut reports = [0u32; 32];
+    for i in 0..32 {
+        reports[i] = numbers[3 + i];
+    }
+    Shared {
+        blocks: numbers[0],
+        taken: taken,
+        joined: numbers[1],
+        chain: numbers[2],
         reports: reports,
     }
 }

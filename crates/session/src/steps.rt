@@ -6,23 +6,23 @@ use log::Shared;
 use points::Point;
 use points::StepAnswer;
 
-const STORED: u32 = 0;
-
-const EXTENDING: u32 = 1;
+// Kinds of answers, by the numbers that they have where they are lent.
+const STORED: u32 = 1;
 
 const MOVED: u32 = 2;
 
-const COPIED: u32 = 3;
+const EXTENDING: u32 = 3;
 
-// From here on the steps end.
 const COMMITTED: u32 = 4;
 
 const REFUSED: u32 = 5;
 
-const BYTES: u32 = 6;
+const COPIED: u32 = 6;
+
+const BYTES: u32 = 7;
 
 // An answer as numbers: its kind; the retry count of Committed, the reason of a refusal or how many bytes a read answers; and their digest.
-struct Told {
+pub struct Told {
     kind: u32,
     value: u32,
     digest: u64,
@@ -35,7 +35,7 @@ pub struct Walked {
 }
 
 // An answer without bytes.
-fn without_bytes(kind: u32, value: u32) -> Told {
+pub fn without_bytes(kind: u32, value: u32) -> Told {
     Told {
         kind,
         value,
@@ -60,7 +60,7 @@ fn told_of(answer: StepAnswer, bytes: &[u8; 1024]) -> Told {
     }
 }
 
-fn print_told(t: Told) {
+pub fn print_told(t: Told) {
     if t.kind == STORED {
         return print::words(b"stored");
     }
@@ -93,6 +93,11 @@ fn print_stretch(t: Told, times: u64) {
         print::labelled(b" x ", times);
     }
     print::words(b"\n");
+}
+
+// Whether steps end with such an answer.
+fn ends(kind: u32) -> bool {
+    (kind == COMMITTED) | (kind == REFUSED) | (kind == BYTES)
 }
 
 fn same(s: Told, t: Told) -> bool {
@@ -133,7 +138,7 @@ pub(crate) fn walk(image: &mut [u64], shared: Shared, point: Point, most: u64) -
         s = stepped.shared;
         p = stepped.point;
         left -= 1;
-        if COMMITTED <= now.kind {
+        if ends(now.kind) {
             left = 0;
         }
     }

@@ -35,6 +35,9 @@ stretch-requires c κs = omega arith
 sub-left : tie.Need-sub-left Inv-loop μ-loop
 sub-left c = omega arith
 
+ends-requires : tie.Need-ends-requires Inv-loop μ-loop
+ends-requires c κs = tt
+
 loop-less : tie.Need-loop-less Inv-loop μ-loop
 loop-less c = omega arith
 
@@ -72,6 +75,7 @@ walk-spec =
     told-of-requires
     stretch-requires
     sub-left
+    ends-requires
     loop-less
     loop-again
     loop-less-2
