@@ -7,5 +7,6 @@ pub mod Places
 pub mod InTurn
 pub mod Turns
 pub mod ReadyAt
+pub mod Plain
 pub mod ServeReasons
 pub mod Serves

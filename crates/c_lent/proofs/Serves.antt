@@ -6,10 +6,10 @@ use lib.ListN.{length, getD}
 use Rattle.words.specs.Edition.{one}
 use Rattle.words.specs.Logic.{listFrom}
 use Rattle.points.specs.Serving.{Turned, inTurn, rounds, row, serveRounds}
+use Rattle.c_lent.specs.Batch.{Lengths}
 use Rattle.c_lent.specs.Serving.{CommonLent, ListedLent, turnLeft, listed, listedAt, asking, beginTurnFor, stepTurnFor}
 use Rattle.c_lent.specs.Serving.{serveReason, ServeLeft, serveLeft, listsOf, serveFor}
 use Rattle.c_lent.proofs.Places.{whole-list, map-list}
-use Rattle.c_lent.proofs.Turns.{Lengths}
 
 -- the lists of the points that these lists have
 lists-back : (n : ℕ) (c : CommonLent) (heads tables texts answers : List (List ℕ)) → Lengths n heads tables texts answers

@@ -14,6 +14,7 @@ use Rattle.words.proofs.Choice.{choose-true, choose-false}
 use Rattle.words.proofs.Logic.{or-left, or-right}
 use Rattle.words.specs.Logic.{listFrom, some-of}
 use Rattle.points.specs.Serving.{Turned, inTurn, rounds}
+use Rattle.c_lent.specs.Batch.{Lengths}
 use Rattle.c_lent.proofs.InTurn.{Reached, reached-next}
 use Rattle.c_lent.specs.declared.Answer.{Answer}
 use Rattle.c_lent.specs.Numbers.{SharedLent, PointLent, isKnown}
@@ -50,10 +51,6 @@ module _ (words : List ℕ) (s : SharedLent) (p : PointLent) (answer : List ℕ)
   turn-off e = sym (choose-false (kindGoesOn (getD answer 0 0)) _ _ e)
 
 -- ---- the lists that are lent
-
--- the four lists of n points
-abbrev pub Lengths : ℕ → List (List ℕ) → List (List ℕ) → List (List ℕ) → List (List ℕ) → Type 0
-Lengths n heads tables texts answers = (length heads ≡ n) × (length tables ≡ n) × (length texts ≡ n) × (length answers ≡ n)
 
 -- one point's record and answer changed: no other's is
 pub listed-other : (heads tables texts answers : List (List ℕ)) (h t x a : List ℕ) (i j : ℕ) → j ≢ i

@@ -1,17 +1,20 @@
 -- For the contracts of the code that serves a list of points in batches: parts of contracts, nothing here is promised. `Serving` has what is.
 use Prim.Native.Nat.{ℕ, _+_, _%_, _≤_, _<_}
 use mathlib.Core.Path.{_≡_}
+use mathlib.Core.Logic.{_⊎_}
 use mathlib.Core.Bool.{true, false}
 use mathlib.Core.List.{List, [], _∷_}
-use lib.ListN.{length, getD}
+use lib.ListN.{length, getD, set}
 use Rattle.words.specs.Edition.{one}
+use Rattle.words.specs.Memory.{put}
+use Rattle.points.specs.declared.Head.{Head}
 use Rattle.points.specs.declared.Point.{Point}
 use Rattle.points.specs.declared.serve.Row.{Row}
 use Rattle.points.specs.Record.{isReading, runWords}
 use Rattle.points.specs.Stepping.{stepRefusal}
-use Rattle.points.specs.Batch.{rowOf}
+use Rattle.points.specs.Batch.{rowOf, Prepared, filledAt}
 use Rattle.c_lent.specs.Numbers.{sharedIn, lendPoint, headFrom}
-use Rattle.c_lent.specs.Serving.{CommonLent, ListedLent, kindGoesOn}
+use Rattle.c_lent.specs.Serving.{CommonLent, ListedLent, listedLent, pointAs, kindGoesOn}
 
 -- ---- points that are known to fit
 
@@ -33,18 +36,45 @@ AllReady c n f = Going n f (ReadyAt c)
 
 -- ---- rounds in which each stores a word
 
--- this many words are left to fill, in one block of the run; or to zero
-abbrev pub Fills : ℕ → ListedLent → Type 0
-Fills m x =
+-- so many words are left to fill, in one block of the run; or to zero; each of them is stored by a step of its own
+abbrev pub Fills : ℕ → List ℕ → Type 0
+Fills m h = (getD h 7 0 ≡ 1) × (getD h 8 0 % one .blockWords + m ≤ one .blockWords) × (getD h 8 0 + m ≤ runWords one (headFrom h .write))
+
+abbrev pub Zeroes : ℕ → List ℕ → Type 0
+Zeroes m h = (getD h 7 0 ≡ 5) × (getD h 8 0 + m ≤ one .blockWords)
+
+abbrev pub Plain : ℕ → ListedLent → Type 0
+Plain m x = Fills m (x .point .head) ⊎ Zeroes m (x .point .head)
+
+-- a point after such a step: one word on
+unfoldable pub oneOn : ListedLent → ListedLent
+oneOn x =
     let h = x .point .head in
-    (getD h 7 0 ≡ 1) × (getD h 8 0 % one .blockWords + m ≤ one .blockWords) × (getD h 8 0 + m ≤ runWords one (headFrom h .write))
+    elim (kindGoesOn (getD (x .answer) 0 0)) [
+      | true ↦ listedLent (pointAs (set h 8 (getD h 8 0 + 1)) (x .point .table) (x .point .text)) (1 ∷ 0 ∷ [])
+      | false ↦ x
+    ]
 
-abbrev pub Zeroes : ℕ → ListedLent → Type 0
-Zeroes m x = let h = x .point .head in (getD h 7 0 ≡ 5) × (getD h 8 0 + m ≤ one .blockWords)
-
--- a row in numbers; that of a point
+-- a row in numbers; that of the next m words of a point whose run is being filled
 abbrev pub rowFrom : List ℕ → Row
 rowFrom r = record { run = getD r 0 0; from = getD r 1 0; lead = getD r 2 0; end = getD r 3 0 }
 
-abbrev pub RowFor : List ℕ → ListedLent → Type 0
-RowFor r x = rowFrom r ≡ rowOf one (headFrom (x .point .head)) (x .point .table) (getD (x .point .head) 8 0)
+abbrev pub RowFor : ℕ → List ℕ → ListedLent → Type 0
+RowFor m r x =
+    let h = x .point .head in
+    getD h 7 0 ≡ 1 → (j : ℕ) → j < m → rowFrom r ≡ rowOf one (headFrom h) (x .point .table) (getD h 8 0 + j)
+
+-- the next m steps of a point are such ones, and its row is at hand
+pub record NextWords (m : ℕ) (row : List ℕ) (x : ListedLent) : Type 0 where
+  pub plain : Plain m x
+  pub row-is : RowFor m row x
+
+-- what the store of such a step leaves of an image
+pub record StoresNext (words row : List ℕ) (phase block k : ℕ) (text left : List ℕ) : Type 0 where
+  pub zeroed : phase ≡ 5 → left ≡ put one words (record { block = block; word = k; value = 0 })
+  pub filled :
+      (phase ≡ 5 → ⊥) → (h : Head) (table : List ℕ) → Prepared (rowFrom row) h table k → left ≡ filledAt one h table text k words
+
+-- the four lists of n points
+abbrev pub Lengths : ℕ → List (List ℕ) → List (List ℕ) → List (List ℕ) → List (List ℕ) → Type 0
+Lengths n heads tables texts answers = (length heads ≡ n) × (length tables ≡ n) × (length texts ≡ n) × (length answers ≡ n)

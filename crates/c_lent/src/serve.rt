@@ -2,13 +2,14 @@
 ghost use mathlib.Core.Path.{_≡_};
 ghost use mathlib.Core.Bool.{true, false};
 ghost use Prim.Native.Nat.{suc, _-_, _≤_, _<_};
-ghost use lib.ListN.{length};
+ghost use lib.ListN.{length, getD};
 ghost use lib.Dec.{eqb};
 ghost use Rattle.words.specs.Edition.{one};
 ghost use Rattle.words.specs.Logic.{member, listFrom};
 ghost use Rattle.points.specs.Serving.{inTurn, rounds, serveRounds, twice};
 ghost use Rattle.c_lent.specs.Numbers.{sharedLent, pointLent};
 ghost use Rattle.c_lent.specs.Serving.{kindGoesOn, beginTurnFor, stepTurnFor, listed, asking, commonLent, turnLeft, listedLent, askingLent};
+ghost use Rattle.c_lent.specs.Batch.{ReadyAt, NextWords, StoresNext, oneOn};
 ghost use Rattle.c_lent.specs.Serving.{Lent, oneForEach, anyGoesOn, begunAnswer, startAt, numberAt, serveReason, serveLeft, serveFor};
 
 // Whether the write goes on after an answer of this kind.
@@ -126,6 +127,50 @@ fn round(
 {
     for i in 0..heads.len() {
         turn(image, shared, taken, &mut heads[i], &mut tables[i], &mut texts[i], &mut answers[i], bytes);
+    }
+}
+
+// The store of a step that zeroes word k of a log block, or fills word k of a run by its row.
+fn store_next(image: &mut [u64], row: &[u32; 4], phase: u32, block: u32, text: &[u8; 1024], k: u32)
+    ensures { λ _. ⌜ StoresNext (now (image .entry)) (now (row .entry)) phase block k (now (text .entry)) (now (image .exit)) ⌝ }
+{
+    if phase == 5 {
+        words::image::store(image, block, k as usize, 0);
+    } else {
+        let row = points::serve::Row {
+            run: row[0],
+            from: row[1],
+            lead: row[2],
+            end: row[3],
+        };
+        points::serve::fill_word(image, row, text, k);
+    }
+}
+
+// One point's turn where its step stores a word of its run, or zeroes one of its log block. (The shared record and the table are lent for the contract.)
+fn plain_turn(
+    image: &mut [u64],
+    shared: &[u32; 35],
+    taken: &[u64; 16],
+    row: &[u32; 4],
+    head: &mut [u32; 11],
+    table: &[u16; 256],
+    text: &[u8; 1024],
+    answer: &mut [u32; 2],
+)
+    requires { ⌜ (kindGoesOn (getD (now answer) 0 0) ≡ true
+        → ReadyAt (commonLent (now image) (sharedLent shared taken)) (listedLent (pointLent head table text) (now answer))
+        × NextWords 1 (now row) (listedLent (pointLent head table text) (now answer))) ⌝ }
+    ensures { λ _. ⌜ (let x = listedLent (pointLent (head .entry) (table .entry) (text .entry)) (now (answer .entry)) in
+        let c = commonLent (now (image .entry)) (sharedLent (shared .entry) (taken .entry)) in
+        (turnLeft (commonLent (now (image .exit)) (sharedLent (shared .entry) (taken .entry))) (oneOn x) ≡ stepTurnFor c x)
+        × (listedLent (pointLent (head .exit) (table .entry) (text .entry)) (now (answer .exit)) ≡ oneOn x)) ⌝ }
+{
+    if goes_on(answer[0]) {
+        let k = head[8];
+        store_next(image, row, head[7], head[9], text, k);
+        head[8] = k + 1;
+        *answer = [1, 0];
     }
 }
 

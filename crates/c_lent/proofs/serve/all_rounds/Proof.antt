@@ -6,8 +6,9 @@ use lib.ListN.{length}
 use borrow.Author.Needs.{needs}
 use Rattle.points.specs.Serving.{rounds}
 use Rattle.c_lent.specs.Numbers.{sharedAs}
+use Rattle.c_lent.specs.Batch.{Lengths}
 use Rattle.c_lent.specs.Serving.{commonLent, listed, listedAt, stepTurnFor}
-use Rattle.c_lent.proofs.Turns.{Lengths, rounds-next, rounds-over, rounds-idle}
+use Rattle.c_lent.proofs.Turns.{rounds-next, rounds-over, rounds-idle}
 use Rattle.c_lent.proofs.serve.all_rounds.Statement.{statement}
 use Rattle.c_lent.proofs.serve.all_rounds.Tie as tie
 use Rattle.c_lent.proofs.serve.all_rounds.Reads as reads

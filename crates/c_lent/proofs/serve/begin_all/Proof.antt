@@ -6,9 +6,10 @@ use borrow.Author.Needs.{needs}
 use Rattle.words.specs.Logic.{listFrom}
 use Rattle.points.specs.Serving.{inTurn}
 use Rattle.c_lent.specs.Numbers.{sharedAs}
+use Rattle.c_lent.specs.Batch.{Lengths}
 use Rattle.c_lent.specs.Serving.{commonLent, turnLeft, listed, listedAt, asking, askingAt, startAt, beginTurnFor}
 use Rattle.c_lent.proofs.InTurn.{Reached, reached-start, reached-end}
-use Rattle.c_lent.proofs.Turns.{Lengths, lengths-set, starts-up, start-next, text-part, begin-next}
+use Rattle.c_lent.proofs.Turns.{lengths-set, starts-up, start-next, text-part, begin-next}
 use Rattle.c_lent.proofs.serve.begin_all.Statement.{statement}
 use Rattle.c_lent.proofs.serve.begin_all.Tie as tie
 use Rattle.c_lent.proofs.serve.begin_all.Reads as reads

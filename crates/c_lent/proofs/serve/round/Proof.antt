@@ -5,10 +5,11 @@ use lib.ListN.{length}
 use borrow.Author.Needs.{needs}
 use Rattle.points.specs.Serving.{inTurn}
 use Rattle.c_lent.specs.Numbers.{sharedAs}
+use Rattle.c_lent.specs.Batch.{Lengths}
 use Rattle.c_lent.specs.Serving.{commonLent, turnLeft, listed, listedAt, stepTurnFor}
 use Rattle.words.specs.Logic.{listFrom}
 use Rattle.c_lent.proofs.InTurn.{Reached, reached-start, reached-end}
-use Rattle.c_lent.proofs.Turns.{Lengths, lengths-set, round-next}
+use Rattle.c_lent.proofs.Turns.{lengths-set, round-next}
 use Rattle.c_lent.proofs.serve.round.Statement.{statement}
 use Rattle.c_lent.proofs.serve.round.Tie as tie
 use Rattle.c_lent.proofs.serve.round.Reads as reads
