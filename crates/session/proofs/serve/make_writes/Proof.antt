@@ -8,7 +8,8 @@ use Rattle.session.proofs.serve.make_writes.Statement.{statement}
 use Rattle.session.proofs.serve.make_writes.Tie as tie
 
 abbrev Inv-loop : tie.InvT-loop
-Inv-loop numbers writes₀ bytes₀ start₀ i₀ i-end writes bytes start i = (i-end ≡ length writes₀) × (i ≤ length writes₀) × (length writes ≡ length writes₀) × (length bytes ≡ 44000) × (start ≤ 1100 * i)
+Inv-loop numbers writes₀ bytes₀ start₀ i₀ i-end writes bytes start i =
+    (i-end ≡ length writes₀) × (i ≤ length writes₀) × (length writes ≡ length writes₀) × (length bytes ≡ 44000) × (start ≤ 1100 * i)
 
 abbrev μ-loop : tie.MeasureT-loop
 μ-loop numbers writes₀ bytes₀ start₀ i₀ i-end writes bytes start i = length writes₀ - i
