@@ -224,5 +224,15 @@ pub extern "C" fn store_serve_parts(
         ≡ serveFor (commonLent (now (image .entry)) (sharedLent (shared .entry) (taken .entry)))
         (now (heads .entry)) (now (tables .entry)) (now (texts .entry)) (now (answers .entry)) (now (writes .entry)) (now (bytes .entry)) ⌝ }
 {
-    c_lent::serve::serve(image, shared, taken, heads, tables, texts, answers, writes, bytes)
+    c_lent::serve::serve(
+        image,
+        shared,
+        taken,
+        heads,
+        tables,
+        texts,
+        answers,
+        writes,
+        bytes,
+    )
 }

@@ -28,7 +28,6 @@ one-last n f = let e : 0 + n ≡ n = omega arith in rw e at (one-more 0 n f)
 pub one-less {ℓ} : {A : Type ℓ} (i n : ℕ) (f : ℕ → A) → i < n → listFrom i (n - i) f ≡ f i ∷ listFrom (suc i) (n - suc i) f
 one-less i n f h = let e : n - i ≡ suc (n - suc i) = omega arith in rw e
 
-
 -- ---- whether some of n pass a test, looked at from place i on
 
 module _ (p : ℕ → Bool) (f : ℕ → ℕ) (n i : ℕ) where

@@ -62,8 +62,12 @@ listed-other heads tables texts answers h t x a i j d =
 pub listed-same : (n : ℕ) (heads tables texts answers : List (List ℕ)) (h t x a : List ℕ) (i : ℕ) → Lengths n heads tables texts answers → i < n
     → listedAt (set heads i h) (set tables i t) (set texts i x) (set answers i a) i ≡ listedLent (pointAs h t x) a
 listed-same n heads tables texts answers h t x a i l d =
-    rw (getD-set-same heads i h [] (omega arith), getD-set-same tables i t [] (omega arith), getD-set-same texts i x [] (omega arith),
-    getD-set-same answers i a [] (omega arith))
+    rw (
+      getD-set-same heads i h [] (omega arith),
+      getD-set-same tables i t [] (omega arith),
+      getD-set-same texts i x [] (omega arith),
+      getD-set-same answers i a [] (omega arith),
+    )
 
 pub lengths-set : (n : ℕ) (heads tables texts answers : List (List ℕ)) (h t x a : List ℕ) (i : ℕ) → Lengths n heads tables texts answers
     → Lengths n (set heads i h) (set tables i t) (set texts i x) (set answers i a)

@@ -126,7 +126,16 @@ fn round(
         (listed (now (heads .entry)) (now (tables .entry)) (now (texts .entry)) (now (answers .entry))) ⌝ }
 {
     for i in 0..heads.len() {
-        turn(image, shared, taken, &mut heads[i], &mut tables[i], &mut texts[i], &mut answers[i], bytes);
+        turn(
+            image,
+            shared,
+            taken,
+            &mut heads[i],
+            &mut tables[i],
+            &mut texts[i],
+            &mut answers[i],
+            bytes,
+        );
     }
 }
 
@@ -206,7 +215,16 @@ fn all_rounds(
     let mut bytes = [0u8; 1024];
     let mut left = most;
     while 0 < left && anybody(answers) {
-        round(image, shared, taken, heads, tables, texts, answers, &mut bytes);
+        round(
+            image,
+            shared,
+            taken,
+            heads,
+            tables,
+            texts,
+            answers,
+            &mut bytes,
+        );
         left -= 1;
     }
 }
@@ -324,11 +342,28 @@ pub fn serve(
         ≡ serveFor (commonLent (now (image .entry)) (sharedLent (shared .entry) (taken .entry)))
         (now (heads .entry)) (now (tables .entry)) (now (texts .entry)) (now (answers .entry)) (now (writes .entry)) (now (bytes .entry)) ⌝ }
 {
-    let refused = reason(heads, tables.len(), texts.len(), writes, answers.len(), bytes.len());
+    let refused = reason(
+        heads,
+        tables.len(),
+        texts.len(),
+        writes,
+        answers.len(),
+        bytes.len(),
+    );
     if refused != 0 {
         return refused;
     }
-    begin_all(image, shared, taken, heads, tables, texts, answers, writes, bytes);
+    begin_all(
+        image,
+        shared,
+        taken,
+        heads,
+        tables,
+        texts,
+        answers,
+        writes,
+        bytes,
+    );
     let most = most_rounds(heads.len());
     all_rounds(image, shared, taken, heads, tables, texts, answers, most);
     0

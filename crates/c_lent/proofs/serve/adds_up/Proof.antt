@@ -39,7 +39,7 @@ index-2-size c = omega arith
 
 -- src/serve.rt:204:13
 returns : tie.Need-returns Inv-loop μ-loop
-returns c = 
+returns c =
     let l = c .before .before .before .loop in
     let writes = c .before .before .before .before .args .writes .now in
     let up = starts-up writes (l .i) (length writes) (omega arith) in
@@ -55,7 +55,7 @@ loop-less c = omega arith
 
 -- src/serve.rt:201:5
 loop-again : tie.Need-loop-again Inv-loop μ-loop
-loop-again c = 
+loop-again c =
     let l = c .before .before .before .loop in
     let writes = c .before .before .before .before .args .writes .now in
     let one : l .i + 1 ≡ suc (l .i) = omega arith in
@@ -63,7 +63,7 @@ loop-again c =
 
 -- src/serve.rt:197:1
 returns-2 : tie.Need-returns-2 Inv-loop μ-loop
-returns-2 c = 
+returns-2 c =
     let l = c .before .loop in
     let writes = c .before .before .args .writes .now in
     let e : l .i ≡ length writes = omega arith in

@@ -39,7 +39,7 @@ add-j c = omega arith
 
 -- src/serve.rt:176:5
 loop-holds : tie.Need-loop-holds Inv-loop μ-loop
-loop-holds c = 
+loop-holds c =
     let a = c .before .args in
     let one : a .i + 1 ≡ suc (a .i) = omega arith in
     (omega arith, refl, omega arith, refl, rw one)
@@ -58,7 +58,7 @@ index-2-if1 c = omega arith
 
 -- src/serve.rt:178:13
 returns : tie.Need-returns Inv-loop μ-loop
-returns c = 
+returns c =
     let l = c .before .before .before .loop in
     let a = c .before .before .before .before .before .args in
     sym (l .inv .4 ∙ some-here (eqb (numberAt (a .heads .now) (a .i))) (numberAt (a .heads .now)) (length (a .heads .now)) (l .j) (omega arith)
@@ -74,16 +74,20 @@ loop-less c = omega arith
 
 -- src/serve.rt:176:5
 loop-again : tie.Need-loop-again Inv-loop μ-loop
-loop-again c = 
+loop-again c =
     let l = c .before .before .before .loop in
-    let a = c .before .before .before .before .before .args in
-    (omega arith, refl, omega arith, refl,
-    l .inv .4 ∙ some-later (eqb (numberAt (a .heads .now) (a .i))) (numberAt (a .heads .now)) (length (a .heads .now)) (l .j) (omega arith)
-    (ne-eqb (numberAt (a .heads .now) (a .i)) (numberAt (a .heads .now) (l .j)) (λ e. c .if1 .left (sym e))))
+    let a = c .before .before .before .before .before .args in (
+      omega arith,
+      refl,
+      omega arith,
+      refl,
+      l .inv .4 ∙ some-later (eqb (numberAt (a .heads .now) (a .i))) (numberAt (a .heads .now)) (length (a .heads .now)) (l .j) (omega arith)
+          (ne-eqb (numberAt (a .heads .now) (a .i)) (numberAt (a .heads .now) (l .j)) (λ e. c .if1 .left (sym e))),
+    )
 
 -- src/serve.rt:170:1
 returns-2 : tie.Need-returns-2 Inv-loop μ-loop
-returns-2 c = 
+returns-2 c =
     let l = c .before .loop in
     let a = c .before .before .before .args in
     sym (l .inv .4 ∙ some-nowhere (eqb (numberAt (a .heads .now) (a .i))) (numberAt (a .heads .now)) (length (a .heads .now)) (l .j) (omega arith))

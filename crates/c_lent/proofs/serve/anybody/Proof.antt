@@ -43,7 +43,7 @@ goes-on-requires c κs = search needs
 
 -- src/serve.rt:138:13
 returns : tie.Need-returns Inv-loop μ-loop
-returns c = 
+returns c =
     let l = c .before .before .before .before .loop in
     let a = c .before .before .before .before .before .args in
     sym (l .inv .2 ∙ some-here kindGoesOn (kindAt (a .answers .now)) (length (a .answers .now)) (l .i) (omega arith) (sym (c .before .goes-on .ensures) ∙ c .if1 .taken))
@@ -58,15 +58,17 @@ loop-less c = omega arith
 
 -- src/serve.rt:136:5
 loop-again : tie.Need-loop-again Inv-loop μ-loop
-loop-again c = 
+loop-again c =
     let l = c .before .before .before .before .loop in
-    let a = c .before .before .before .before .before .args in
-    (refl, omega arith,
-    l .inv .2 ∙ some-later kindGoesOn (kindAt (a .answers .now)) (length (a .answers .now)) (l .i) (omega arith) (sym (c .before .goes-on .ensures) ∙ c .if1 .left))
+    let a = c .before .before .before .before .before .args in (
+      refl,
+      omega arith,
+      l .inv .2 ∙ some-later kindGoesOn (kindAt (a .answers .now)) (length (a .answers .now)) (l .i) (omega arith) (sym (c .before .goes-on .ensures) ∙ c .if1 .left),
+    )
 
 -- src/serve.rt:133:1
 returns-2 : tie.Need-returns-2 Inv-loop μ-loop
-returns-2 c = 
+returns-2 c =
     let l = c .before .loop in
     let a = c .before .before .args in
     sym (l .inv .2 ∙ some-nowhere kindGoesOn (kindAt (a .answers .now)) (length (a .answers .now)) (l .i) (omega arith))

@@ -33,9 +33,13 @@ abbrev μ-loop : tie.MeasureT-loop
 loop-holds : tie.Need-loop-holds Inv-loop μ-loop
 loop-holds c =
     let s = c .before .before in
-    let a = s .args in
-    (omega arith, refl, refl, (refl, s .pre .0, s .pre .1, s .pre .2),
-    reached-start beginTurnFor _ (length (a .heads .now)) _ (listedAt (a .heads .now) (a .tables .now) (a .texts .now) (a .answers .now)))
+    let a = s .args in (
+      omega arith,
+      refl,
+      refl,
+      (refl, s .pre .0, s .pre .1, s .pre .2),
+      reached-start beginTurnFor _ (length (a .heads .now)) _ (listedAt (a .heads .now) (a .tables .now) (a .texts .now) (a .answers .now)),
+    )
 
 -- src/serve.rt:67:27
 mul-end : tie.Need-mul-end Inv-loop μ-loop
@@ -137,10 +141,14 @@ loop-less c = omega arith
 loop-again : tie.Need-loop-again Inv-loop μ-loop
 loop-again c =
     let l = c .before .before .before .before .before .before .before .before .before .before .before .loop in
-    let s = c .before .before .before .before .before .before .before .before .before .before .before .before .before .before in
-    (omega arith, start-next (s .args .writes .now) (l .i) (l .start) (l .inv .1), l .inv .2, lengths-set _ (l .heads) (l .tables) (l .texts) (l .answers) _ _ _ _ (l .i) (l .inv .3),
-    begin-next _ _ _ (l .heads) (l .tables) (l .texts) (l .answers) (s .args .writes .now) (s .args .bytes .now) _ _ _ _ _ (l .i) _ _ (l .inv .3) (omega arith)
-    refl (text-part (s .args .writes .now) (s .args .bytes .now) (l .i) (l .start) (l .inv .1)) (l .inv .4) (c .begin-turn .ensures))
+    let s = c .before .before .before .before .before .before .before .before .before .before .before .before .before .before in (
+      omega arith,
+      start-next (s .args .writes .now) (l .i) (l .start) (l .inv .1),
+      l .inv .2,
+      lengths-set _ (l .heads) (l .tables) (l .texts) (l .answers) _ _ _ _ (l .i) (l .inv .3),
+      begin-next _ _ _ (l .heads) (l .tables) (l .texts) (l .answers) (s .args .writes .now) (s .args .bytes .now) _ _ _ _ _ (l .i) _ _ (l .inv .3) (omega arith)
+          refl (text-part (s .args .writes .now) (s .args .bytes .now) (l .i) (l .start) (l .inv .1)) (l .inv .4) (c .begin-turn .ensures),
+    )
 
 -- src/serve.rt:48:1
 same-length : tie.Need-same-length Inv-loop μ-loop

@@ -30,7 +30,7 @@ again-requires c κs = omega arith
 
 -- src/serve.rt:190:13
 returns : tie.Need-returns Inv-loop μ-loop
-returns c = 
+returns c =
     let l = c .before .before .before .loop in
     let a = c .before .before .before .before .args in
     sym (l .inv .2 ∙ twice-here (numberAt (a .heads .now)) (length (a .heads .now)) (l .i) (omega arith) (sym (c .before .again .ensures) ∙ c .if1 .taken))
@@ -45,15 +45,17 @@ loop-less c = omega arith
 
 -- src/serve.rt:188:5
 loop-again : tie.Need-loop-again Inv-loop μ-loop
-loop-again c = 
+loop-again c =
     let l = c .before .before .before .loop in
-    let a = c .before .before .before .before .args in
-    (refl, omega arith,
-    l .inv .2 ∙ twice-later (numberAt (a .heads .now)) (length (a .heads .now)) (l .i) (omega arith) (sym (c .before .again .ensures) ∙ c .if1 .left))
+    let a = c .before .before .before .before .args in (
+      refl,
+      omega arith,
+      l .inv .2 ∙ twice-later (numberAt (a .heads .now)) (length (a .heads .now)) (l .i) (omega arith) (sym (c .before .again .ensures) ∙ c .if1 .left),
+    )
 
 -- src/serve.rt:185:1
 returns-2 : tie.Need-returns-2 Inv-loop μ-loop
-returns-2 c = 
+returns-2 c =
     let l = c .before .loop in
     let a = c .before .before .args in
     sym (l .inv .2 ∙ twice-nowhere (numberAt (a .heads .now)) (length (a .heads .now)) (l .i) (omega arith))

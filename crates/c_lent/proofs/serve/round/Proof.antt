@@ -32,9 +32,13 @@ abbrev μ-loop : tie.MeasureT-loop
 -- src/serve.rt:54:5
 loop-holds : tie.Need-loop-holds Inv-loop μ-loop
 loop-holds c =
-    let a = c .before .args in
-    (omega arith, refl, refl, (refl, c .before .pre .0, c .before .pre .1, c .before .pre .2),
-    reached-start stepTurnFor _ (length (a .heads .now)) _ (listedAt (a .heads .now) (a .tables .now) (a .texts .now) (a .answers .now)))
+    let a = c .before .args in (
+      omega arith,
+      refl,
+      refl,
+      (refl, c .before .pre .0, c .before .pre .1, c .before .pre .2),
+      reached-start stepTurnFor _ (length (a .heads .now)) _ (listedAt (a .heads .now) (a .tables .now) (a .texts .now) (a .answers .now)),
+    )
 
 -- src/serve.rt:55:36
 mul-turn : tie.Need-mul-turn Inv-loop μ-loop
@@ -85,9 +89,13 @@ loop-again : tie.Need-loop-again Inv-loop μ-loop
 loop-again c =
     let y = c .before .before in
     let l = c .before .before .before .before .before .before .before .before .before .before .before .before .loop in
-    let x = y .turn .last in
-    (omega arith, c .before .image .given ∙ l .inv .1, l .inv .2, lengths-set _ (l .heads) (l .tables) (l .texts) (l .answers) _ _ _ _ (l .i) (l .inv .3),
-    round-next _ _ _ (l .heads) (l .tables) (l .texts) (l .answers) _ _ _ _ _ (l .i) (l .inv .3) (omega arith) (l .inv .4) (y .turn .ensures))
+    let x = y .turn .last in (
+      omega arith,
+      c .before .image .given ∙ l .inv .1,
+      l .inv .2,
+      lengths-set _ (l .heads) (l .tables) (l .texts) (l .answers) _ _ _ _ (l .i) (l .inv .3),
+      round-next _ _ _ (l .heads) (l .tables) (l .texts) (l .answers) _ _ _ _ _ (l .i) (l .inv .3) (omega arith) (l .inv .4) (y .turn .ensures),
+    )
 
 -- src/serve.rt:38:1
 same-length : tie.Need-same-length Inv-loop μ-loop

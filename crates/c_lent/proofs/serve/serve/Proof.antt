@@ -105,9 +105,12 @@ returns-2 c =
     let l = begun n .begin-all .last in
     let back = sym one-h ∙ sym two-h in
     serve-done (commonLent (a .image .now) (sharedAs (a .shared .now) (a .taken .now))) (a .heads .now) (a .tables .now) (a .texts .now) (a .answers .now) (a .writes .now) (a .bytes .now)
-    _ _ (l .1 .1 .1 .0) (l .1 .1 .1 .1 .0) (l .1 .1 .1 .1 .1 .0) (l .1 .1 .1 .1 .1 .1 .0) _ _ _ _ _ (sym (e .if1 .left) ∙ e .before .reason .ensures) one-h (m .most-rounds .ensures)
-    (refl, c .before .before .tables2 .given ∙ n .before .before .tables .given ∙ x .tables-are ∙ back,
-    c .before .texts2 .given ∙ n .before .texts .given ∙ x .texts-are ∙ back, c .answers2 .given ∙ n .answers .given ∙ x .answers-are ∙ back)
+    _ _ (l .1 .1 .1 .0) (l .1 .1 .1 .1 .0) (l .1 .1 .1 .1 .1 .0) (l .1 .1 .1 .1 .1 .1 .0) _ _ _ _ _ (sym (e .if1 .left) ∙ e .before .reason .ensures) one-h (m .most-rounds .ensures) (
+      refl,
+      c .before .before .tables2 .given ∙ n .before .before .tables .given ∙ x .tables-are ∙ back,
+      c .before .texts2 .given ∙ n .before .texts .given ∙ x .texts-are ∙ back,
+      c .answers2 .given ∙ n .answers .given ∙ x .answers-are ∙ back,
+    )
     (begun n .begin-all .ensures) (y .all-rounds .ensures)
 
 pub serve-spec : {M : Type 1} → statement M
