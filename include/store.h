@@ -268,12 +268,12 @@ uint32_t store_serve_parts(uint64_t *image, size_t words, uint32_t *numbers, uin
    what these calls of store_begin and store_step leave, one after the other; a point refused at its beginning or at a step gets no
    further step, and the others go on. Each answer is its point's last. A point with a write or a read under way is refused by 15 and
    keeps it.
-   Lent: the image; the shared record; the points' records in three arrays, heads, tables and texts (store_put and store_get move a
-   whole record into and out of a place); room for the answers; the writes; and their texts, one after the other in list order, `size`
-   bytes together.
-   Refusals of the call, before all else, nothing begun and nothing changed: 26, where the five counts are not one number from 1 to 32, or
-   the sizes of the writes together are not `size`; 27, where one number stands in two of the heads. Refusals of a point, in its answer: those
-   of store_begin and of store_step.
+   Lent: the image; the shared record; the points' records in three arrays, `heads`, `tables` and `texts` (store_put and store_get move
+   a whole record into and out of a place); room for the answers; the writes; and in `bytes` what they write, one after the other in
+   list order without gaps: `size` is the sum of all writes[i].size, those that are refused by 16 included.
+   Refusals of the call, before all else, nothing begun and nothing changed: 26, where the five counts are not all the same, or
+   not 1 to 32, or the sizes of the writes together are not `size`; 27, where two heads have the same `number`. Refusals of a point, in its answer: those
+   of store_begin and of store_step. 18 at a step leaves the write under way, which the head's phase shows.
    Words are stored in the order of the steps, with nothing between them: where each must be written back before the next (a cached image),
    use store_begin and store_step. */
 static inline uint32_t store_serve(uint64_t *image, size_t words, store_shared *shared, store_head *heads, size_t head_count,

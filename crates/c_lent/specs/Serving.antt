@@ -71,7 +71,7 @@ listedLent point answer = record { point = point; answer = answer }
 abbrev pub askingLent : PointLent → ℕ → List ℕ → AskingLent
 askingLent point offset text = record { point = point; offset = offset; text = text }
 
--- the lists of n points, each as long, and the texts' bytes
+-- all lists have as many elements as that of the heads, and the sizes add up to the bytes
 abbrev pub Lent : List (List ℕ) → List (List ℕ) → List (List ℕ) → List (List ℕ) → List (List ℕ) → List ℕ → Type 0
 Lent heads tables texts answers writes bytes =
     (length tables ≡ length heads) × (length texts ≡ length heads) × (length answers ≡ length heads) × (length writes ≡ length heads)

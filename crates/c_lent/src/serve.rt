@@ -139,6 +139,8 @@ fn round(
     }
 }
 
+// For rounds in which each point only stores its next word, which the call does not make in batches yet: nothing calls these two.
+
 // The store of a step that zeroes word k of a log block, or fills word k of a run by its row.
 fn store_next(image: &mut [u64], row: &[u32; 4], phase: u32, block: u32, text: &[u8; 1024], k: u32)
     ensures { λ _. ⌜ StoresNext (now (image .entry)) (now (row .entry)) phase block k (now (text .entry)) (now (image .exit)) ⌝ }

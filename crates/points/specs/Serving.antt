@@ -19,7 +19,7 @@ use Rattle.points.specs.Stepping.{stepping, stepKind, stepValue}
 
 -- ---- turns, whoever has them
 
--- what a turn leaves: what all share, and what is the own of the one that had it; of several turns, the own of each
+-- what a turn leaves: what all share, and what only the one has whose turn it was; of several turns, that of each
 pub record Turned (S X : Type 0) : Type 0 where
   pub common : S
   pub own : X
@@ -130,7 +130,8 @@ stepTurn E c x =
 -- ---- the call
 
 -- "for at most 129 × (n−1) + 260 rounds with n points"; "1,025 × (n−1) + 1,540" in edition two (document 02, K11). For each other point a Moved and the
--- words of two edge blocks again; and all words of the run, Extending, the words of the log block, its link, a Moved that only enters it, the commit
+-- words of two edge blocks again; and all words of the run, Extending, the words of the log block, its link or its loss, a Moved that only enters an empty
+-- log block, the commit
 abbrev pub serveRounds : Edition → ℕ → ℕ
 serveRounds E n = (1 + 2 * E .blockWords) * (n - 1) + (runMost E + 1 + E .blockWords + 1 + 1 + 1)
 

@@ -1,6 +1,7 @@
 -- The calls of the code are the calls of the list: what a call leaves is what `serve` says of it, in every world that has the image and the
 -- shared record that it was lent and in which the point hands in the record that it was given. So the claims hold of the code. Opening makes the world
--- that a list begins with; reading at once and locating, which are no calls of the list, show the book's file.
+-- that a list begins with; reading at once and locating, which are no calls of the list, show the book's file. (Of the call that serves a list of points it
+-- is said of the definition, `serving`; no contract of code cites it yet.)
 use Prim.Native.Nat.{ℕ, _+_, _*_, _<_}
 use mathlib.Core.Path.{_≡_}
 use mathlib.Core.Bool.{true, false}
@@ -126,7 +127,7 @@ pub record RowServed (w v : World) (ts : List Turn) (r : Service) : Type 0 where
   pub listed : map (λ t. v .newest (t .number)) ts ≡ r .points
   pub others : (k : ℕ) → member k (map (λ t. t .number) ts) ≡ false → v .newest k ≡ w .newest k
 
--- refused, nothing is begun
+-- what is left is what the row of its beginnings and steps leaves; refused, nothing is begun
 unfoldable pub ServeServed : Edition → List ℕ → Shared → List Point → List Request → Service → Type 0
 ServeServed E words s points requests r =
     (r .reply ≡ Done → (w : World) → w .words ≡ words → w .shared ≡ s → (ts : List Turn) → TurnsOf w words s ts points requests

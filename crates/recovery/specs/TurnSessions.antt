@@ -14,12 +14,13 @@ use Rattle.recovery.specs.Sessions.{Case, _is_, Agree}
 use Rattle.recovery.specs.OtherSizes.{edgeText}
 use Rattle.recovery.specs.Row.{Turn, begunWorld, begunTurns, afterRounds}
 
--- a log block n - 1 entries from full, and 12 blocks after it, of which the first is mapped; points 1 to n join
+-- a log block n - 1 entries from full, and 12 blocks after it, of which the first is mapped
 abbrev pub almostFull : ℕ → World
 almostFull n =
     openWorld one (one .mark ∷ 1 ∷ replicate 62 0 ++ (0 ∷ 0 ∷ replicate (63 - n) (entryOf one 10 2 1 512 0) ++ replicate (n - 1) 0) ++ replicate (64 * 12) 0)
     enough
 
+-- points 1 to n join
 abbrev pub allJoined : ℕ → World
 allJoined n = world one (almostFull n) (listFrom 1 n join)
 
