@@ -1,7 +1,7 @@
 /* Lists of points that are served by one call. */
 #include "runs.h"
 
-enum { LISTS = 4 }; /* of a hostile run */
+enum { LISTS = 3 }; /* of a hostile run */
 
 uint32_t serve_all(size_t n, size_t offset, size_t apart, size_t size)
 {
@@ -84,7 +84,7 @@ static void hostile_list(void)
         points[below(POINTS)].head.number = (uint32_t)below(40);
     for (size_t i = 0; i < n; i++) {
         writes[i].offset = below(8) ? below(1200) : below(2) ? (size_t)any() : 131072 - below(600);
-        writes[i].size = below(12) ? 1 + below(400) : below(TEXT_BYTES);
+        writes[i].size = below(12) ? 1 + below(120) : below(TEXT_BYTES);
         size += writes[i].size;
     }
     size_t usual = words;
