@@ -18,9 +18,11 @@ save-requires c κs =
     let called = c .before .before .before .before .before .before .before .before .before .before in
     let call = called .call in
     let load = loaded called .load in
-    let lent = loaded called .before .before .before .before .before .before .before .before .pre in
-    (call .kept .1 .1 .0 ∙ load .kept .1 .1 .0 ∙ lent .0, call .kept .1 .1 .1 .0 ∙ load .kept .1 .1 .1 .0 ∙ lent .1,
-    call .kept .1 .1 .1 .1 .0 ∙ load .kept .1 .1 .1 .1 .0 ∙ lent .2)
+    let lent = loaded called .before .before .before .before .before .before .before .before .pre in (
+      call .kept .1 .1 .0 ∙ load .kept .1 .1 .0 ∙ lent .0,
+      call .kept .1 .1 .1 .0 ∙ load .kept .1 .1 .1 .0 ∙ lent .1,
+      call .kept .1 .1 .1 .1 .0 ∙ load .kept .1 .1 .1 .1 .0 ∙ lent .2,
+    )
 
 refused-requires : tie.Need-refused-requires
 refused-requires c κs = search needs
