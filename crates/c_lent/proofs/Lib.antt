@@ -8,5 +8,6 @@ pub mod InTurn
 pub mod Turns
 pub mod ReadyAt
 pub mod Plain
+pub mod PlainRounds
 pub mod ServeReasons
 pub mod Serves

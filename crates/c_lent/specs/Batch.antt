@@ -14,7 +14,7 @@ use Rattle.points.specs.Record.{isReading, runWords}
 use Rattle.points.specs.Stepping.{stepRefusal}
 use Rattle.points.specs.Batch.{rowOf, Prepared, filledAt}
 use Rattle.c_lent.specs.Numbers.{sharedIn, lendPoint, headFrom}
-use Rattle.c_lent.specs.Serving.{CommonLent, ListedLent, listedLent, pointAs, kindGoesOn}
+use Rattle.c_lent.specs.Serving.{CommonLent, ListedLent, listedLent, listedAt, pointAs, kindGoesOn}
 
 -- ---- points that are known to fit
 
@@ -69,6 +69,10 @@ pub record NextWords (m : ℕ) (row : List ℕ) (x : ListedLent) : Type 0 where
   pub plain : Plain m x
   pub row-is : RowFor m row x
 
+-- of each of n points whose write goes on
+abbrev pub RowsNext : ℕ → List (List ℕ) → ℕ → (ℕ → ListedLent) → Type 0
+RowsNext m rows n f = (i : ℕ) → i < n → kindGoesOn (getD (f i .answer) 0 0) ≡ true → NextWords m (getD rows i []) (f i)
+
 -- what the store of such a step leaves of an image
 pub record StoresNext (words row : List ℕ) (phase block k : ℕ) (text left : List ℕ) : Type 0 where
   pub zeroed : phase ≡ 5 → left ≡ put one words (record { block = block; word = k; value = 0 })
@@ -78,3 +82,10 @@ pub record StoresNext (words row : List ℕ) (phase block k : ℕ) (text left : 
 -- the four lists of n points
 abbrev pub Lengths : ℕ → List (List ℕ) → List (List ℕ) → List (List ℕ) → List (List ℕ) → Type 0
 Lengths n heads tables texts answers = (length heads ≡ n) × (length tables ≡ n) × (length texts ≡ n) × (length answers ≡ n)
+
+-- what so many rounds in which each stores a word ask for
+pub record Rows (m : ℕ) (c : CommonLent) (rows heads tables texts answers : List (List ℕ)) : Type 0 where
+  pub lengths : Lengths (length heads) heads tables texts answers
+  pub enough : length heads ≤ length rows
+  pub ready : AllReady c (length heads) (listedAt heads tables texts answers)
+  pub next : RowsNext m rows (length heads) (listedAt heads tables texts answers)

@@ -1,15 +1,15 @@
 // Serving a list of points: all writes are begun in list order, then each unfinished one gets a step a round.
 ghost use mathlib.Core.Path.{_≡_};
 ghost use mathlib.Core.Bool.{true, false};
-ghost use Prim.Native.Nat.{suc, _-_, _≤_, _<_};
+ghost use Prim.Native.Nat.{ℕ, suc, _-_, _≤_, _<_};
 ghost use lib.ListN.{length, getD};
 ghost use lib.Dec.{eqb};
 ghost use Rattle.words.specs.Edition.{one};
 ghost use Rattle.words.specs.Logic.{member, listFrom};
 ghost use Rattle.points.specs.Serving.{inTurn, rounds, serveRounds, twice};
 ghost use Rattle.c_lent.specs.Numbers.{sharedLent, pointLent};
-ghost use Rattle.c_lent.specs.Serving.{kindGoesOn, beginTurnFor, stepTurnFor, listed, asking, commonLent, turnLeft, listedLent, askingLent};
-ghost use Rattle.c_lent.specs.Batch.{ReadyAt, NextWords, StoresNext, oneOn};
+ghost use Rattle.c_lent.specs.Serving.{kindGoesOn, beginTurnFor, stepTurnFor, listed, asking, listedAt, commonLent, turnLeft, listedLent, askingLent};
+ghost use Rattle.c_lent.specs.Batch.{ReadyAt, AllReady, NextWords, StoresNext, Rows, oneOn};
 ghost use Rattle.c_lent.specs.Serving.{Lent, oneForEach, anyGoesOn, begunAnswer, startAt, numberAt, serveReason, serveLeft, serveFor};
 
 // Whether the write goes on after an answer of this kind.
@@ -171,6 +171,67 @@ fn plain_turn(
         store_next(image, row, head[7], head[9], text, k);
         head[8] = k + 1;
         *answer = [1, 0];
+    }
+}
+
+// A round in which each point whose write goes on stores a word.
+fn plain_round(
+    image: &mut [u64],
+    shared: &[u32; 35],
+    taken: &[u64; 16],
+    rows: &[[u32; 4]],
+    heads: &mut [[u32; 11]],
+    tables: &[[u16; 256]],
+    texts: &[[u8; 1024]],
+    answers: &mut [[u32; 2]],
+)
+    requires { ⌜ Rows 1 (commonLent (now image) (sharedLent shared taken)) (now rows) (now heads) (now tables) (now texts) (now answers) ⌝ }
+    ensures { λ _. ⌜ (let c = commonLent (now (image .exit)) (sharedLent (shared .entry) (taken .entry)) in
+        let f = listedAt (now (heads .entry)) (now (tables .entry)) (now (texts .entry)) (now (answers .entry)) in
+        let g = listedAt (now (heads .exit)) (now (tables .entry)) (now (texts .entry)) (now (answers .exit)) in
+        (turnLeft c (listed (now (heads .exit)) (now (tables .entry)) (now (texts .entry)) (now (answers .exit)))
+        ≡ inTurn stepTurnFor (commonLent (now (image .entry)) (sharedLent (shared .entry) (taken .entry)))
+        (listed (now (heads .entry)) (now (tables .entry)) (now (texts .entry)) (now (answers .entry))))
+        × ((i : ℕ) → i < length (now (heads .entry)) → g i ≡ oneOn (f i))
+        × AllReady c (length (now (heads .entry))) g) ⌝ }
+{
+    for i in 0..heads.len() {
+        plain_turn(
+            image,
+            shared,
+            taken,
+            &rows[i],
+            &mut heads[i],
+            &tables[i],
+            &texts[i],
+            &mut answers[i],
+        );
+    }
+}
+
+// So many of them.
+fn plain_rounds(
+    image: &mut [u64],
+    shared: &[u32; 35],
+    taken: &[u64; 16],
+    rows: &[[u32; 4]],
+    heads: &mut [[u32; 11]],
+    tables: &[[u16; 256]],
+    texts: &[[u8; 1024]],
+    answers: &mut [[u32; 2]],
+    m: u32,
+)
+    requires { ⌜ Rows m (commonLent (now image) (sharedLent shared taken)) (now rows) (now heads) (now tables) (now texts) (now answers) ⌝ }
+    ensures { λ _. ⌜ (let c = commonLent (now (image .exit)) (sharedLent (shared .entry) (taken .entry)) in
+        (turnLeft c (listed (now (heads .exit)) (now (tables .entry)) (now (texts .entry)) (now (answers .exit)))
+        ≡ rounds m stepTurnFor (commonLent (now (image .entry)) (sharedLent (shared .entry) (taken .entry)))
+        (listed (now (heads .entry)) (now (tables .entry)) (now (texts .entry)) (now (answers .entry))))
+        × AllReady c (length (now (heads .entry))) (listedAt (now (heads .exit)) (now (tables .entry)) (now (texts .entry)) (now (answers .exit)))) ⌝ }
+{
+    let mut left = m;
+    while 0 < left {
+        plain_round(image, shared, taken, rows, heads, tables, texts, answers);
+        left -= 1;
     }
 }
 
