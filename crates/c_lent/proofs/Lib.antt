@@ -9,5 +9,6 @@ pub mod Turns
 pub mod ReadyAt
 pub mod Plain
 pub mod PlainRounds
+pub mod WordsLeft
 pub mod ServeReasons
 pub mod Serves

@@ -12,7 +12,7 @@ use Rattle.points.specs.declared.Point.{Point}
 use Rattle.points.specs.declared.serve.Row.{Row}
 use Rattle.points.specs.Record.{isReading, runWords}
 use Rattle.points.specs.Stepping.{stepRefusal}
-use Rattle.points.specs.Batch.{rowOf, Prepared, filledAt}
+use Rattle.points.specs.Batch.{rowOf, Fillable, Prepared, filledAt}
 use Rattle.c_lent.specs.Numbers.{sharedIn, lendPoint, headFrom}
 use Rattle.c_lent.specs.Serving.{CommonLent, ListedLent, listedLent, listedAt, pointAs, kindGoesOn}
 
@@ -43,8 +43,11 @@ Fills m h = (getD h 7 0 ≡ 1) × (getD h 8 0 % one .blockWords + m ≤ one .blo
 abbrev pub Zeroes : ℕ → List ℕ → Type 0
 Zeroes m h = (getD h 7 0 ≡ 5) × (getD h 8 0 + m ≤ one .blockWords)
 
+abbrev pub PlainAt : ℕ → List ℕ → Type 0
+PlainAt m h = Fills m h ⊎ Zeroes m h
+
 abbrev pub Plain : ℕ → ListedLent → Type 0
-Plain m x = Fills m (x .point .head) ⊎ Zeroes m (x .point .head)
+Plain m x = PlainAt m (x .point .head)
 
 -- a point after such a step: one word on
 unfoldable pub oneOn : ListedLent → ListedLent
@@ -63,6 +66,10 @@ abbrev pub RowFor : ℕ → List ℕ → ListedLent → Type 0
 RowFor m r x =
     let h = x .point .head in
     getD h 7 0 ≡ 1 → (j : ℕ) → j < m → rowFrom r ≡ rowOf one (headFrom h) (x .point .table) (getD h 8 0 + j)
+
+-- that of the next word alone, where there is one
+abbrev pub RowAt : List ℕ → List ℕ → List ℕ → Type 0
+RowAt r h table = Fillable (headFrom h) (getD h 8 0) → rowFrom r ≡ rowOf one (headFrom h) table (getD h 8 0)
 
 -- the next m steps of a point are such ones, and its row is at hand
 pub record NextWords (m : ℕ) (row : List ℕ) (x : ListedLent) : Type 0 where

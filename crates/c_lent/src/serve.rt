@@ -1,15 +1,16 @@
 // Serving a list of points: all writes are begun in list order, then each unfinished one gets a step a round.
 ghost use mathlib.Core.Path.{_≡_};
 ghost use mathlib.Core.Bool.{true, false};
+ghost use mathlib.Core.List.{List, []};
 ghost use Prim.Native.Nat.{ℕ, suc, _-_, _≤_, _<_};
 ghost use lib.ListN.{length, getD};
 ghost use lib.Dec.{eqb};
 ghost use Rattle.words.specs.Edition.{one};
 ghost use Rattle.words.specs.Logic.{member, listFrom};
 ghost use Rattle.points.specs.Serving.{inTurn, rounds, serveRounds, twice};
-ghost use Rattle.c_lent.specs.Numbers.{sharedLent, pointLent};
+ghost use Rattle.c_lent.specs.Numbers.{sharedLent, pointLent, isKnown};
 ghost use Rattle.c_lent.specs.Serving.{kindGoesOn, beginTurnFor, stepTurnFor, listed, asking, listedAt, commonLent, turnLeft, listedLent, askingLent};
-ghost use Rattle.c_lent.specs.Batch.{ReadyAt, AllReady, NextWords, StoresNext, Rows, oneOn};
+ghost use Rattle.c_lent.specs.Batch.{ReadyAt, AllReady, PlainAt, RowAt, NextWords, StoresNext, Rows, oneOn};
 ghost use Rattle.c_lent.specs.Serving.{Lent, oneForEach, anyGoesOn, begunAnswer, startAt, numberAt, serveReason, serveLeft, serveFor};
 
 // Whether the write goes on after an answer of this kind.
@@ -232,6 +233,78 @@ fn plain_rounds(
     while 0 < left {
         plain_round(image, shared, taken, rows, heads, tables, texts, answers);
         left -= 1;
+    }
+}
+
+// How many words a point has left to store, one by one, in one block: of its run, or of its log block. 0 where its next step is another.
+fn words_left(offset: u32, size: u32, phase: u32, k: u32) -> u32
+    ensures { λ r. ⌜ ((h : List ℕ) → getD h 4 0 ≡ offset → getD h 5 0 ≡ size → getD h 7 0 ≡ phase → getD h 8 0 ≡ k → 0 < r → PlainAt r h) ⌝ }
+{
+    if phase == 5 {
+        if k < 64 {
+            return 64 - k;
+        }
+        return 0;
+    }
+    if phase != 1 {
+        return 0;
+    }
+    let words = 64 * points::record::span(offset, size) as u64;
+    if words <= k as u64 {
+        return 0;
+    }
+    64 - k % 64
+}
+
+// The lesser of that and of the others', where its write goes on.
+fn least_left(least: u32, kind: u32, head: &[u32; 11]) -> u32
+    ensures { λ r. ⌜ (r ≤ least) × (kindGoesOn kind ≡ true → 0 < r → PlainAt r (now (head .entry))) ⌝ }
+{
+    if !goes_on(kind) {
+        return least;
+    }
+    let left = words_left(head[4], head[5], head[7], head[8]);
+    if left < least {
+        return left;
+    }
+    least
+}
+
+// How many words every point whose write goes on has left so; 64 where there is none.
+fn plain_words(heads: &[[u32; 11]], answers: &[[u32; 2]]) -> u32
+    requires { ⌜ length (now answers) ≡ length (now heads) ⌝ }
+    ensures { λ r. ⌜ (0 < r → (i : ℕ) → i < length (now (heads .entry)) → kindGoesOn (getD (getD (now (answers .entry)) i []) 0 0) ≡ true
+        → PlainAt r (getD (now (heads .entry)) i [])) ⌝ }
+{
+    let mut least: u32 = 64;
+    for i in 0..heads.len() {
+        least = least_left(least, answers[i][0], &heads[i]);
+    }
+    least
+}
+
+// The row of a point's next word, where its write goes on.
+fn row_for(kind: u32, head: &[u32; 11], table: &[u16; 256]) -> [u32; 4]
+    requires { ⌜ (kindGoesOn kind ≡ true → isKnown (now head) ≡ true) ⌝ }
+    ensures { λ r. ⌜ (kindGoesOn kind ≡ true → RowAt r (now (head .entry)) (now (table .entry))) ⌝ }
+{
+    if !goes_on(kind) {
+        return [0, 0, 0, 0];
+    }
+    let known = crate::numbers::head(head);
+    let row = points::serve::row_at(known, table, head[8]);
+    [row.run, row.from, row.lead, row.end]
+}
+
+// The rows of all.
+fn rows_for(heads: &[[u32; 11]], tables: &[[u16; 256]], answers: &[[u32; 2]], rows: &mut [[u32; 4]])
+    requires { ⌜ (length (now tables) ≡ length (now heads)) × (length (now answers) ≡ length (now heads)) × (length (now heads) ≤ length (now rows))
+        × ((i : ℕ) → i < length (now heads) → kindGoesOn (getD (getD (now answers) i []) 0 0) ≡ true → isKnown (getD (now heads) i []) ≡ true) ⌝ }
+    ensures { λ _. ⌜ ((i : ℕ) → i < length (now (heads .entry)) → kindGoesOn (getD (getD (now (answers .entry)) i []) 0 0) ≡ true
+        → RowAt (getD (now (rows .exit)) i []) (getD (now (heads .entry)) i []) (getD (now (tables .entry)) i [])) ⌝ }
+{
+    for i in 0..heads.len() {
+        rows[i] = row_for(answers[i][0], &heads[i], &tables[i]);
     }
 }
 
