@@ -17,8 +17,20 @@ use Rattle.c_lent.specs.Numbers.{SharedLent, PointLent, lendPoint}
 use Rattle.c_lent.specs.Serving.{CommonLent, ListedLent, commonLent, listedLent, pointAs, turnLeft, listedAt, kindGoesOn, stepTurnFor}
 use Rattle.c_lent.specs.Batch.{ReadyAt, AllReady, Plain, oneOn, NextWords, RowsNext, Lengths, Rows}
 use Rattle.c_lent.proofs.InTurn.{Reached, reached-start, reached-next, reached-end}
+use Rattle.c_lent.proofs.Turns.{listed-same, listed-other}
 use Rattle.c_lent.proofs.ReadyAt.{good-next}
 use Rattle.c_lent.proofs.Plain.{one-on, none-on}
+
+-- ---- a round of any kind
+
+-- all that go on are ready after one more turn
+pub round-good : (s s' : CommonLent) (heads tables texts answers : List (List ℕ)) (h t x a : List ℕ) (n i : ℕ) → Lengths n heads tables texts answers → i < n
+    → AllReady s n (listedAt heads tables texts answers)
+    → turnLeft s' (listedLent (pointAs h t x) a) ≡ stepTurnFor s (listedAt heads tables texts answers i)
+    → AllReady s' n (listedAt (set heads i h) (set tables i t) (set texts i x) (set answers i a))
+round-good s s' heads tables texts answers h t x a n i l d r e =
+    good-next s s' n i (listedAt heads tables texts answers) (listedAt (set heads i h) (set tables i t) (set texts i x) (set answers i a)) r d
+    (ap (turnLeft s') (listed-same n heads tables texts answers h t x a i l d) ∙ e) (λ j q. listed-other heads tables texts answers h t x a i j q)
 
 -- ---- one round
 

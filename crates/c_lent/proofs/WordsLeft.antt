@@ -3,7 +3,7 @@ use mathlib.Core.Path.{_≡_, refl, sym, ap, _∙_, subst}
 use mathlib.Core.Logic.{_≢_, _⊎_, inl, inr}
 use mathlib.Core.Bool.{true, false}
 use mathlib.Core.List.{List, [], _∷_}
-use Prim.Native.Nat.{ℕ, suc, _+_, _*_, _-_, _%_, _≤_, _<_}
+use Prim.Native.Nat.{ℕ, suc, _+_, _*_, _-_, _/_, _%_, _≤_, _<_}
 use native.Mathlib.Omega.{arith}
 use native.Mathlib.Decide.{ℕ-discrete}
 use lib.ListN.{length, getD, set}
@@ -12,10 +12,14 @@ use Rattle.words.specs.Edition.{one}
 use Rattle.points.specs.declared.Head.{Head}
 use Rattle.points.specs.declared.serve.Row.{Row}
 use Rattle.points.specs.Record.{span, runWords}
+use Rattle.points.specs.Lent.{TextFits}
 use Rattle.points.specs.Batch.{rowOf, Fillable}
-use Rattle.c_lent.specs.Numbers.{headFrom}
-use Rattle.c_lent.specs.Serving.{kindGoesOn}
-use Rattle.c_lent.specs.Batch.{Fills, Zeroes, PlainAt, rowFrom, RowAt}
+use Rattle.points.proofs.Ready.{ready-text}
+use Rattle.points.proofs.Rows.{row-same}
+use Rattle.c_lent.specs.Numbers.{PointLent, headFrom, isKnown}
+use Rattle.c_lent.specs.Serving.{CommonLent, ListedLent, listedAt, kindGoesOn}
+use Rattle.c_lent.specs.Batch.{ReadyAt, AllReady, Fills, Zeroes, PlainAt, Plain, rowFrom, RowAt, RowFor, NextWords, Lengths, Rows}
+use Rattle.c_lent.proofs.ReadyAt.{is-ready, is-known}
 
 -- ---- words
 
@@ -65,3 +69,35 @@ rows-set heads tables answers rows row i l before here j k g = go (ℕ-discrete 
         subst (λ (m : ℕ). GoesAt answers m → RowAt (getD (set rows i row) m []) (getD heads m []) (getD tables m [])) (sym q)
         (λ g'. subst (λ (x : List ℕ). RowAt x (getD heads i []) (getD tables i [])) (sym (getD-set-same rows i row [] l)) (here g')) g
     go (no q) = subst (λ (x : List ℕ). RowAt x (getD heads j []) (getD tables j [])) (sym (getD-set-other rows i j row [] q)) (before j (omega arith) g)
+
+-- ---- what a batch asks for
+
+-- the text of a ready point fits
+text-fits : {c : CommonLent} {x : ListedLent} → ReadyAt c x → TextFits (headFrom (x .point .head) .write)
+text-fits r = subst (λ (y : PointLent). TextFits (headFrom (y .head) .write)) (sym (r .is)) (ready-text (is-ready r))
+
+-- the row of the next word is that of all m
+row-made : {c : CommonLent} {x : ListedLent} → ReadyAt c x → (m : ℕ) (row : List ℕ) → Plain m x → RowAt row (x .point .head) (x .point .table) → RowFor m row x
+row-made {c} {x} r m row (inl f) at e j l =
+    let h = x .point .head in
+    let k = getD h 8 0 in
+    let near = f .1 in
+    let far = f .2 in
+    let same : k / one .blockWords ≡ (k + j) / one .blockWords = omega arith in
+    at (text-fits r, omega arith) ∙ row-same one (headFrom h) (x .point .table) k (k + j) same
+row-made {c} {x} r m row (inr z) at e j l = absurd (omega (arith, z .0, e))
+
+module _ (c : CommonLent) (heads tables texts answers : List (List ℕ)) (lengths : Lengths (length heads) heads tables texts answers)
+    (ready : AllReady c (length heads) (listedAt heads tables texts answers)) where
+  pub all-known : (i : ℕ) → i < length heads → GoesAt answers i → isKnown (getD heads i []) ≡ true
+  all-known i l g = is-known (ready i l g)
+
+  pub rows-made : (m : ℕ) (rows : List (List ℕ)) → length heads ≤ length rows → ((i : ℕ) → i < length heads → GoesAt answers i → PlainAt m (getD heads i []))
+      → ((i : ℕ) → i < length heads → GoesAt answers i → RowAt (getD rows i []) (getD heads i []) (getD tables i [])) → Rows m c rows heads tables texts answers
+  rows-made m rows enough plain at =
+      record {
+        lengths = lengths;
+        enough = enough;
+        ready = ready;
+        next = λ i l g. record { plain = plain i l g; row-is = row-made (ready i l g) m (getD rows i []) (plain i l g) (at i l g) };
+      }

@@ -10,7 +10,7 @@ ghost use Rattle.words.specs.Logic.{member, listFrom};
 ghost use Rattle.points.specs.Serving.{inTurn, rounds, serveRounds, twice};
 ghost use Rattle.c_lent.specs.Numbers.{sharedLent, pointLent, isKnown};
 ghost use Rattle.c_lent.specs.Serving.{kindGoesOn, beginTurnFor, stepTurnFor, listed, asking, listedAt, commonLent, turnLeft, listedLent, askingLent};
-ghost use Rattle.c_lent.specs.Batch.{ReadyAt, AllReady, PlainAt, RowAt, NextWords, StoresNext, Rows, oneOn};
+ghost use Rattle.c_lent.specs.Batch.{ReadyAt, AllReady, PlainAt, RowAt, NextWords, StoresNext, Lengths, Rows, oneOn};
 ghost use Rattle.c_lent.specs.Serving.{Lent, oneForEach, anyGoesOn, begunAnswer, startAt, numberAt, serveReason, serveLeft, serveFor};
 
 // Whether the write goes on after an answer of this kind.
@@ -121,10 +121,14 @@ fn round(
     bytes: &mut [u8; 1024],
 )
     requires { ⌜ (length (now tables) ≡ length (now heads)) × (length (now texts) ≡ length (now heads)) × (length (now answers) ≡ length (now heads)) ⌝ }
-    ensures { λ _. ⌜ turnLeft (commonLent (now (image .exit)) (sharedLent (shared .exit) (taken .exit)))
+    ensures { λ _. ⌜ (turnLeft (commonLent (now (image .exit)) (sharedLent (shared .exit) (taken .exit)))
         (listed (now (heads .exit)) (now (tables .exit)) (now (texts .exit)) (now (answers .exit)))
         ≡ inTurn stepTurnFor (commonLent (now (image .entry)) (sharedLent (shared .entry) (taken .entry)))
-        (listed (now (heads .entry)) (now (tables .entry)) (now (texts .entry)) (now (answers .entry))) ⌝ }
+        (listed (now (heads .entry)) (now (tables .entry)) (now (texts .entry)) (now (answers .entry))))
+        × (AllReady (commonLent (now (image .entry)) (sharedLent (shared .entry) (taken .entry))) (length (now (heads .entry)))
+        (listedAt (now (heads .entry)) (now (tables .entry)) (now (texts .entry)) (now (answers .entry)))
+        → AllReady (commonLent (now (image .exit)) (sharedLent (shared .exit) (taken .exit))) (length (now (heads .entry)))
+        (listedAt (now (heads .exit)) (now (tables .exit)) (now (texts .exit)) (now (answers .exit)))) ⌝ }
 {
     for i in 0..heads.len() {
         turn(image, shared, taken, &mut heads[i], &mut tables[i], &mut texts[i], &mut answers[i], bytes);
@@ -306,6 +310,31 @@ fn rows_for(heads: &[[u32; 11]], tables: &[[u16; 256]], answers: &[[u32; 2]], ro
     for i in 0..heads.len() {
         rows[i] = row_for(answers[i][0], &heads[i], &tables[i]);
     }
+}
+
+// So many rounds of points that all have so many words left to store one by one.
+fn plain_batch(
+    image: &mut [u64],
+    shared: &[u32; 35],
+    taken: &[u64; 16],
+    heads: &mut [[u32; 11]],
+    tables: &[[u16; 256]],
+    texts: &[[u8; 1024]],
+    answers: &mut [[u32; 2]],
+    m: u32,
+)
+    requires { ⌜ Lengths (length (now heads)) (now heads) (now tables) (now texts) (now answers) × (length (now heads) ≤ 32)
+        × AllReady (commonLent (now image) (sharedLent shared taken)) (length (now heads)) (listedAt (now heads) (now tables) (now texts) (now answers))
+        × ((i : ℕ) → i < length (now heads) → kindGoesOn (getD (getD (now answers) i []) 0 0) ≡ true → PlainAt m (getD (now heads) i [])) ⌝ }
+    ensures { λ _. ⌜ (let c = commonLent (now (image .exit)) (sharedLent (shared .entry) (taken .entry)) in
+        (turnLeft c (listed (now (heads .exit)) (now (tables .entry)) (now (texts .entry)) (now (answers .exit)))
+        ≡ rounds m stepTurnFor (commonLent (now (image .entry)) (sharedLent (shared .entry) (taken .entry)))
+        (listed (now (heads .entry)) (now (tables .entry)) (now (texts .entry)) (now (answers .entry))))
+        × AllReady c (length (now (heads .entry))) (listedAt (now (heads .exit)) (now (tables .entry)) (now (texts .entry)) (now (answers .exit)))) ⌝ }
+{
+    let mut rows = [[0u32; 4]; 32];
+    rows_for(heads, tables, answers, &mut rows);
+    plain_rounds(image, shared, taken, &rows, heads, tables, texts, answers, m);
 }
 
 // Whether somebody's write goes on.
