@@ -337,6 +337,48 @@ fn plain_batch(
     plain_rounds(image, shared, taken, &rows, heads, tables, texts, answers, m);
 }
 
+// The lesser of two numbers.
+fn lesser(a: u32, b: u32) -> u32
+    ensures { λ r. ⌜ (r ≤ a) × (r ≤ b) ⌝ }
+{
+    if a < b {
+        return a;
+    }
+    b
+}
+
+// Some rounds, one at least and so many at most: as many as all points have words left to store one by one. How many there were.
+fn batch(
+    image: &mut [u64],
+    shared: &mut [u32; 35],
+    taken: &mut [u64; 16],
+    heads: &mut [[u32; 11]],
+    tables: &mut [[u16; 256]],
+    texts: &mut [[u8; 1024]],
+    answers: &mut [[u32; 2]],
+    bytes: &mut [u8; 1024],
+    most: u32,
+) -> u32
+    requires { ⌜ Lengths (length (now heads)) (now heads) (now tables) (now texts) (now answers) × (length (now heads) ≤ 32) × (0 < most)
+        × AllReady (commonLent (now image) (sharedLent shared taken)) (length (now heads)) (listedAt (now heads) (now tables) (now texts) (now answers)) ⌝ }
+    ensures { λ r. ⌜ (0 < r) × (r ≤ most)
+        × (turnLeft (commonLent (now (image .exit)) (sharedLent (shared .exit) (taken .exit)))
+        (listed (now (heads .exit)) (now (tables .exit)) (now (texts .exit)) (now (answers .exit)))
+        ≡ rounds r stepTurnFor (commonLent (now (image .entry)) (sharedLent (shared .entry) (taken .entry)))
+        (listed (now (heads .entry)) (now (tables .entry)) (now (texts .entry)) (now (answers .entry))))
+        × AllReady (commonLent (now (image .exit)) (sharedLent (shared .exit) (taken .exit))) (length (now (heads .entry)))
+        (listedAt (now (heads .exit)) (now (tables .exit)) (now (texts .exit)) (now (answers .exit))) ⌝ }
+{
+    let words = plain_words(heads, answers);
+    let m = lesser(words, most);
+    if m == 0 {
+        round(image, shared, taken, heads, tables, texts, answers, bytes);
+        return 1;
+    }
+    plain_batch(image, shared, taken, heads, tables, texts, answers, m);
+    m
+}
+
 // Whether somebody's write goes on.
 fn anybody(answers: &[[u32; 2]]) -> bool
     ensures { λ r. ⌜ r ≡ anyGoesOn (now (answers .entry)) ⌝ }
