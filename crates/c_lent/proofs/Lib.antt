@@ -7,6 +7,7 @@ pub mod Places
 pub mod InTurn
 pub mod Turns
 pub mod ReadyAt
+pub mod BeginReady
 pub mod Plain
 pub mod PlainRounds
 pub mod WordsLeft
