@@ -8,6 +8,7 @@ pub mod InTurn
 pub mod Turns
 pub mod ReadyAt
 pub mod BeginReady
+pub mod RoundsMore
 pub mod Plain
 pub mod PlainRounds
 pub mod WordsLeft
