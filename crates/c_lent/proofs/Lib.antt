@@ -7,6 +7,10 @@ pub mod Places
 pub mod InTurn
 pub mod Turns
 pub mod ReadyAt
+pub mod BeginReady
+pub mod RoundsMore
 pub mod Plain
+pub mod PlainRounds
+pub mod WordsLeft
 pub mod ServeReasons
 pub mod Serves

@@ -51,7 +51,7 @@ module _ {c : CommonLent} {x : ListedLent} (r : ReadyAt c x) where
   abbrev pub outcome : Outcome
   outcome = stepping one (c .image) (sharedIn (c .shared)) (r .point)
 
-  is-known : isKnown (x .point .head) ≡ true
+  pub is-known : isKnown (x .point .head) ≡ true
   is-known = rw (r .is) (few-known (r .point .head) (r .few))
 
   -- it is the step of its record

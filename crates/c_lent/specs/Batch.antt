@@ -12,9 +12,9 @@ use Rattle.points.specs.declared.Point.{Point}
 use Rattle.points.specs.declared.serve.Row.{Row}
 use Rattle.points.specs.Record.{isReading, runWords}
 use Rattle.points.specs.Stepping.{stepRefusal}
-use Rattle.points.specs.Batch.{rowOf, Prepared, filledAt}
+use Rattle.points.specs.Batch.{rowOf, Fillable, Prepared, filledAt}
 use Rattle.c_lent.specs.Numbers.{sharedIn, lendPoint, headFrom}
-use Rattle.c_lent.specs.Serving.{CommonLent, ListedLent, listedLent, pointAs, kindGoesOn}
+use Rattle.c_lent.specs.Serving.{CommonLent, ListedLent, listedLent, listedAt, pointAs, kindGoesOn}
 
 -- ---- points that are known to fit
 
@@ -43,8 +43,11 @@ Fills m h = (getD h 7 0 ≡ 1) × (getD h 8 0 % one .blockWords + m ≤ one .blo
 abbrev pub Zeroes : ℕ → List ℕ → Type 0
 Zeroes m h = (getD h 7 0 ≡ 5) × (getD h 8 0 + m ≤ one .blockWords)
 
+abbrev pub PlainAt : ℕ → List ℕ → Type 0
+PlainAt m h = Fills m h ⊎ Zeroes m h
+
 abbrev pub Plain : ℕ → ListedLent → Type 0
-Plain m x = Fills m (x .point .head) ⊎ Zeroes m (x .point .head)
+Plain m x = PlainAt m (x .point .head)
 
 -- a point after such a step: one word on
 unfoldable pub oneOn : ListedLent → ListedLent
@@ -64,10 +67,18 @@ RowFor m r x =
     let h = x .point .head in
     getD h 7 0 ≡ 1 → (j : ℕ) → j < m → rowFrom r ≡ rowOf one (headFrom h) (x .point .table) (getD h 8 0 + j)
 
+-- that of the next word alone, where there is one
+abbrev pub RowAt : List ℕ → List ℕ → List ℕ → Type 0
+RowAt r h table = Fillable (headFrom h) (getD h 8 0) → rowFrom r ≡ rowOf one (headFrom h) table (getD h 8 0)
+
 -- the next m steps of a point are such ones, and its row is at hand
 pub record NextWords (m : ℕ) (row : List ℕ) (x : ListedLent) : Type 0 where
   pub plain : Plain m x
   pub row-is : RowFor m row x
+
+-- of each of n points whose write goes on
+abbrev pub RowsNext : ℕ → List (List ℕ) → ℕ → (ℕ → ListedLent) → Type 0
+RowsNext m rows n f = (i : ℕ) → i < n → kindGoesOn (getD (f i .answer) 0 0) ≡ true → NextWords m (getD rows i []) (f i)
 
 -- what the store of such a step leaves of an image
 pub record StoresNext (words row : List ℕ) (phase block k : ℕ) (text left : List ℕ) : Type 0 where
@@ -78,3 +89,10 @@ pub record StoresNext (words row : List ℕ) (phase block k : ℕ) (text left : 
 -- the four lists of n points
 abbrev pub Lengths : ℕ → List (List ℕ) → List (List ℕ) → List (List ℕ) → List (List ℕ) → Type 0
 Lengths n heads tables texts answers = (length heads ≡ n) × (length tables ≡ n) × (length texts ≡ n) × (length answers ≡ n)
+
+-- what so many rounds in which each stores a word ask for
+pub record Rows (m : ℕ) (c : CommonLent) (rows heads tables texts answers : List (List ℕ)) : Type 0 where
+  pub lengths : Lengths (length heads) heads tables texts answers
+  pub enough : length heads ≤ length rows
+  pub ready : AllReady c (length heads) (listedAt heads tables texts answers)
+  pub next : RowsNext m rows (length heads) (listedAt heads tables texts answers)

@@ -56,7 +56,7 @@ loop-again c =
     let y = c .before .before .before .before .before .before .round in (
       c .before .before .before .before .before .image .given ∙ l .inv .0,
       (c .before .before .before .heads .given ∙ l .inv .1 .0, c .before .before .tables .given ∙ l .inv .1 .1, c .before .texts .given ∙ l .inv .1 .2, c .answers .given ∙ l .inv .1 .3),
-      l .inv .2 ∙ rounds-next (l .left) _ _ _ _ (omega arith) (y .ensures),
+      l .inv .2 ∙ rounds-next (l .left) _ _ _ _ (omega arith) (y .ensures .0),
     )
 
 -- src/serve.rt:145:1

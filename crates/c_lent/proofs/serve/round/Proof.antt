@@ -5,11 +5,12 @@ use lib.ListN.{length}
 use borrow.Author.Needs.{needs}
 use Rattle.points.specs.Serving.{inTurn}
 use Rattle.c_lent.specs.Numbers.{sharedAs}
-use Rattle.c_lent.specs.Batch.{Lengths}
+use Rattle.c_lent.specs.Batch.{Lengths, AllReady}
 use Rattle.c_lent.specs.Serving.{commonLent, turnLeft, listed, listedAt, stepTurnFor}
 use Rattle.words.specs.Logic.{listFrom}
 use Rattle.c_lent.proofs.InTurn.{Reached, reached-start, reached-end}
 use Rattle.c_lent.proofs.Turns.{lengths-set, round-next}
+use Rattle.c_lent.proofs.PlainRounds.{round-good}
 use Rattle.c_lent.proofs.serve.round.Statement.{statement}
 use Rattle.c_lent.proofs.serve.round.Tie as tie
 use Rattle.c_lent.proofs.serve.round.Reads as reads
@@ -24,6 +25,8 @@ Inv-loop image₀ shared₀ taken₀ heads₀ tables₀ texts₀ answers₀ byte
     × Lengths (length heads₀) heads tables texts answers
     × Reached stepTurnFor (inTurn stepTurnFor (commonLent image₀ (sharedAs shared₀ taken₀)) (listed heads₀ tables₀ texts₀ answers₀))
     (commonLent image (sharedAs shared taken)) i (length heads₀) (listedAt heads tables texts answers) (listedAt heads tables texts answers)
+    × (AllReady (commonLent image₀ (sharedAs shared₀ taken₀)) (length heads₀) (listedAt heads₀ tables₀ texts₀ answers₀)
+    → AllReady (commonLent image (sharedAs shared taken)) (length heads₀) (listedAt heads tables texts answers))
 
 abbrev μ-loop : tie.MeasureT-loop
 μ-loop image₀ shared₀ taken₀ heads₀ tables₀ texts₀ answers₀ bytes₀ i₀ i-end image shared taken heads tables texts answers bytes i =
@@ -38,6 +41,7 @@ loop-holds c =
       refl,
       (refl, c .before .pre .0, c .before .pre .1, c .before .pre .2),
       reached-start stepTurnFor _ (length (a .heads .now)) _ (listedAt (a .heads .now) (a .tables .now) (a .texts .now) (a .answers .now)),
+      λ r. r,
     )
 
 -- src/serve.rt:55:36
@@ -95,6 +99,7 @@ loop-again c =
       l .inv .2,
       lengths-set _ (l .heads) (l .tables) (l .texts) (l .answers) _ _ _ _ (l .i) (l .inv .3),
       round-next _ _ _ (l .heads) (l .tables) (l .texts) (l .answers) _ _ _ _ _ (l .i) (l .inv .3) (omega arith) (l .inv .4) (y .turn .ensures),
+      λ r. round-good _ _ (l .heads) (l .tables) (l .texts) (l .answers) _ _ _ _ _ (l .i) (l .inv .3) (omega arith) (l .inv .5 r) (y .turn .ensures),
     )
 
 -- src/serve.rt:38:1
@@ -120,10 +125,12 @@ same-length-5 c = c .before .loop .inv .3 .3 ∙ sym (c .before .before .before 
 -- src/serve.rt:38:1
 returns : tie.Need-returns Inv-loop μ-loop
 returns c =
-    let l = c .before .loop in
-    ap (λ (n : ℕ). turnLeft (commonLent (l .image) (sharedAs (l .shared) (l .taken))) (listFrom 0 n (listedAt (l .heads) (l .tables) (l .texts) (l .answers)))) (l .inv .3 .0)
-    ∙ sym (reached-end stepTurnFor _ _ (l .i) _ (listedAt (l .heads) (l .tables) (l .texts) (l .answers)) (listedAt (l .heads) (l .tables) (l .texts) (l .answers))
-    (omega arith) (l .inv .0) (l .inv .4))
+    let l = c .before .loop in (
+      ap (λ (n : ℕ). turnLeft (commonLent (l .image) (sharedAs (l .shared) (l .taken))) (listFrom 0 n (listedAt (l .heads) (l .tables) (l .texts) (l .answers)))) (l .inv .3 .0)
+          ∙ sym (reached-end stepTurnFor _ _ (l .i) _ (listedAt (l .heads) (l .tables) (l .texts) (l .answers)) (listedAt (l .heads) (l .tables) (l .texts) (l .answers))
+          (omega arith) (l .inv .0) (l .inv .4)),
+      l .inv .5,
+    )
 
 pub round-spec : {M : Type 1} → statement M
 round-spec =
