@@ -79,7 +79,6 @@ enum {
 /* A sentence for a refusal's number. The sentences are part of the program that calls this, not of the library. */
 static inline const char *store_reason(uint32_t number)
 {
-    static const char *const none = "no number of a refusal";
     static const char *const reasons[] = {
         "not refused",
         "the image is no multiple of 64 words, or not 4 to 1,024 blocks long",
@@ -104,13 +103,13 @@ static inline const char *store_reason(uint32_t number)
         "one more log block is needed and 64 are chained; the write is ended",
         "a log block is needed and none is free; the write is ended",
         "nothing is mapped there",
-        0, /* 23, 24 and 25 are not in use */
-        0,
-        0,
+        "no number of a refusal", /* 23, 24 and 25 are not in use */
+        "no number of a refusal",
+        "no number of a refusal",
         "no points are listed, more than 32, or not one write, with its room, for each",
         "a point is listed twice",
     };
-    return number < sizeof reasons / sizeof reasons[0] && reasons[number] ? reasons[number] : none;
+    return number < sizeof reasons / sizeof reasons[0] ? reasons[number] : "no number of a refusal";
 }
 
 /* What a step answers. */
