@@ -10,6 +10,7 @@ pub mod InTurn
 pub mod Turns
 pub mod ReadyAt
 pub mod BeginReady
+pub mod Lean
 pub mod RoundsMore
 pub mod Plain
 pub mod PlainRounds

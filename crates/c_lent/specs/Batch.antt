@@ -2,7 +2,7 @@
 use Prim.Native.Nat.{ℕ, _+_, _%_, _≤_, _<_}
 use mathlib.Core.Path.{_≡_}
 use mathlib.Core.Logic.{_⊎_}
-use mathlib.Core.Bool.{true, false}
+use mathlib.Core.Bool.{Bool, true, false}
 use mathlib.Core.List.{List, [], _∷_}
 use lib.ListN.{length, getD, set}
 use Rattle.words.specs.Edition.{one}
@@ -13,8 +13,8 @@ use Rattle.points.specs.declared.serve.Row.{Row}
 use Rattle.points.specs.Record.{isReading, runWords}
 use Rattle.points.specs.Stepping.{stepRefusal}
 use Rattle.points.specs.Batch.{rowOf, Fillable, Prepared, filledAt}
-use Rattle.c_lent.specs.Numbers.{sharedIn, lendPoint, headFrom}
-use Rattle.c_lent.specs.Serving.{CommonLent, ListedLent, listedLent, listedAt, pointAs, kindGoesOn}
+use Rattle.c_lent.specs.Numbers.{SharedLent, PointLent, sharedAs, sharedIn, lendPoint, headFrom}
+use Rattle.c_lent.specs.Serving.{CommonLent, ListedLent, commonLent, listedLent, listedAt, pointAs, turnLeft, kindGoesOn, stepTurnFor}
 
 -- ---- points that are known to fit
 
@@ -27,12 +27,34 @@ pub record ReadyAt (c : CommonLent) (x : ListedLent) : Type 0 where
   pub unrefused : stepRefusal one (c .image) (sharedIn (c .shared)) (point .head) (point .table) ≡ 0
   pub unread : isReading (point .head .write .phase) ≡ false
 
+-- so are these, whatever the point was answered
+abbrev pub Steps : List ℕ → SharedLent → PointLent → Type 0
+Steps words s p = (a : List ℕ) → ReadyAt (commonLent words s) (listedLent p a)
+
 -- each of n points whose write goes on
 abbrev pub Going : ℕ → (ℕ → ListedLent) → (ListedLent → Type 0) → Type 0
 Going n f P = (i : ℕ) → i < n → kindGoesOn (getD (f i .answer) 0 0) ≡ true → P (f i)
 
 abbrev pub AllReady : CommonLent → ℕ → (ℕ → ListedLent) → Type 0
 AllReady c n f = Going n f (ReadyAt c)
+
+-- ---- steps without tests
+
+-- what moving on by one entry leaves: where it is done, what a step leaves of every such point whose write goes on
+pub record MovesOn (words numbers head table : List ℕ) (done : Bool) (numbers′ head′ table′ : List ℕ) : Type 0 where
+  pub moved :
+      done ≡ true → (taken text a : List ℕ) → Steps words (sharedAs numbers taken) (pointAs head table text) → kindGoesOn (getD a 0 0) ≡ true
+      → turnLeft (commonLent words (sharedAs numbers′ taken)) (listedLent (pointAs head′ table′ text) (2 ∷ 0 ∷ []))
+      ≡ stepTurnFor (commonLent words (sharedAs numbers taken)) (listedLent (pointAs head table text) a)
+  pub stayed : done ≡ false → (numbers′ ≡ numbers) × (head′ ≡ head) × (table′ ≡ table)
+
+-- the same of committing
+pub record CommitsOn (words taken head table text : List ℕ) (done : Bool) (words′ taken′ head′ table′ text′ : List ℕ) : Type 0 where
+  pub committed :
+      done ≡ true → (numbers a : List ℕ) → Steps words (sharedAs numbers taken) (pointAs head table text) → kindGoesOn (getD a 0 0) ≡ true
+      → turnLeft (commonLent words′ (sharedAs numbers taken′)) (listedLent (pointAs head′ table′ text′) (4 ∷ getD head 10 0 ∷ []))
+      ≡ stepTurnFor (commonLent words (sharedAs numbers taken)) (listedLent (pointAs head table text) a)
+  pub stayed : done ≡ false → (words′ ≡ words) × (taken′ ≡ taken) × (head′ ≡ head) × (table′ ≡ table) × (text′ ≡ text)
 
 -- ---- rounds in which each stores a word
 

@@ -10,7 +10,7 @@ ghost use Rattle.words.specs.Logic.{member, listFrom};
 ghost use Rattle.points.specs.Serving.{inTurn, rounds, serveRounds, twice};
 ghost use Rattle.c_lent.specs.Numbers.{sharedLent, pointLent, isKnown};
 ghost use Rattle.c_lent.specs.Serving.{kindGoesOn, beginTurnFor, stepTurnFor, listed, asking, listedAt, commonLent, turnLeft, listedLent, askingLent};
-ghost use Rattle.c_lent.specs.Batch.{ReadyAt, AllReady, PlainAt, RowAt, NextWords, StoresNext, Lengths, Rows, oneOn};
+ghost use Rattle.c_lent.specs.Batch.{ReadyAt, AllReady, Steps, MovesOn, CommitsOn, PlainAt, RowAt, NextWords, StoresNext, Lengths, Rows, oneOn};
 ghost use Rattle.c_lent.specs.Serving.{Lent, oneForEach, anyGoesOn, begunAnswer, startAt, numberAt, serveReason, serveLeft, serveFor};
 
 // Whether the write goes on after an answer of this kind.
@@ -64,10 +64,11 @@ fn begin_all(
     bytes: &[u8],
 )
     requires { ⌜ Lent (now heads) (now tables) (now texts) (now answers) (now writes) (now bytes) ⌝ }
-    ensures { λ _. ⌜ turnLeft (commonLent (now (image .entry)) (sharedLent (shared .exit) (taken .exit)))
-        (listed (now (heads .exit)) (now (tables .exit)) (now (texts .exit)) (now (answers .exit)))
+    ensures { λ _. ⌜ (let c = commonLent (now (image .entry)) (sharedLent (shared .exit) (taken .exit)) in
+        (turnLeft c (listed (now (heads .exit)) (now (tables .exit)) (now (texts .exit)) (now (answers .exit)))
         ≡ inTurn beginTurnFor (commonLent (now (image .entry)) (sharedLent (shared .entry) (taken .entry)))
-        (asking (now (heads .entry)) (now (tables .entry)) (now (texts .entry)) (now (writes .entry)) (now (bytes .entry))) ⌝ }
+        (asking (now (heads .entry)) (now (tables .entry)) (now (texts .entry)) (now (writes .entry)) (now (bytes .entry))))
+        × AllReady c (length (now (heads .entry))) (listedAt (now (heads .exit)) (now (tables .exit)) (now (texts .exit)) (now (answers .exit)))) ⌝ }
 {
     let mut start: usize = 0;
     for i in 0..heads.len() {
@@ -87,6 +88,82 @@ fn begin_all(
     }
 }
 
+// A point that has filled its run moves on by one entry that maps none of its blocks, where that is all that is ahead of it. Whether it did.
+fn moves_on(image: &[u64], shared: &mut [u32; 35], head: &mut [u32; 11], table: &mut [u16; 256]) -> bool
+    requires { ⌜ isKnown (now head) ≡ true ⌝ }
+    ensures { λ r. ⌜ MovesOn (now (image .entry)) (now (shared .entry)) (now (head .entry)) (now (table .entry)) r
+        (now (shared .exit)) (now (head .exit)) (now (table .exit)) ⌝ }
+{
+    let moved = points::serve::move_by_one(
+        image,
+        shared[0],
+        crate::numbers::head(head),
+        table,
+    );
+    if !moved.done {
+        return false;
+    }
+    let left = moved.head;
+    crate::numbers::put_reported(shared, points::plan::Reports::Standing, left);
+    *head = crate::numbers::of_head(left);
+    true
+}
+
+// A point that has filled its run commits, where the word at its log place is empty. Whether it did.
+fn commits(
+    image: &mut [u64],
+    taken: &mut [u64; 16],
+    head: &mut [u32; 11],
+    table: &mut [u16; 256],
+    text: &mut [u8; 1024],
+) -> bool
+    requires { ⌜ isKnown (now head) ≡ true ⌝ }
+    ensures { λ r. ⌜ CommitsOn (now (image .entry)) (now (taken .entry)) (now (head .entry)) (now (table .entry)) (now (text .entry)) r
+        (now (image .exit)) (now (taken .exit)) (now (head .exit)) (now (table .exit)) (now (text .exit)) ⌝ }
+{
+    let committed = points::serve::commit_by_head(
+        image,
+        taken,
+        crate::numbers::head(head),
+        table,
+        text,
+    );
+    if !committed.done {
+        return false;
+    }
+    let left = committed.head;
+    *head = crate::numbers::of_head(left);
+    true
+}
+
+// The step of a point that is known to fit, and its answer: without its tests where it moves on by one entry or commits.
+fn ready_step(
+    image: &mut [u64],
+    shared: &mut [u32; 35],
+    taken: &mut [u64; 16],
+    head: &mut [u32; 11],
+    table: &mut [u16; 256],
+    text: &mut [u8; 1024],
+    bytes: &mut [u8; 1024],
+) -> [u32; 2]
+    requires { ⌜ Steps (now image) (sharedLent shared taken) (pointLent head table text) ⌝ }
+    ensures { λ r. ⌜ ((a : List ℕ) → kindGoesOn (getD a 0 0) ≡ true
+        → turnLeft (commonLent (now (image .exit)) (sharedLent (shared .exit) (taken .exit)))
+        (listedLent (pointLent (head .exit) (table .exit) (text .exit)) r)
+        ≡ stepTurnFor (commonLent (now (image .entry)) (sharedLent (shared .entry) (taken .entry)))
+        (listedLent (pointLent (head .entry) (table .entry) (text .entry)) a)) ⌝ }
+{
+    if moves_on(image, shared, head, table) {
+        return [2, 0];
+    }
+    let retries = head[10];
+    if commits(image, taken, head, table, text) {
+        return [4, retries];
+    }
+    let stepped = crate::step(image, shared, taken, head, table, text, bytes);
+    [stepped.kind, stepped.value]
+}
+
 // One point's turn in a round: a step if its write goes on.
 fn turn(
     image: &mut [u64],
@@ -98,14 +175,14 @@ fn turn(
     answer: &mut [u32; 2],
     bytes: &mut [u8; 1024],
 )
+    requires { ⌜ (kindGoesOn (getD (now answer) 0 0) ≡ true → Steps (now image) (sharedLent shared taken) (pointLent head table text)) ⌝ }
     ensures { λ _. ⌜ turnLeft (commonLent (now (image .exit)) (sharedLent (shared .exit) (taken .exit)))
         (listedLent (pointLent (head .exit) (table .exit) (text .exit)) (now (answer .exit)))
         ≡ stepTurnFor (commonLent (now (image .entry)) (sharedLent (shared .entry) (taken .entry)))
         (listedLent (pointLent (head .entry) (table .entry) (text .entry)) (now (answer .entry))) ⌝ }
 {
     if goes_on(answer[0]) {
-        let stepped = crate::step(image, shared, taken, head, table, text, bytes);
-        *answer = [stepped.kind, stepped.value];
+        *answer = ready_step(image, shared, taken, head, table, text, bytes);
     }
 }
 
@@ -120,15 +197,13 @@ fn round(
     answers: &mut [[u32; 2]],
     bytes: &mut [u8; 1024],
 )
-    requires { ⌜ (length (now tables) ≡ length (now heads)) × (length (now texts) ≡ length (now heads)) × (length (now answers) ≡ length (now heads)) ⌝ }
-    ensures { λ _. ⌜ (turnLeft (commonLent (now (image .exit)) (sharedLent (shared .exit) (taken .exit)))
-        (listed (now (heads .exit)) (now (tables .exit)) (now (texts .exit)) (now (answers .exit)))
+    requires { ⌜ Lengths (length (now heads)) (now heads) (now tables) (now texts) (now answers)
+        × AllReady (commonLent (now image) (sharedLent shared taken)) (length (now heads)) (listedAt (now heads) (now tables) (now texts) (now answers)) ⌝ }
+    ensures { λ _. ⌜ (let c = commonLent (now (image .exit)) (sharedLent (shared .exit) (taken .exit)) in
+        (turnLeft c (listed (now (heads .exit)) (now (tables .exit)) (now (texts .exit)) (now (answers .exit)))
         ≡ inTurn stepTurnFor (commonLent (now (image .entry)) (sharedLent (shared .entry) (taken .entry)))
         (listed (now (heads .entry)) (now (tables .entry)) (now (texts .entry)) (now (answers .entry))))
-        × (AllReady (commonLent (now (image .entry)) (sharedLent (shared .entry) (taken .entry))) (length (now (heads .entry)))
-        (listedAt (now (heads .entry)) (now (tables .entry)) (now (texts .entry)) (now (answers .entry)))
-        → AllReady (commonLent (now (image .exit)) (sharedLent (shared .exit) (taken .exit))) (length (now (heads .entry)))
-        (listedAt (now (heads .exit)) (now (tables .exit)) (now (texts .exit)) (now (answers .exit)))) ⌝ }
+        × AllReady c (length (now (heads .entry))) (listedAt (now (heads .exit)) (now (tables .exit)) (now (texts .exit)) (now (answers .exit)))) ⌝ }
 {
     for i in 0..heads.len() {
         turn(
@@ -144,7 +219,7 @@ fn round(
     }
 }
 
-// From here to `batch`: rounds in which each point only stores its next word, in batches without tests. The call does not use them yet: nothing calls `batch`.
+// From here to `plain_batch`: rounds in which each point only stores its next word, in batches without tests.
 
 // The store of a step that zeroes word k of a log block, or fills word k of a run by its row.
 fn store_next(image: &mut [u64], row: &[u32; 4], phase: u32, block: u32, text: &[u8; 1024], k: u32)
@@ -423,7 +498,8 @@ fn all_rounds(
     answers: &mut [[u32; 2]],
     most: u32,
 )
-    requires { ⌜ (length (now tables) ≡ length (now heads)) × (length (now texts) ≡ length (now heads)) × (length (now answers) ≡ length (now heads)) ⌝ }
+    requires { ⌜ Lengths (length (now heads)) (now heads) (now tables) (now texts) (now answers) × (length (now heads) ≤ 32)
+        × AllReady (commonLent (now image) (sharedLent shared taken)) (length (now heads)) (listedAt (now heads) (now tables) (now texts) (now answers)) ⌝ }
     ensures { λ _. ⌜ turnLeft (commonLent (now (image .exit)) (sharedLent (shared .exit) (taken .exit)))
         (listed (now (heads .exit)) (now (tables .exit)) (now (texts .exit)) (now (answers .exit)))
         ≡ rounds most stepTurnFor (commonLent (now (image .entry)) (sharedLent (shared .entry) (taken .entry)))
@@ -432,7 +508,7 @@ fn all_rounds(
     let mut bytes = [0u8; 1024];
     let mut left = most;
     while 0 < left && anybody(answers) {
-        round(
+        let made = batch(
             image,
             shared,
             taken,
@@ -441,8 +517,9 @@ fn all_rounds(
             texts,
             answers,
             &mut bytes,
+            left,
         );
-        left -= 1;
+        left -= made;
     }
 }
 

@@ -1,4 +1,4 @@
-use mathlib.Core.Path.{_≡_, refl, sym, ap, _∙_}
+use mathlib.Core.Path.{_≡_, refl, sym, _∙_}
 use mathlib.Core.Bool.{true, false}
 use Prim.Native.Nat.{ℕ, _≤_, _-_}
 use native.Mathlib.Omega.{arith}
@@ -6,15 +6,16 @@ use lib.ListN.{length}
 use borrow.Author.Needs.{needs}
 use Rattle.points.specs.Serving.{rounds}
 use Rattle.c_lent.specs.Numbers.{sharedAs}
-use Rattle.c_lent.specs.Batch.{Lengths}
+use Rattle.c_lent.specs.Batch.{Lengths, AllReady}
 use Rattle.c_lent.specs.Serving.{commonLent, listed, listedAt, stepTurnFor}
-use Rattle.c_lent.proofs.Turns.{rounds-next, rounds-over, rounds-idle}
+use Rattle.c_lent.proofs.Turns.{rounds-over, rounds-idle}
+use Rattle.c_lent.proofs.RoundsMore.{rounds-more}
 use Rattle.c_lent.proofs.serve.all_rounds.Statement.{statement}
 use Rattle.c_lent.proofs.serve.all_rounds.Tie as tie
 use Rattle.c_lent.proofs.serve.all_rounds.Reads as reads
 use Rattle.c_lent.proofs.serve.all_rounds.Lts as lts
 use Rattle.c_lent.proofs.serve.anybody.Reads as anybody-reads
-use Rattle.c_lent.proofs.serve.round.Reads as round-reads
+use Rattle.c_lent.proofs.serve.batch.Reads as batch-reads
 
 abbrev Inv-loop : tie.InvT-loop
 Inv-loop image₀ shared₀ taken₀ heads₀ tables₀ texts₀ answers₀ most bytes₀ left₀ image shared taken heads tables texts answers bytes left =
@@ -22,6 +23,7 @@ Inv-loop image₀ shared₀ taken₀ heads₀ tables₀ texts₀ answers₀ most
     × Lengths (length heads₀) heads tables texts answers
     × (rounds most stepTurnFor (commonLent image₀ (sharedAs shared₀ taken₀)) (listed heads₀ tables₀ texts₀ answers₀)
     ≡ rounds left stepTurnFor (commonLent image (sharedAs shared taken)) (listed heads tables texts answers))
+    × AllReady (commonLent image (sharedAs shared taken)) (length heads₀) (listedAt heads tables texts answers)
 
 abbrev μ-loop : tie.MeasureT-loop
 μ-loop image₀ shared₀ taken₀ heads₀ tables₀ texts₀ answers₀ most bytes₀ left₀ image shared taken heads tables texts answers bytes left =
@@ -29,34 +31,43 @@ abbrev μ-loop : tie.MeasureT-loop
 
 -- src/serve.rt:163:5
 loop-holds : tie.Need-loop-holds Inv-loop μ-loop
-loop-holds c = (refl, (refl, c .before .pre .0, c .before .pre .1, c .before .pre .2), refl)
+loop-holds c = (refl, c .before .pre .0, refl, c .before .pre .2)
 
 -- src/serve.rt:163:23
 anybody-requires : tie.Need-anybody-requires Inv-loop μ-loop
 anybody-requires c κs = search needs
 
 -- src/serve.rt:164:9
-round-requires : tie.Need-round-requires Inv-loop μ-loop
-round-requires c κs =
+batch-requires : tie.Need-batch-requires Inv-loop μ-loop
+batch-requires c κs =
     let l = c .before .before .before .before .before .before .before .before .before .before .before .before .loop in
-    (l .inv .1 .1 ∙ sym (l .inv .1 .0), l .inv .1 .2 ∙ sym (l .inv .1 .0), l .inv .1 .3 ∙ sym (l .inv .1 .0))
+    let few = c .before .before .before .before .before .before .before .before .before .before .before .before .before .before .pre .1 in
+    let h = l .inv .1 .0 in
+    (
+      (refl, l .inv .1 .1 ∙ sym h, l .inv .1 .2 ∙ sym h, l .inv .1 .3 ∙ sym h),
+      omega (arith, h, few),
+      omega arith,
+      λ i k g. l .inv .3 i (omega (arith, h, k)) g,
+    )
 
 -- src/serve.rt:165:9
 sub-left : tie.Need-sub-left Inv-loop μ-loop
-sub-left c = omega arith
+sub-left c = c .before .before .before .before .before .before .batch .ensures .1
 
 -- src/serve.rt:163:5
 loop-less : tie.Need-loop-less Inv-loop μ-loop
-loop-less c = omega arith
+loop-less c = let y = c .before .before .before .before .before .before .batch .ensures in omega (arith, y .0, y .1)
 
 -- src/serve.rt:163:5
 loop-again : tie.Need-loop-again Inv-loop μ-loop
 loop-again c =
     let l = c .before .before .before .before .before .before .before .before .before .before .before .before .before .before .before .before .before .before .before .loop in
-    let y = c .before .before .before .before .before .before .round in (
+    let y = c .before .before .before .before .before .before .batch in
+    let h = l .inv .1 .0 in (
       c .before .before .before .before .before .image .given ∙ l .inv .0,
-      (c .before .before .before .heads .given ∙ l .inv .1 .0, c .before .before .tables .given ∙ l .inv .1 .1, c .before .texts .given ∙ l .inv .1 .2, c .answers .given ∙ l .inv .1 .3),
-      l .inv .2 ∙ rounds-next (l .left) _ _ _ _ (omega arith) (y .ensures .0),
+      (c .before .before .before .heads .given ∙ h, c .before .before .tables .given ∙ l .inv .1 .1, c .before .texts .given ∙ l .inv .1 .2, c .answers .given ∙ l .inv .1 .3),
+      l .inv .2 ∙ rounds-more (l .left) _ _ _ _ _ (y .ensures .1) (y .ensures .2),
+      λ i k g. y .ensures .3 i (omega (arith, h, k)) g,
     )
 
 -- src/serve.rt:145:1
@@ -69,15 +80,15 @@ same-length-2 c = c .before .before .before .before .loop .inv .1 .0
 
 -- src/serve.rt:145:1
 same-length-3 : tie.Need-same-length-3 Inv-loop μ-loop
-same-length-3 c = c .before .before .before .before .loop .inv .1 .1 ∙ sym (c .before .before .before .before .before .before .pre .0)
+same-length-3 c = c .before .before .before .before .loop .inv .1 .1 ∙ sym (c .before .before .before .before .before .before .pre .0 .1)
 
 -- src/serve.rt:145:1
 same-length-4 : tie.Need-same-length-4 Inv-loop μ-loop
-same-length-4 c = c .before .before .before .before .loop .inv .1 .2 ∙ sym (c .before .before .before .before .before .before .pre .1)
+same-length-4 c = c .before .before .before .before .loop .inv .1 .2 ∙ sym (c .before .before .before .before .before .before .pre .0 .2)
 
 -- src/serve.rt:145:1
 same-length-5 : tie.Need-same-length-5 Inv-loop μ-loop
-same-length-5 c = c .before .before .before .before .loop .inv .1 .3 ∙ sym (c .before .before .before .before .before .before .pre .2)
+same-length-5 c = c .before .before .before .before .loop .inv .1 .3 ∙ sym (c .before .before .before .before .before .before .pre .0 .3)
 
 -- src/serve.rt:145:1
 returns : tie.Need-returns Inv-loop μ-loop
@@ -96,15 +107,15 @@ same-length-7 c = c .before .loop .inv .1 .0
 
 -- src/serve.rt:145:1
 same-length-8 : tie.Need-same-length-8 Inv-loop μ-loop
-same-length-8 c = c .before .loop .inv .1 .1 ∙ sym (c .before .before .before .pre .0)
+same-length-8 c = c .before .loop .inv .1 .1 ∙ sym (c .before .before .before .pre .0 .1)
 
 -- src/serve.rt:145:1
 same-length-9 : tie.Need-same-length-9 Inv-loop μ-loop
-same-length-9 c = c .before .loop .inv .1 .2 ∙ sym (c .before .before .before .pre .1)
+same-length-9 c = c .before .loop .inv .1 .2 ∙ sym (c .before .before .before .pre .0 .2)
 
 -- src/serve.rt:145:1
 same-length-10 : tie.Need-same-length-10 Inv-loop μ-loop
-same-length-10 c = c .before .loop .inv .1 .3 ∙ sym (c .before .before .before .pre .2)
+same-length-10 c = c .before .loop .inv .1 .3 ∙ sym (c .before .before .before .pre .0 .3)
 
 -- src/serve.rt:145:1
 returns-2 : tie.Need-returns-2 Inv-loop μ-loop
@@ -120,7 +131,7 @@ all-rounds-spec =
     μ-loop
     loop-holds
     anybody-requires
-    round-requires
+    batch-requires
     sub-left
     loop-less
     loop-again

@@ -31,7 +31,7 @@ lesser-requires c κs = search needs
 
 -- src/serve.rt:375:9
 round-requires : tie.Need-round-requires
-round-requires c κs = search needs
+round-requires c κs = let p = c .before .before .before .before .before .before .before .before .before .before .before .before .before .before .pre in (p .0, p .3)
 
 -- src/serve.rt:376:9
 same-length : tie.Need-same-length
@@ -58,7 +58,7 @@ returns : tie.Need-returns
 returns c =
     let y = c .before .before .before .before .before .before .round in
     let p = c .before .before .before .before .before .before .before .before .before .before .before .before .before .before .before .before .before .before .before .before .before .pre in
-    (omega arith, omega (arith, p .2), one-round _ _ _ _ (y .ensures .0), y .ensures .1 (p .3))
+    (omega arith, omega (arith, p .2), one-round _ _ _ _ (y .ensures .0), y .ensures .1)
 
 -- src/serve.rt:378:5
 plain-batch-requires : tie.Need-plain-batch-requires

@@ -6,9 +6,10 @@ use borrow.Author.Needs.{needs}
 use Rattle.words.specs.Logic.{listFrom}
 use Rattle.points.specs.Serving.{inTurn}
 use Rattle.c_lent.specs.Numbers.{sharedAs}
-use Rattle.c_lent.specs.Batch.{Lengths}
+use Rattle.c_lent.specs.Batch.{Lengths, AllReady}
 use Rattle.c_lent.specs.Serving.{commonLent, turnLeft, listed, listedAt, asking, askingAt, startAt, beginTurnFor}
 use Rattle.c_lent.proofs.InTurn.{Reached, reached-start, reached-end}
+use Rattle.c_lent.proofs.BeginReady.{begin-good-next}
 use Rattle.c_lent.proofs.Turns.{lengths-set, starts-up, start-next, text-part, begin-next}
 use Rattle.c_lent.proofs.serve.begin_all.Statement.{statement}
 use Rattle.c_lent.proofs.serve.begin_all.Tie as tie
@@ -24,6 +25,7 @@ Inv-loop image shared₀ taken₀ heads₀ tables₀ texts₀ answers₀ writes 
     × Lengths (length heads₀) heads tables texts answers
     × Reached beginTurnFor (inTurn beginTurnFor (commonLent image (sharedAs shared₀ taken₀)) (asking heads₀ tables₀ texts₀ writes bytes))
     (commonLent image (sharedAs shared taken)) i (length heads₀) (askingAt heads tables texts writes bytes) (listedAt heads tables texts answers)
+    × AllReady (commonLent image (sharedAs shared taken)) i (listedAt heads tables texts answers)
 
 abbrev μ-loop : tie.MeasureT-loop
 μ-loop image shared₀ taken₀ heads₀ tables₀ texts₀ answers₀ writes bytes start₀ i₀ i-end shared taken heads tables texts answers start i =
@@ -39,6 +41,7 @@ loop-holds c =
       refl,
       (refl, s .pre .0, s .pre .1, s .pre .2),
       reached-start beginTurnFor _ (length (a .heads .now)) _ (listedAt (a .heads .now) (a .tables .now) (a .texts .now) (a .answers .now)),
+      λ j l g. absurd (omega arith),
     )
 
 -- src/serve.rt:67:27
@@ -148,6 +151,7 @@ loop-again c =
       lengths-set _ (l .heads) (l .tables) (l .texts) (l .answers) _ _ _ _ (l .i) (l .inv .3),
       begin-next _ _ _ (l .heads) (l .tables) (l .texts) (l .answers) (s .args .writes .now) (s .args .bytes .now) _ _ _ _ _ (l .i) _ _ (l .inv .3) (omega arith)
           refl (text-part (s .args .writes .now) (s .args .bytes .now) (l .i) (l .start) (l .inv .1)) (l .inv .4) (c .begin-turn .ensures),
+      begin-good-next _ _ (l .heads) (l .tables) (l .texts) (l .answers) _ _ _ _ _ (l .i) _ (l .inv .3) (omega arith) (l .inv .5) (c .begin-turn .ensures),
     )
 
 -- src/serve.rt:48:1
@@ -170,10 +174,13 @@ same-length-4 c = c .before .loop .inv .3 .3 ∙ sym (c .before .before .before 
 returns : tie.Need-returns Inv-loop μ-loop
 returns c =
     let l = c .before .loop in
-    let image = c .before .before .before .before .args .image .now in
-    ap (λ (n : ℕ). turnLeft (commonLent image (sharedAs (l .shared) (l .taken))) (listFrom 0 n (listedAt (l .heads) (l .tables) (l .texts) (l .answers))))
-    (l .inv .3 .0)
-    ∙ sym (reached-end beginTurnFor _ _ (l .i) _ _ (listedAt (l .heads) (l .tables) (l .texts) (l .answers)) (omega arith) (l .inv .0) (l .inv .4))
+    let start = c .before .before .before .before .args in
+    let over : l .i ≡ length (start .heads .now) = omega (arith, l .inv .0, l .inv .2) in (
+      ap (λ (n : ℕ). turnLeft (commonLent (start .image .now) (sharedAs (l .shared) (l .taken))) (listFrom 0 n (listedAt (l .heads) (l .tables) (l .texts) (l .answers))))
+          (l .inv .3 .0)
+          ∙ sym (reached-end beginTurnFor _ _ (l .i) _ _ (listedAt (l .heads) (l .tables) (l .texts) (l .answers)) (omega arith) (l .inv .0) (l .inv .4)),
+      λ j k g. l .inv .5 j (omega (arith, over, k)) g,
+    )
 
 pub begin-all-spec : {M : Type 1} → statement M
 begin-all-spec =

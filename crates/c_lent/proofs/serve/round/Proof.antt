@@ -11,6 +11,7 @@ use Rattle.words.specs.Logic.{listFrom}
 use Rattle.c_lent.proofs.InTurn.{Reached, reached-start, reached-end}
 use Rattle.c_lent.proofs.Turns.{lengths-set, round-next}
 use Rattle.c_lent.proofs.PlainRounds.{round-good}
+use Rattle.c_lent.proofs.Lean.{any-answer}
 use Rattle.c_lent.proofs.serve.round.Statement.{statement}
 use Rattle.c_lent.proofs.serve.round.Tie as tie
 use Rattle.c_lent.proofs.serve.round.Reads as reads
@@ -25,8 +26,7 @@ Inv-loop image₀ shared₀ taken₀ heads₀ tables₀ texts₀ answers₀ byte
     × Lengths (length heads₀) heads tables texts answers
     × Reached stepTurnFor (inTurn stepTurnFor (commonLent image₀ (sharedAs shared₀ taken₀)) (listed heads₀ tables₀ texts₀ answers₀))
     (commonLent image (sharedAs shared taken)) i (length heads₀) (listedAt heads tables texts answers) (listedAt heads tables texts answers)
-    × (AllReady (commonLent image₀ (sharedAs shared₀ taken₀)) (length heads₀) (listedAt heads₀ tables₀ texts₀ answers₀)
-    → AllReady (commonLent image (sharedAs shared taken)) (length heads₀) (listedAt heads tables texts answers))
+    × AllReady (commonLent image (sharedAs shared taken)) (length heads₀) (listedAt heads tables texts answers)
 
 abbrev μ-loop : tie.MeasureT-loop
 μ-loop image₀ shared₀ taken₀ heads₀ tables₀ texts₀ answers₀ bytes₀ i₀ i-end image shared taken heads tables texts answers bytes i =
@@ -39,9 +39,9 @@ loop-holds c =
       omega arith,
       refl,
       refl,
-      (refl, c .before .pre .0, c .before .pre .1, c .before .pre .2),
+      c .before .pre .0,
       reached-start stepTurnFor _ (length (a .heads .now)) _ (listedAt (a .heads .now) (a .tables .now) (a .texts .now) (a .answers .now)),
-      λ r. r,
+      c .before .pre .1,
     )
 
 -- src/serve.rt:55:36
@@ -78,7 +78,7 @@ index-1-turn-4 c = omega arith
 
 -- src/serve.rt:55:9
 turn-requires : tie.Need-turn-requires Inv-loop μ-loop
-turn-requires c κs = search needs
+turn-requires c κs g = let l = c .before .before .before .before .before .before .before .before .before .loop in any-answer (l .inv .5 (l .i) (omega arith) g)
 
 -- src/serve.rt:54:9
 add-i : tie.Need-add-i Inv-loop μ-loop
@@ -99,7 +99,7 @@ loop-again c =
       l .inv .2,
       lengths-set _ (l .heads) (l .tables) (l .texts) (l .answers) _ _ _ _ (l .i) (l .inv .3),
       round-next _ _ _ (l .heads) (l .tables) (l .texts) (l .answers) _ _ _ _ _ (l .i) (l .inv .3) (omega arith) (l .inv .4) (y .turn .ensures),
-      λ r. round-good _ _ (l .heads) (l .tables) (l .texts) (l .answers) _ _ _ _ _ (l .i) (l .inv .3) (omega arith) (l .inv .5 r) (y .turn .ensures),
+      round-good _ _ (l .heads) (l .tables) (l .texts) (l .answers) _ _ _ _ _ (l .i) (l .inv .3) (omega arith) (l .inv .5) (y .turn .ensures),
     )
 
 -- src/serve.rt:38:1
@@ -112,15 +112,15 @@ same-length-2 c = c .before .loop .inv .3 .0
 
 -- src/serve.rt:38:1
 same-length-3 : tie.Need-same-length-3 Inv-loop μ-loop
-same-length-3 c = c .before .loop .inv .3 .1 ∙ sym (c .before .before .before .pre .0)
+same-length-3 c = c .before .loop .inv .3 .1 ∙ sym (c .before .before .before .pre .0 .1)
 
 -- src/serve.rt:38:1
 same-length-4 : tie.Need-same-length-4 Inv-loop μ-loop
-same-length-4 c = c .before .loop .inv .3 .2 ∙ sym (c .before .before .before .pre .1)
+same-length-4 c = c .before .loop .inv .3 .2 ∙ sym (c .before .before .before .pre .0 .2)
 
 -- src/serve.rt:38:1
 same-length-5 : tie.Need-same-length-5 Inv-loop μ-loop
-same-length-5 c = c .before .loop .inv .3 .3 ∙ sym (c .before .before .before .pre .2)
+same-length-5 c = c .before .loop .inv .3 .3 ∙ sym (c .before .before .before .pre .0 .3)
 
 -- src/serve.rt:38:1
 returns : tie.Need-returns Inv-loop μ-loop

@@ -66,10 +66,14 @@ most-rounds-requires c κs =
 -- src/serve.rt:267:5
 all-rounds-requires : tie.Need-all-rounds-requires
 all-rounds-requires c κs =
-    let m = c .before .before .before .before .before .before .before .before in
-    let x = each (passed (begun m)) in
-    let h = sym (m .before .before .before .heads .given) in
-    (m .before .before .tables .given ∙ x .tables-are ∙ h, m .before .texts .given ∙ x .texts-are ∙ h, m .answers .given ∙ x .answers-are ∙ h)
+    let n = c .before .before .before .before .before .before .before .before in
+    let x = each (passed (begun n)) in
+    let h = n .before .before .before .heads .given in
+    (
+      (refl, n .before .before .tables .given ∙ x .tables-are ∙ sym h, n .before .texts .given ∙ x .texts-are ∙ sym h, n .answers .given ∙ x .answers-are ∙ sym h),
+      omega (arith, x .most, h),
+      λ i k g. begun n .begin-all .ensures .1 i (omega (arith, h, k)) g,
+    )
 
 -- src/serve.rt:245:1
 same-length-2 : tie.Need-same-length-2
@@ -111,7 +115,7 @@ returns-2 c =
       c .before .texts2 .given ∙ n .before .texts .given ∙ x .texts-are ∙ back,
       c .answers2 .given ∙ n .answers .given ∙ x .answers-are ∙ back,
     )
-    (begun n .begin-all .ensures) (y .all-rounds .ensures)
+    (begun n .begin-all .ensures .0) (y .all-rounds .ensures)
 
 pub serve-spec : {M : Type 1} → statement M
 serve-spec =
