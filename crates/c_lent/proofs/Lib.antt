@@ -11,6 +11,7 @@ pub mod Turns
 pub mod ReadyAt
 pub mod BeginReady
 pub mod Lean
+pub mod Lone
 pub mod RoundsMore
 pub mod Plain
 pub mod PlainRounds

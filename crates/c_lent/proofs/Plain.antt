@@ -53,7 +53,7 @@ module _ (words : List ℕ) (s : SharedLent) (p : Point) (a row left : List ℕ)
   abbrev x : ListedLent
   x = listedLent (lendPoint p) a
 
-  shared-same : lendShared (sharedIn s) ≡ s
+  pub shared-same : lendShared (sharedIn s) ≡ s
   shared-same = ap (λ (n : List ℕ). sharedAs n (s .taken)) (sym (numbers-same (s .taken) (p .head) (s .numbers) long))
 
   abbrev T : Type 0

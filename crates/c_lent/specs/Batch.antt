@@ -71,6 +71,11 @@ PlainAt m h = Fills m h ⊎ Zeroes m h
 abbrev pub Plain : ℕ → ListedLent → Type 0
 Plain m x = PlainAt m (x .point .head)
 
+-- it is one point alone, and its write is being filled
+abbrev pub FillsAlone : List (List ℕ) → List (List ℕ) → Type 0
+FillsAlone heads answers =
+    (length heads ≡ 1) × (kindGoesOn (getD (getD answers 0 []) 0 0) ≡ true) × (getD (getD heads 0 []) 7 0 ≡ 1)
+
 -- a point after such a step: one word on
 unfoldable pub oneOn : ListedLent → ListedLent
 oneOn x =

@@ -1,16 +1,18 @@
 // Serving a list of points: all writes are begun in list order, then each unfinished one gets a step a round.
 ghost use mathlib.Core.Path.{_≡_};
 ghost use mathlib.Core.Bool.{true, false};
-ghost use mathlib.Core.List.{List, []};
-ghost use Prim.Native.Nat.{ℕ, suc, _-_, _≤_, _<_};
-ghost use lib.ListN.{length, getD};
+ghost use mathlib.Core.List.{List, [], _∷_};
+ghost use Prim.Native.Nat.{ℕ, suc, _+_, _-_, _≤_, _<_};
+ghost use lib.ListN.{length, getD, set};
 ghost use lib.Dec.{eqb};
 ghost use Rattle.words.specs.Edition.{one};
 ghost use Rattle.words.specs.Logic.{member, listFrom};
+ghost use Rattle.points.specs.Batch.{filledOn, InOneBlock};
 ghost use Rattle.points.specs.Serving.{inTurn, rounds, serveRounds, twice};
-ghost use Rattle.c_lent.specs.Numbers.{sharedLent, pointLent, isKnown};
+ghost use Rattle.c_lent.specs.Numbers.{sharedLent, pointLent, headFrom, isKnown};
 ghost use Rattle.c_lent.specs.Serving.{kindGoesOn, beginTurnFor, stepTurnFor, listed, asking, listedAt, commonLent, turnLeft, listedLent, askingLent};
-ghost use Rattle.c_lent.specs.Batch.{ReadyAt, AllReady, Steps, MovesOn, CommitsOn, PlainAt, RowAt, NextWords, StoresNext, Lengths, Rows, oneOn};
+ghost use Rattle.c_lent.specs.Batch.{ReadyAt, AllReady, Steps, MovesOn, CommitsOn, FillsAlone, PlainAt, RowAt, NextWords, StoresNext};
+ghost use Rattle.c_lent.specs.Batch.{Lengths, Rows, oneOn};
 ghost use Rattle.c_lent.specs.Serving.{Lent, oneForEach, anyGoesOn, begunAnswer, startAt, numberAt, serveReason, serveLeft, serveFor};
 
 // Whether the write goes on after an answer of this kind.
@@ -398,8 +400,8 @@ fn rows_for(heads: &[[u32; 11]], tables: &[[u16; 256]], answers: &[[u32; 2]], ro
     }
 }
 
-// So many rounds of points that all have so many words left to store one by one.
-fn plain_batch(
+// So many rounds of points that all have so many words left to store one by one, by rows that are found once.
+fn by_rows(
     image: &mut [u64],
     shared: &[u32; 35],
     taken: &[u64; 16],
@@ -431,6 +433,67 @@ fn plain_batch(
         answers,
         m,
     );
+}
+
+// Whether it is one point alone, and its write is being filled.
+fn fills_alone(heads: &[[u32; 11]], answers: &[[u32; 2]]) -> bool
+    requires { ⌜ length (now answers) ≡ length (now heads) ⌝ }
+    ensures { λ r. ⌜ (r ≡ true → FillsAlone (now (heads .entry)) (now (answers .entry))) ⌝ }
+{
+    if heads.len() != 1 {
+        return false;
+    }
+    if !goes_on(answers[0][0]) {
+        return false;
+    }
+    heads[0][7] == 1
+}
+
+// So many words of a run are stored, and it is said.
+fn fill_alone(
+    image: &mut [u64],
+    head: &mut [u32; 11],
+    table: &[u16; 256],
+    text: &[u8; 1024],
+    answer: &mut [u32; 2],
+    m: u32,
+)
+    requires { ⌜ (isKnown (now head) ≡ true) × InOneBlock (headFrom (now head)) (getD (now head) 8 0) m ⌝ }
+    ensures { λ _. ⌜ (let h = now (head .entry) in
+        (now (image .exit) ≡ filledOn one (headFrom h) (now (table .entry)) (now (text .entry)) (getD h 8 0) m (now (image .entry)))
+        × (now (head .exit) ≡ set h 8 (getD h 8 0 + m)) × (now (answer .exit) ≡ 1 ∷ 0 ∷ [])) ⌝ }
+{
+    let k = head[8];
+    points::serve::fill_words(image, crate::numbers::head(head), table, text, k, m);
+    head[8] = k + m;
+    *answer = [1, 0];
+}
+
+// So many rounds of points that all have so many words left to store one by one.
+fn plain_batch(
+    image: &mut [u64],
+    shared: &[u32; 35],
+    taken: &[u64; 16],
+    heads: &mut [[u32; 11]],
+    tables: &[[u16; 256]],
+    texts: &[[u8; 1024]],
+    answers: &mut [[u32; 2]],
+    m: u32,
+)
+    requires { ⌜ Lengths (length (now heads)) (now heads) (now tables) (now texts) (now answers) × (length (now heads) ≤ 32) × (0 < m)
+        × AllReady (commonLent (now image) (sharedLent shared taken)) (length (now heads)) (listedAt (now heads) (now tables) (now texts) (now answers))
+        × ((i : ℕ) → i < length (now heads) → kindGoesOn (getD (getD (now answers) i []) 0 0) ≡ true → PlainAt m (getD (now heads) i [])) ⌝ }
+    ensures { λ _. ⌜ (let c = commonLent (now (image .exit)) (sharedLent (shared .entry) (taken .entry)) in
+        (turnLeft c (listed (now (heads .exit)) (now (tables .entry)) (now (texts .entry)) (now (answers .exit)))
+        ≡ rounds m stepTurnFor (commonLent (now (image .entry)) (sharedLent (shared .entry) (taken .entry)))
+        (listed (now (heads .entry)) (now (tables .entry)) (now (texts .entry)) (now (answers .entry))))
+        × AllReady c (length (now (heads .entry))) (listedAt (now (heads .exit)) (now (tables .entry)) (now (texts .entry)) (now (answers .exit)))) ⌝ }
+{
+    if fills_alone(heads, answers) {
+        fill_alone(image, &mut heads[0], &tables[0], &texts[0], &mut answers[0], m);
+    } else {
+        by_rows(image, shared, taken, heads, tables, texts, answers, m);
+    }
 }
 
 // The lesser of two numbers.

@@ -68,7 +68,8 @@ plain-batch-requires c κs =
     let words = c .before .before .before .before .before .before .before .before .before .plain-words in
     let m = c .before .before .before .before .before .before .before .before .lesser in
     let some : 0 < words .result = omega (arith, m .ensures .0) in
-    (p .0, p .1, p .3, λ i l g. plain-fewer (words .result) (m .result) (getD (s .args .heads .now) i []) (m .ensures .0) (words .ensures some i l g))
+    let made : 0 < m .result = omega arith in
+    (p .0, p .1, made, p .3, λ i l g. plain-fewer (words .result) (m .result) (getD (s .args .heads .now) i []) (m .ensures .0) (words .ensures some i l g))
 
 -- src/serve.rt:351:1
 same-length-6 : tie.Need-same-length-6

@@ -1,69 +1,118 @@
-use Prim.Native.Nat.{ℕ, _≤_}
+use Prim.Native.Nat.{_<_}
 use native.Mathlib.Omega.{arith}
 use lib.ListN.{length}
-use Rattle.c_lent.specs.Numbers.{sharedLent}
-use Rattle.c_lent.specs.Serving.{commonLent}
-use Rattle.c_lent.proofs.WordsLeft.{all-known, rows-made}
 use borrow.Author.Needs.{needs}
+use Rattle.c_lent.specs.Numbers.{sharedLent}
+use Rattle.c_lent.specs.Batch.{FillsAlone}
+use Rattle.c_lent.proofs.Lone.{alone-known, alone-block, alone-rounds}
 use Rattle.c_lent.proofs.serve.plain_batch.Statement.{statement}
 use Rattle.c_lent.proofs.serve.plain_batch.Tie as tie
 use Rattle.c_lent.proofs.serve.plain_batch.Reads as reads
 use Rattle.c_lent.proofs.serve.plain_batch.Lts as lts
-use Rattle.c_lent.proofs.serve.plain_rounds.Reads as plain-rounds-reads
-use Rattle.c_lent.proofs.serve.rows_for.Reads as rows-for-reads
+use Rattle.c_lent.proofs.serve.by_rows.Reads as by-rows-reads
+use Rattle.c_lent.proofs.serve.fill_alone.Reads as fill-alone-reads
+use Rattle.c_lent.proofs.serve.fills_alone.Reads as fills-alone-reads
 
--- src/serve.rt:336:38
-slice-aggregate-rows-for : tie.Need-slice-aggregate-rows-for
-slice-aggregate-rows-for c = search needs
+-- the way back; it is one point alone
+abbrev start : tie.Then1 → tie.Start
+start c = c .before .before .before .before .before
 
--- src/serve.rt:336:5
-rows-for-requires : tie.Need-rows-for-requires
-rows-for-requires c κs =
-    let s = c .before .before .before .before in
-    let a = s .args in
-    let p = s .pre in
-    (p .0 .1, p .0 .3, p .1, all-known (commonLent (a .image .now) (sharedLent (a .shared) (a .taken))) (a .heads .now) (a .tables .now) (a .texts .now) (a .answers .now) (p .0) (p .2))
+alone : (c : tie.Then1) → FillsAlone (start c .args .heads .now) (start c .args .answers .now)
+alone c = c .before .fills-alone .ensures (c .if1 .taken)
 
--- src/serve.rt:337:40
-slice-aggregate-plain-rounds : tie.Need-slice-aggregate-plain-rounds
-slice-aggregate-plain-rounds c = search needs
+some-heads : (c : tie.Then1) → 0 < length (start c .args .heads .now)
+some-heads c = let n = alone c .0 in omega arith
 
--- src/serve.rt:337:5
-plain-rounds-requires : tie.Need-plain-rounds-requires
-plain-rounds-requires c κs =
-    let s = c .before .before .before .before .before .before .before .before .before .before in
-    let a = s .args in
-    let p = s .pre in
-    let r = c .before .before .before .before .before .rows-for in
-    let enough : length (a .heads .now) ≤ length (r .last .1 .1 .1 .0) = omega (arith, p .1) in
-    rows-made (commonLent (a .image .now) (sharedLent (a .shared) (a .taken))) (a .heads .now) (a .tables .now) (a .texts .now) (a .answers .now) (p .0) (p .2)
-    (a .m) (r .last .1 .1 .1 .0) enough (p .3) (r .ensures)
+-- src/serve.rt:492:8
+fills-alone-requires : tie.Need-fills-alone-requires
+fills-alone-requires c κs = search needs
 
--- src/serve.rt:316:1
+-- src/serve.rt:493:27
+index-1-fill-alone : tie.Need-index-1-fill-alone
+index-1-fill-alone c = some-heads (c .before)
+
+-- src/serve.rt:493:42
+shared-slice-element-fill-alone : tie.Need-shared-slice-element-fill-alone
+shared-slice-element-fill-alone c = let t = c .before .before in omega (arith, start t .pre .0 .1, some-heads t)
+
+-- src/serve.rt:493:54
+shared-slice-element-fill-alone-2 : tie.Need-shared-slice-element-fill-alone-2
+shared-slice-element-fill-alone-2 c = let t = c .before .before .before in omega (arith, start t .pre .0 .2, some-heads t)
+
+-- src/serve.rt:493:65
+index-1-fill-alone-2 : tie.Need-index-1-fill-alone-2
+index-1-fill-alone-2 c = let t = c .before .before .before .before in omega (arith, start t .pre .0 .3, some-heads t)
+
+-- src/serve.rt:493:9
+fill-alone-requires : tie.Need-fill-alone-requires
+fill-alone-requires c κs =
+    let t = c .before .before .before .before .before in
+    let a = start t .args in
+    let p = start t .pre in
+    let shared = sharedLent (a .shared) (a .taken) in (
+      alone-known (a .image .now) shared (a .heads .now) (a .tables .now) (a .texts .now) (a .answers .now) (p .0) (p .3) (alone t) (a .m) (p .4),
+      alone-block (a .image .now) shared (a .heads .now) (a .tables .now) (a .texts .now) (a .answers .now) (p .0) (p .3) (alone t) (a .m) (p .4),
+    )
+
+-- src/serve.rt:495:9
+by-rows-requires : tie.Need-by-rows-requires
+by-rows-requires c κs = let p = c .before .before .before .before .before .before .before .before .pre in (p .0, p .1, p .3, p .4)
+
+-- src/serve.rt:473:1
 same-length : tie.Need-same-length
 same-length c = search needs
 
--- src/serve.rt:316:1
+-- src/serve.rt:473:1
 same-length-2 : tie.Need-same-length-2
 same-length-2 c = search needs
 
--- src/serve.rt:316:1
+-- src/serve.rt:473:1
 same-length-3 : tie.Need-same-length-3
 same-length-3 c = search needs
 
--- src/serve.rt:316:1
+-- src/serve.rt:473:1
 returns : tie.Need-returns
-returns c = search needs
+returns c =
+    let y = c .before .before in
+    let t = c .before .before .before .before .before .before .before .before in
+    let a = start t .args in
+    let p = start t .pre in
+    let e = y .fill-alone .ensures in
+    alone-rounds (a .image .now) (sharedLent (a .shared) (a .taken)) (a .heads .now) (a .tables .now) (a .texts .now) (a .answers .now) (p .0) (p .3) (alone t) (a .m) (p .4)
+    (p .2) _ _ _ (e .0) (e .1) (e .2)
+
+-- src/serve.rt:473:1
+same-length-4 : tie.Need-same-length-4
+same-length-4 c = search needs
+
+-- src/serve.rt:473:1
+same-length-5 : tie.Need-same-length-5
+same-length-5 c = search needs
+
+-- src/serve.rt:473:1
+same-length-6 : tie.Need-same-length-6
+same-length-6 c = search needs
+
+-- src/serve.rt:473:1
+returns-2 : tie.Need-returns-2
+returns-2 c = search needs
 
 pub plain-batch-spec : {M : Type 1} → statement M
 plain-batch-spec =
     tie.close
     (tie.spec
-    slice-aggregate-rows-for
-    rows-for-requires
-    slice-aggregate-plain-rounds
-    plain-rounds-requires
+    fills-alone-requires
+    index-1-fill-alone
+    shared-slice-element-fill-alone
+    shared-slice-element-fill-alone-2
+    index-1-fill-alone-2
+    fill-alone-requires
+    by-rows-requires
     same-length
     same-length-2
     same-length-3
-    returns)
+    returns
+    same-length-4
+    same-length-5
+    same-length-6
+    returns-2)
