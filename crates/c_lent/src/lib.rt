@@ -31,8 +31,10 @@ pub struct Count {
     pub count: u32,
 }
 
+mod batch;
 pub mod numbers;
 pub mod serve;
+mod turn;
 
 pub fn open(
     image: &[u64],

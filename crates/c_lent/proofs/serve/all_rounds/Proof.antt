@@ -15,7 +15,7 @@ use Rattle.c_lent.proofs.serve.all_rounds.Tie as tie
 use Rattle.c_lent.proofs.serve.all_rounds.Reads as reads
 use Rattle.c_lent.proofs.serve.all_rounds.Lts as lts
 use Rattle.c_lent.proofs.serve.anybody.Reads as anybody-reads
-use Rattle.c_lent.proofs.serve.batch.Reads as batch-reads
+use Rattle.c_lent.proofs.batch.batch.Reads as batch-reads
 
 abbrev Inv-loop : tie.InvT-loop
 Inv-loop image₀ shared₀ taken₀ heads₀ tables₀ texts₀ answers₀ most bytes₀ left₀ image shared taken heads tables texts answers bytes left =
@@ -42,8 +42,7 @@ batch-requires : tie.Need-batch-requires Inv-loop μ-loop
 batch-requires c κs =
     let l = c .before .before .before .before .before .before .before .before .before .before .before .before .loop in
     let few = c .before .before .before .before .before .before .before .before .before .before .before .before .before .before .pre .1 in
-    let h = l .inv .1 .0 in
-    (
+    let h = l .inv .1 .0 in (
       (refl, l .inv .1 .1 ∙ sym h, l .inv .1 .2 ∙ sym h, l .inv .1 .3 ∙ sym h),
       omega (arith, h, few),
       omega arith,

@@ -12,7 +12,7 @@ use Rattle.c_lent.proofs.serve.anybody.Statement.{statement}
 use Rattle.c_lent.proofs.serve.anybody.Tie as tie
 use Rattle.c_lent.proofs.serve.anybody.Reads as reads
 use Rattle.c_lent.proofs.serve.anybody.Lts as lts
-use Rattle.c_lent.proofs.serve.goes_on.Reads as goes-on-reads
+use Rattle.c_lent.proofs.turn.goes_on.Reads as goes-on-reads
 
 abbrev Inv-loop : tie.InvT-loop
 Inv-loop answers i₀ i-end i =

@@ -11,7 +11,7 @@ use Rattle.c_lent.proofs.serve.serve.Tie as tie
 use Rattle.c_lent.proofs.serve.serve.Reads as reads
 use Rattle.c_lent.proofs.serve.serve.Lts as lts
 use Rattle.c_lent.proofs.serve.all_rounds.Reads as all-rounds-reads
-use Rattle.c_lent.proofs.serve.begin_all.Reads as begin-all-reads
+use Rattle.c_lent.proofs.turn.begin_all.Reads as begin-all-reads
 use Rattle.c_lent.proofs.serve.most_rounds.Reads as most-rounds-reads
 use Rattle.c_lent.proofs.serve.reason.Reads as reason-reads
 
@@ -68,8 +68,7 @@ all-rounds-requires : tie.Need-all-rounds-requires
 all-rounds-requires c κs =
     let n = c .before .before .before .before .before .before .before .before in
     let x = each (passed (begun n)) in
-    let h = n .before .before .before .heads .given in
-    (
+    let h = n .before .before .before .heads .given in (
       (refl, n .before .before .tables .given ∙ x .tables-are ∙ sym h, n .before .texts .given ∙ x .texts-are ∙ sym h, n .answers .given ∙ x .answers-are ∙ sym h),
       omega (arith, x .most, h),
       λ i k g. begun n .begin-all .ensures .1 i (omega (arith, h, k)) g,
