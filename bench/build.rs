@@ -16,11 +16,8 @@ fn link_library() {
     println!("cargo::rustc-link-search=native={}/target/staticlib", root.display());
     println!("cargo::rustc-link-lib=static=bench_c");
     for name in ["c_api", "c_serve"] {
-        let archive = format!("../target/staticlib/lib{name}.a");
-        if Path::new(&archive).exists() {
-            println!("cargo::rustc-link-lib=static={name}");
-        }
-        println!("cargo::rerun-if-changed={archive}");
+        println!("cargo::rustc-link-lib=static={name}");
+        println!("cargo::rerun-if-changed=../target/staticlib/lib{name}.a");
     }
     for file in ["src/library.c", "../include/store.h"] {
         println!("cargo::rerun-if-changed={file}");
