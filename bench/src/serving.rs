@@ -25,7 +25,7 @@ extern "C" {
 
 /// This library with the lists that the call is lent. The records in the lists
 /// are the points'.
-struct Served {
+pub struct Served {
     library: Library,
     lists: Vec<Block>,
     points: usize,
@@ -38,6 +38,20 @@ impl Served {
         // SAFETY: it answers a number.
         let lists = Block::with(unsafe { bench_lists_size() });
         Served { library: Library::new(1_024), lists, points: 0, size: 0, bytes: Vec::new() }
+    }
+
+    /// Points that have been served once with writes of that many bytes.
+    pub fn once(points: usize, size: usize) -> Served {
+        let mut served = Served::new();
+        served.fresh(points, size);
+        served.serve();
+        served
+    }
+
+    /// Everything as in `from`, which has as many points and bytes.
+    pub fn restore(&mut self, from: &Served) {
+        self.library.restore(&from.library);
+        self.lists.copy_from_slice(&from.lists);
     }
 
     /// Nothing written, and that many points with writes of that many bytes.
@@ -54,10 +68,15 @@ impl Served {
     fn rounds(&mut self, times: usize) {
         for _ in 0..times {
             self.bytes.chunks_exact_mut(self.size).for_each(alter);
-            let (image, words) = self.library.image_to_write();
-            let (shared, lists) = (self.library.shared.as_mut_ptr(), self.lists.as_mut_ptr());
-            accepted(unsafe { bench_serve(image, words, shared, lists, self.points, self.bytes.as_ptr(), self.bytes.len()) });
+            self.serve();
         }
+    }
+
+    /// One call.
+    pub fn serve(&mut self) {
+        let (image, words) = self.library.image_to_write();
+        let (shared, lists) = (self.library.shared.as_mut_ptr(), self.lists.as_mut_ptr());
+        accepted(unsafe { bench_serve(image, words, shared, lists, self.points, self.bytes.as_ptr(), self.bytes.len()) });
     }
 }
 
@@ -88,6 +107,11 @@ impl Aim {
     }
 }
 
+/// What is measured: with which aim, and how many bytes.
+fn shapes() -> impl Iterator<Item = (&'static Aim, usize)> {
+    AIMS.iter().flat_map(|aim| aim.sizes().iter().map(move |&size| (aim, size)))
+}
+
 /// The section: a row for each number of points and bytes.
 pub struct Serving {
     rows: Vec<ServingRow>,
@@ -110,6 +134,11 @@ fn label(points: usize, size: usize) -> String {
     }
 }
 
+/// Points and bytes of the row with that label.
+pub fn named(name: &str) -> Option<(usize, usize)> {
+    shapes().map(|(aim, size)| (aim.points, size)).find(|&(points, size)| label(points, size) == name)
+}
+
 /// A row of serving: its cell in place of the first of the row of writes.
 fn beside(run: &mut Run, served: &Rc<RefCell<Served>>, others: &Row, points: usize, size: usize) -> Row {
     let mut places = others.places.clone();
@@ -127,8 +156,7 @@ impl Serving {
     /// bytes.
     pub fn plan(run: &mut Run, mut writes: impl FnMut(&mut Run, usize, usize) -> Row) -> Serving {
         let served = Rc::new(RefCell::new(Served::new()));
-        let shapes = AIMS.iter().flat_map(|aim| aim.sizes().iter().map(move |&size| (aim, size)));
-        let rows = shapes.map(|(aim, size)| {
+        let rows = shapes().map(|(aim, size)| {
             let others = writes(run, aim.points, size);
             ServingRow { aim, size, row: beside(run, &served, &others, aim.points, size), by_steps: others.places[0] }
         });
