@@ -167,16 +167,15 @@ fn reference_line(run: &Run, place: Place) -> String {
     format!("Reference, write {SIZE} B: {}.\n\n", time(run.time(place)))
 }
 
-/// All that the page shows, in the order in which cells take turns. A section's
-/// reference stands with it.
+/// All that the page shows. A section's reference stands with it.
 pub struct Page {
     columns: Vec<Shared>,
     references: References,
     writes: (Writes, Place),
     #[cfg(feature = "library")]
-    serving: (Serving, Place),
-    #[cfg(feature = "library")]
     written_back: (WrittenBack, Place),
+    #[cfg(feature = "library")]
+    serving: (Serving, Place),
     steps: (Row, Place),
     beginnings: (Vec<Row>, Place),
     opened: (Opened, Place),
@@ -212,9 +211,9 @@ impl Page {
             references,
             writes: (writes, own),
             #[cfg(feature = "library")]
-            serving,
-            #[cfg(feature = "library")]
             written_back,
+            #[cfg(feature = "library")]
+            serving,
             steps,
             beginnings,
             opened,
@@ -232,8 +231,8 @@ impl Page {
         text += &(self.writes.0.text(run, &self.columns) + &reference(self.writes.1));
         #[cfg(feature = "library")]
         {
-            text += &(self.serving.0.text(run, &self.columns) + &reference(self.serving.1));
             text += &(self.written_back.0.text(run) + &reference(self.written_back.1));
+            text += &(self.serving.0.text(run, &self.columns) + &reference(self.serving.1));
         }
         text += &(steps_text(run, &self.steps.0) + &reference(self.steps.1));
         text += &(beginning::text(run, &self.beginnings.0) + &reference(self.beginnings.1));

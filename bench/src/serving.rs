@@ -176,9 +176,10 @@ impl Serving {
         head.insert(2, "in steps".to_string());
         let rows: Vec<_> = self.rows.iter().map(|row| row.cells(run)).collect();
         "## Serving\n\n\
-         One call serves all points with one write each, a call with n points counts as n writes. Each point overwrites its own place, so nothing \
-         is filled twice; the others make the same writes, one transaction each, and stand above, as do the points of this library and of the second \
-         implementation whose steps take turns. A full log is laid out, opened and joined again outside the timed part.\n\n"
+         One call serves all points with one write each; a call with n points counts as n writes. Each point overwrites its own place, so no word \
+         is filled twice. The others make the same writes, one transaction each, and in steps the points of this library and of the second implementation \
+         take turns: these cells are those of \"Committed writes\". A full log is laid out, opened and joined again outside the timed part. Nothing is \
+         written back, as there.\n\n"
             .to_string()
             + &table::text(&head, &rows)
             + &self.aims(run, &names)
@@ -188,7 +189,7 @@ impl Serving {
     fn aims(&self, run: &Run, names: &[String]) -> String {
         let column = |name: &str| names.iter().position(|other| other == name);
         let (Some(lmdb), Some(pmemobj)) = (column("LMDB"), column("libpmemobj")) else { return String::new() };
-        let head = ["", "of LMDB's time", "aim", "of libpmemobj's", "aim", "both"].map(String::from);
+        let head = ["", "of LMDB's time", "of libpmemobj's time", "aim"].map(String::from);
         let rows: Vec<_> = self.rows.iter().map(|row| row.aim_cells(run, lmdb, pmemobj)).collect();
         "What is aimed at: with one point a quarter of LMDB's time at most and half of libpmemobj's, with 8 a third of LMDB's, with 32 half of it, and \
          with both less than libpmemobj's.\n\n"
@@ -209,14 +210,8 @@ impl ServingRow {
         let part = |column: usize| run.time(self.row.places[0]) / run.time(self.row.places[column]);
         let met = if self.aim.is_met(part(lmdb), part(pmemobj)) { "met" } else { "not met" };
         let aimed = |part: f64| if part < 1.0 { format!("at most {}", number(part)) } else { "below 1".to_string() };
-        vec![
-            self.row.label.clone(),
-            number(part(lmdb)),
-            aimed(self.aim.lmdb),
-            number(part(pmemobj)),
-            aimed(self.aim.pmemobj),
-            met.to_string(),
-        ]
+        let cell = |part: f64, aim: f64| format!("{} (aim: {})", number(part), aimed(aim));
+        vec![self.row.label.clone(), cell(part(lmdb), self.aim.lmdb), cell(part(pmemobj), self.aim.pmemobj), met.to_string()]
     }
 }
 
