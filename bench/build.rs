@@ -15,8 +15,11 @@ fn link_library() {
     println!("cargo::rustc-link-search=native={folder}");
     println!("cargo::rustc-link-search=native={}/target/staticlib", root.display());
     println!("cargo::rustc-link-lib=static=bench_c");
-    println!("cargo::rustc-link-lib=static=c_api");
-    for file in ["src/library.c", "../include/store.h", "../target/staticlib/libc_api.a"] {
+    for name in ["c_api", "c_serve"] {
+        println!("cargo::rustc-link-lib=static={name}");
+        println!("cargo::rerun-if-changed=../target/staticlib/lib{name}.a");
+    }
+    for file in ["src/library.c", "../include/store.h"] {
         println!("cargo::rerun-if-changed={file}");
     }
 }

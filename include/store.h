@@ -1,7 +1,8 @@
 /* A session file for up to 32 points, in memory that survives loss of power eight bytes at a time.
 
-   For C and C++ on x86-64. `include/build` makes the library to link with, target/staticlib/libc_api.a. docs/GUIDE.md shows how
-   firmware uses it; docs/RULES.md says of each call, to the last number, what it answers and leaves; docs/FORMAT.md what an image holds.
+   For C and C++ on x86-64. `include/build` makes the library to link with, target/staticlib/libc_api.a, and libc_serve.a beside it, for
+   store_serve alone. docs/GUIDE.md shows how firmware uses it; docs/RULES.md says of each call, to the last number, what it answers and
+   leaves; docs/FORMAT.md what an image holds.
 
    What is lent. Each call is lent memory of the caller: the image, and the records beside it. It keeps no pointer, allocates
    nothing, takes no lock, and touches nothing outside what it is lent. The numbers in that memory, in image, records and arguments,
@@ -256,7 +257,7 @@ uint32_t store_begin_read(const uint64_t *image, size_t words, store_shared *sha
    write. */
 store_answer store_step(uint64_t *image, size_t words, store_shared *shared, store_point *point, uint8_t *bytes);
 
-/* The library's call behind store_serve: it takes the shared record as its numbers, 35 from `blocks` on, and its map. */
+/* The call behind store_serve, in libc_serve.a: it takes the shared record as its numbers, 35 from `blocks` on, and its map. */
 uint32_t store_serve_parts(uint64_t *image, size_t words, uint32_t *numbers, uint64_t *taken, store_head *heads, size_t head_count,
                            uint16_t (*tables)[256], size_t table_count, uint8_t (*texts)[1024], size_t text_count,
                            store_served *answers, size_t answer_count, const store_write *writes, size_t write_count,

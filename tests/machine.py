@@ -5,7 +5,7 @@ import shutil
 import subprocess
 
 ROOT = pathlib.Path(__file__).resolve().parent.parent
-ARCHIVE = ROOT / "target/staticlib/libc_api.a"
+ARCHIVES = [ROOT / "target/staticlib" / f"lib{crate}.a" for crate in ("c_api", "c_serve")]
 OUTSIDE = {"memcpy", "memset"}  # the C library's
 
 
@@ -20,8 +20,8 @@ def build():
         subprocess.run("apt-get update -qq && apt-get install -y -qq binutils >/dev/null", shell=True, check=True)
 
 
-def functions(path=ARCHIVE):
-    """Each function's instructions: address -> (mnemonic, operands, the symbol that the linker puts in)."""
+def functions(path):
+    """Each function of an archive: its instructions: address -> (mnemonic, operands, the symbol that the linker puts in)."""
     found, name, last = {}, None, None
     for line in output("objdump", "-d", "-r", "--no-show-raw-insn", path).splitlines():
         if head := re.match(r"[0-9a-f]+ <(.+)>:$", line):
@@ -36,16 +36,16 @@ def functions(path=ARCHIVE):
     return found
 
 
-def symbols():
+def symbols(path):
     """The rows of nm: (address,) kind, name."""
-    return [line.split() for line in output("nm", ARCHIVE).splitlines() if len(line.split()) >= 2]
+    return [line.split() for line in output("nm", path).splitlines() if len(line.split()) >= 2]
 
 
-def exported():
-    return sorted(name for *_, kind, name in symbols() if kind == "T")
+def exported(path):
+    return sorted(name for *_, kind, name in symbols(path) if kind == "T")
 
 
-def outside():
-    """What the library needs from outside."""
-    rows = symbols()
+def outside(path):
+    """What an archive needs from outside."""
+    rows = symbols(path)
     return {row[-1] for row in rows if row[0] == "U"} - {row[-1] for row in rows if len(row) > 2}

@@ -20,12 +20,13 @@ typedef struct records {
     store_shared shared;
 } records;
 
-/* A cell: its name; what sets it up; its call; the write that it is about; how often each copy gets the call before the records are put back. */
+/* A cell: its name; what sets it up; its call; the write that it is about; how often each copy gets the call before the records are put back; and of a
+   call that serves how many points, whose records have no copies. */
 typedef struct cell {
     const char *name;
     void (*make)(void);
     void (*call)(records *);
-    size_t offset, size, rounds;
+    size_t offset, size, rounds, served;
 } cell;
 
 /* All memory that the calls are lent, at the same places of a page on both sides. */
@@ -259,34 +260,93 @@ static void read(records *r)
     must(store_read(image, WORDS, &r->shared, &r->point, now->offset, memory.buffer, now->size).count == now->size);
 }
 
+#ifdef SERVING
+/* ---- Serving: the points' records in three lists, kept and in use, and what else the call is lent. */
+typedef struct lists {
+    store_head heads[STORE_POINTS];
+    uint16_t tables[STORE_POINTS][STORE_VIRTUAL_BLOCKS];
+    uint8_t texts[STORE_POINTS][STORE_TEXT_MOST];
+} lists;
+
+static struct {
+    lists kept, used;
+    store_served answers[STORE_POINTS];
+    store_write writes[STORE_POINTS];
+    uint8_t bytes[STORE_POINTS * STORE_TEXT_MOST];
+} lent __attribute__((aligned(4096)));
+
+/* Each listed point writes to a place of its own. */
+static void serve(records *r)
+{
+    size_t n = now->served;
+    lists *l = &lent.used;
+    must(store_serve(image, WORDS, &r->shared, l->heads, n, l->tables, n, l->texts, n, lent.answers, n, lent.writes, n, lent.bytes, n * now->size) ==
+         STORE_DONE);
+    must(lent.answers[n - 1].kind == STORE_COMMITTED);
+}
+
+/* The log is as it was: nothing but its first entries, one of each point. */
+static void put_back_lists(void)
+{
+    lent.used = lent.kept;
+    for (size_t slot = 2 + now->served; slot < STORE_BLOCK_WORDS; slot++)
+        image[STORE_BLOCK_WORDS + slot] = 0;
+}
+
+/* The points have joined and been served once. */
+static void served(void)
+{
+    fresh();
+    for (uint32_t p = 0; p < now->served; p++) {
+        if (p > 0)
+            must(store_join(image, WORDS, &kept->shared, p, &kept->point) == STORE_DONE);
+        store_put(lent.used.heads, lent.used.tables, lent.used.texts, p, &kept->point);
+        lent.writes[p] = (store_write){APART * p, now->size};
+        memcpy(lent.bytes + now->size * p, text, now->size);
+    }
+    serve(kept);
+    lent.kept = lent.used;
+}
+#endif
+
 /* ---- The cells. A write of 512 bytes at 0 spans one block, one of 1,024 bytes at 256 three. One of 8 bytes at 504 fills 63 words by copying before its
    text comes; at 4 its first two words have bytes of the text and of the old block. */
 
 static const cell cells[] = {
-    {"nothing", fresh, nothing, 0, 0, 1},
-    {"fill, 512 B", begun, fill, 0, 512, 64},
-    {"fill, a word copied", over, fill, 504, 8, 63},
-    {"fill, a word at the text's edge", over, fill, 4, 8, 2},
-    {"fill again, a word copied", moved, fill, 504, 8, 63},
-    {"commit, 512 B", filled, commit, 0, 512, 1},
-    {"catch up, answer Moved", overtaken, move_on, 504, 8, 1},
-    {"link a log block", zeroed, link, 0, 8, 1},
-    {"open, 1,000 log entries", logged, open, 0, 0, 1},
-    {"read 1,024 B", written, read, 0, 1024, 64},
-    {"begin, empty, 1 block", fresh, begin, 0, 512, 1},
-    {"begin, empty, 3 blocks", fresh, begin, 256, 1024, 1},
-    {"begin, checkered, 1 block", checkered, begin, 0, 512, 1},
-    {"begin, checkered, 3 blocks", checkered, begin, 256, 1024, 1},
-    {"begin, nearly full, free at the start, 1 block", free_at_start, begin, 0, 512, 1},
-    {"begin, nearly full, free at the start, 3 blocks", free_at_start, begin, 256, 1024, 1},
-    {"begin, nearly full, free at the end, 1 block", free_at_end, begin, 0, 512, 1},
-    {"begin, nearly full, free at the end, 3 blocks", free_at_end, begin, 256, 1024, 1},
-    {"begin, ordinary, 1 block", ordinary, begin, 0, 512, 1},
-    {"begin, ordinary, 3 blocks", ordinary, begin, 256, 1024, 1},
+    {"nothing", fresh, nothing, 0, 0, 1, 0},
+    {"fill, 512 B", begun, fill, 0, 512, 64, 0},
+    {"fill, a word copied", over, fill, 504, 8, 63, 0},
+    {"fill, a word at the text's edge", over, fill, 4, 8, 2, 0},
+    {"fill again, a word copied", moved, fill, 504, 8, 63, 0},
+    {"commit, 512 B", filled, commit, 0, 512, 1, 0},
+    {"catch up, answer Moved", overtaken, move_on, 504, 8, 1, 0},
+    {"link a log block", zeroed, link, 0, 8, 1, 0},
+    {"open, 1,000 log entries", logged, open, 0, 0, 1, 0},
+    {"read 1,024 B", written, read, 0, 1024, 64, 0},
+    {"begin, empty, 1 block", fresh, begin, 0, 512, 1, 0},
+    {"begin, empty, 3 blocks", fresh, begin, 256, 1024, 1, 0},
+    {"begin, checkered, 1 block", checkered, begin, 0, 512, 1, 0},
+    {"begin, checkered, 3 blocks", checkered, begin, 256, 1024, 1, 0},
+    {"begin, nearly full, free at the start, 1 block", free_at_start, begin, 0, 512, 1, 0},
+    {"begin, nearly full, free at the start, 3 blocks", free_at_start, begin, 256, 1024, 1, 0},
+    {"begin, nearly full, free at the end, 1 block", free_at_end, begin, 0, 512, 1, 0},
+    {"begin, nearly full, free at the end, 3 blocks", free_at_end, begin, 256, 1024, 1, 0},
+    {"begin, ordinary, 1 block", ordinary, begin, 0, 512, 1, 0},
+    {"begin, ordinary, 3 blocks", ordinary, begin, 256, 1024, 1, 0},
+#ifdef SERVING
+    {"serve 1 point, 8 B", served, serve, 0, 8, 60, 1},
+    {"serve 1 point, 512 B", served, serve, 0, 512, 60, 1},
+    {"serve 8 points, 64 B each", served, serve, 0, 64, 6, 8},
+    {"serve 30 points, 64 B each", served, serve, 0, 64, 1, 30},
+#endif
 };
 
 static void put_back(void)
 {
+#ifdef SERVING
+    if (now->served > 0)
+        put_back_lists();
+#endif
     for (size_t c = 0; c < COPIES; c++)
         memory.copies[c] = *kept;
 }
@@ -303,10 +363,11 @@ static const char *set_up(size_t i)
 
 static size_t work(void)
 {
-    for (size_t c = 0; c < COPIES; c++)
+    size_t copies = now->served > 0 ? 1 : COPIES;
+    for (size_t c = 0; c < copies; c++)
         for (size_t round = 0; round < now->rounds; round++)
             now->call(&memory.copies[c]);
-    return now->rounds * COPIES;
+    return now->rounds * copies;
 }
 
 /* Not a jump into the call but a call, so that callgrind sees both. */

@@ -17,6 +17,8 @@ pub mod pmemobj;
 pub mod port;
 pub mod rows;
 pub mod second;
+#[cfg(feature = "library")]
+pub mod serving;
 #[cfg(feature = "sqlite")]
 pub mod sqlite;
 pub mod store;

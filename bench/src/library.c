@@ -155,3 +155,35 @@ uint32_t bench_read(const uint64_t *image, size_t words, const store_shared *sha
     *count = answer.count;
     return answer.refused;
 }
+
+/* What serving is lent beside the image and the shared record, each list at a cache line. */
+typedef struct lists {
+    __attribute__((aligned(64))) store_head heads[STORE_POINTS];
+    __attribute__((aligned(64))) uint16_t tables[STORE_POINTS][STORE_VIRTUAL_BLOCKS];
+    __attribute__((aligned(64))) uint8_t texts[STORE_POINTS][STORE_TEXT_MOST];
+    __attribute__((aligned(64))) store_served answers[STORE_POINTS];
+    __attribute__((aligned(64))) store_write writes[STORE_POINTS];
+} lists;
+
+size_t bench_lists_size(void) { return sizeof(lists); }
+
+/* The first so many points are listed, each with a write of so many bytes at 4,096 times its number. */
+void bench_list(lists *l, const store_point *points, size_t count, size_t length)
+{
+    for (size_t p = 0; p < count; p++) {
+        store_put(l->heads, l->tables, l->texts, p, &points[p]);
+        l->writes[p] = (store_write){4096 * p, length};
+    }
+}
+
+/* Serves the first so many points, whose writes have so many bytes together. 0, or 1 when the call or a write was refused. */
+uint32_t bench_serve(uint64_t *image, size_t words, store_shared *shared, lists *l, size_t count, const uint8_t *text, size_t length)
+{
+    if (store_serve(image, words, shared, l->heads, count, l->tables, count, l->texts, count, l->answers, count, l->writes, count, text,
+                    length) != STORE_DONE)
+        return 1;
+    for (size_t p = 0; p < count; p++)
+        if (l->answers[p].kind != STORE_COMMITTED)
+            return 1;
+    return 0;
+}

@@ -74,15 +74,22 @@ extern "C" {
 /// a cache line wherever an image is put.
 #[repr(C, align(512))]
 #[derive(Clone, Copy)]
-struct Block([u64; 64]);
+pub struct Block([u64; 64]);
+
+impl Block {
+    /// Blocks that hold that many bytes, all touched.
+    pub fn with(bytes: usize) -> Vec<Block> {
+        vec![Block([1; 64]); bytes.div_ceil(512)]
+    }
+}
 
 /// The records are memory of the right size and of eight bytes' alignment.
 pub struct Library {
     image: Vec<Block>,
     words: usize,
     scratch: Vec<u16>,
-    shared: Vec<u64>,
-    points: Vec<u64>,
+    pub shared: Vec<u64>,
+    pub points: Vec<u64>,
     tally: Tally,
     /// How `turns` makes stored words lasting, as `library.c` numbers it.
     how: u32,
@@ -95,7 +102,7 @@ impl Library {
     }
 
     /// The image as it is lent to be written.
-    fn image_to_write(&mut self) -> (*mut u64, usize) {
+    pub fn image_to_write(&mut self) -> (*mut u64, usize) {
         (self.image.as_mut_ptr().cast(), self.words)
     }
 
@@ -113,7 +120,7 @@ fn words_for(bytes: usize) -> Vec<u64> {
     vec![0; bytes.div_ceil(8)]
 }
 
-fn accepted(refusal: u32) {
+pub fn accepted(refusal: u32) {
     assert_eq!(refusal, 0, "a call is refused");
 }
 
@@ -125,7 +132,7 @@ impl Store for Library {
         // SAFETY: both answer a number.
         let (shared, point) = unsafe { (bench_shared_size(), bench_point_size()) };
         let mut store = Library {
-            image: vec![Block([1; 64]); blocks],
+            image: Block::with(512 * blocks),
             words: 64 * blocks,
             scratch: vec![0; 1_024],
             shared: words_for(shared),

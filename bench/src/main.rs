@@ -1,8 +1,9 @@
 //! Measures and prints the page below its head as Markdown:
-//! `bench FOLDER [--short] [--repetitions N] [--parts PARTS]`. The folder lies
-//! in a memory file system. With --short only the README's table. With --parts
-//! the plots and the README's table are put into that folder, from the same
-//! run. Ends with 3 if the run drifted too far.
+//! `bench FOLDER [--short | --serve] [--repetitions N] [--parts PARTS]`. The
+//! folder lies in a memory file system. With --short only the README's table,
+//! with --serve only the section on serving. With --parts the plots and the
+//! README's table are put into that folder, from the same run. Ends with 3 if
+//! the run drifted too far.
 
 use bench::measure::{Run, REPETITIONS};
 use bench::page::{short, Page};
@@ -23,6 +24,11 @@ fn main() -> ExitCode {
     let mut run = Run::default();
     if arguments.iter().any(|argument| argument == "--short") {
         print!("{}", short(&mut run, folder, repetitions));
+        return ExitCode::SUCCESS;
+    }
+    #[cfg(feature = "library")]
+    if arguments.iter().any(|argument| argument == "--serve") {
+        print!("{}", bench::page::served(&mut run, folder, repetitions));
         return ExitCode::SUCCESS;
     }
     let page = Page::plan(&mut run, folder);

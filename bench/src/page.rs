@@ -6,6 +6,8 @@ use crate::growth::{Image, Log, Points};
 use crate::measure::*;
 use crate::rows::*;
 use crate::second::Second;
+#[cfg(feature = "library")]
+use crate::serving::{self, Serving};
 use crate::store::Store;
 use crate::table::{self, time};
 #[cfg(feature = "library")]
@@ -165,14 +167,15 @@ fn reference_line(run: &Run, place: Place) -> String {
     format!("Reference, write {SIZE} B: {}.\n\n", time(run.time(place)))
 }
 
-/// All that the page shows, in the order in which cells take turns. A section's
-/// reference stands with it.
+/// All that the page shows. A section's reference stands with it.
 pub struct Page {
     columns: Vec<Shared>,
     references: References,
     writes: (Writes, Place),
     #[cfg(feature = "library")]
     written_back: (WrittenBack, Place),
+    #[cfg(feature = "library")]
+    serving: (Serving, Place),
     steps: (Row, Place),
     beginnings: (Vec<Row>, Place),
     opened: (Opened, Place),
@@ -192,6 +195,8 @@ impl Page {
         let own = writes.place(0, 1, SIZE).expect("the row of the reference");
         references.0.push(own);
         #[cfg(feature = "library")]
+        let serving = (Serving::plan(run, |_, points, size| writes.row(points, size).unwrap().clone()), references.again(run, &all));
+        #[cfg(feature = "library")]
         let written_back = (WrittenBack::plan(run, &writes), references.again(run, &all));
         let steps = (steps(run), references.again(run, &all));
         let beginnings = (beginnings(run), references.again(run, &all));
@@ -207,6 +212,8 @@ impl Page {
             writes: (writes, own),
             #[cfg(feature = "library")]
             written_back,
+            #[cfg(feature = "library")]
+            serving,
             steps,
             beginnings,
             opened,
@@ -225,6 +232,7 @@ impl Page {
         #[cfg(feature = "library")]
         {
             text += &(self.written_back.0.text(run) + &reference(self.written_back.1));
+            text += &(self.serving.0.text(run, &self.columns) + &reference(self.serving.1));
         }
         text += &(steps_text(run, &self.steps.0) + &reference(self.steps.1));
         text += &(beginning::text(run, &self.beginnings.0) + &reference(self.beginnings.1));
@@ -250,7 +258,17 @@ impl Page {
     pub fn table(&self, run: &Run) -> String {
         let row = |writers, size| self.writes.0.row(writers, size).unwrap();
         let opened = &self.opened.0.rows.iter().find(|row| row.0 == 1_000).unwrap().1;
-        short_table(run, &self.columns, [row(1, 64), row(1, 1_024), row(32, 64), opened, &self.read.0[0], &self.read.0[1]])
+        let rows = vec![
+            row(1, 64),
+            row(1, 1_024),
+            row(32, 64),
+            #[cfg(feature = "library")]
+            self.serving.0.row(32, 64).unwrap(),
+            opened,
+            &self.read.0[0],
+            &self.read.0[1],
+        ];
+        short_table(run, &self.columns, &rows)
     }
 
     /// What is to be said if the run drifted too far.
@@ -297,30 +315,38 @@ fn words_text(columns: &Columns) -> String {
 
 /// A table of those rows and the promises, without the columns that are left
 /// out.
-fn short_table(run: &Run, columns: &Columns, rows: [&Row; 6]) -> String {
+fn short_table(run: &Run, columns: &Columns, rows: &[&Row]) -> String {
     let kept: Vec<bool> = std::iter::once(true).chain(columns.iter().map(is_kept)).collect();
     let thin = |cells: Vec<String>| cells.into_iter().zip(&kept).filter(|(_, kept)| **kept).map(|(cell, _)| cell).collect::<Vec<_>>();
-    let rows: Vec<_> = rows.into_iter().map(|row| row.cells(run)).chain([promises(columns)]).map(thin).collect();
+    let rows: Vec<_> = rows.iter().map(|row| row.cells(run)).chain([promises(columns)]).map(thin).collect();
     table::text(&thin(head("", columns)), &rows).trim_end().to_string() + "\n"
+}
+
+/// The columns of the README's table.
+fn kept_columns(folder: &Path) -> Vec<Shared> {
+    let mut set = columns(folder);
+    set.retain(is_kept);
+    set
 }
 
 /// The README's table alone, measured with only its own columns.
 pub fn short(run: &mut Run, folder: &Path, repetitions: usize) -> String {
-    let set = |name: &str| {
-        let mut set = columns(&folder.join(name));
-        set.retain(is_kept);
-        set
-    };
+    let set = |name: &str| kept_columns(&folder.join(name));
     let all = set("write");
     let of_read = set("read");
-    let rows = [
-        writes(run, &all, 1, 64),
-        writes(run, &all, 1, 1_024),
-        writes(run, &all, 32, 64),
-        openings(run, &set("open"), 1_000),
-        reads(run, &of_read),
-        reads_in_steps(run, &of_read),
-    ];
+    let mut rows = vec![writes(run, &all, 1, 64), writes(run, &all, 1, 1_024), writes(run, &all, 32, 64)];
+    #[cfg(feature = "library")]
+    rows.push(serving::row(run, &rows[2], 32, 64));
+    rows.extend([openings(run, &set("open"), 1_000), reads(run, &of_read), reads_in_steps(run, &of_read)]);
     run.measure(repetitions);
-    short_table(run, &all, rows.each_ref())
+    short_table(run, &all, &rows.iter().collect::<Vec<_>>())
+}
+
+/// The section on serving alone, with the columns of the README's table.
+#[cfg(feature = "library")]
+pub fn served(run: &mut Run, folder: &Path, repetitions: usize) -> String {
+    let all = kept_columns(&folder.join("write"));
+    let serving = Serving::plan(run, |run, points, size| writes(run, &all, points, size));
+    run.measure(repetitions);
+    serving.text(run, &all)
 }

@@ -24,6 +24,7 @@ pub type Columns = [Shared];
 
 /// A row: what it measures, and a cell a column, first the one that ratios are
 /// taken against.
+#[derive(Clone)]
 pub struct Row {
     pub label: String,
     pub places: Vec<Place>,

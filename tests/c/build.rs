@@ -20,8 +20,11 @@ fn main() {
     println!("cargo::rustc-link-search=native={folder}");
     println!("cargo::rustc-link-search=native={}", library.canonicalize().unwrap().display());
     println!("cargo::rustc-link-lib=static=shim");
-    println!("cargo::rustc-link-lib=static=c_api");
-    for file in ["build.rs", "src/shim.c", "../../include/store.h", "../../target/staticlib/libc_api.a"] {
+    for name in ["c_api", "c_serve"] {
+        println!("cargo::rustc-link-lib=static={name}");
+        println!("cargo::rerun-if-changed={}/lib{name}.a", library.display());
+    }
+    for file in ["build.rs", "src/shim.c", "../../include/store.h"] {
         println!("cargo::rerun-if-changed={file}");
     }
 }

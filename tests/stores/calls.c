@@ -174,6 +174,14 @@ static int is_row(size_t n)
     return 1;
 }
 
+/* What a list that was served comes to, by its row. */
+static uint32_t served_as(size_t n)
+{
+    if (n == 1)
+        return last_row.zeroing > 0 ? ALONE_ZEROED : ALONE;
+    return last_row.both ? BOTH : last_row.zeroing > 1 ? ALL_ZEROED : last_row.filling > 1 ? ALL_FILLED : 0;
+}
+
 uint32_t serve(size_t first, size_t n, const store_write *writes, size_t given, size_t size)
 {
     size_t kept = n < STORE_POINTS ? n : STORE_POINTS;
@@ -194,7 +202,7 @@ uint32_t serve(size_t first, size_t n, const store_write *writes, size_t given, 
     for (size_t i = 0; i < last_row.count; i++)
         mark(WORD_MARK(last_row.stores[i].word % AREA_WORDS));
     int same = refused == expected && is_row(kept) && (refused || memcmp(answers, last_row.answers, n * sizeof *answers) == 0);
-    mark(ANSWER_MARK(SERVE, same ? refused : ODD));
+    mark(ANSWER_MARK(SERVE, !same ? ODD : refused ? refused : served_as(n)));
     if (watching)
         watching(0);
     for (size_t i = 0; i < kept; i++)

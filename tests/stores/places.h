@@ -28,7 +28,8 @@
 
 enum call { LAY_OUT, OPEN, LIST, JOIN, BEGIN, BEGIN_READ, STEP, SERVE, LEAVE, READ, LOCATE, VIEW, CALLS };
 
-/* What a call answers: its refusal, 1 to 27; 0 for none; for a step that is not refused one of these. ODD is what no call may answer. */
+/* What a call answers: its refusal, 1 to 27; 0 for none; for a step that is not refused, and for serving by what its row has done, one of these. ODD is
+   what no call may answer. */
 enum answer {
     FILLED = 32,
     REFILLED,
@@ -41,6 +42,11 @@ enum answer {
     COPIED,
     READ_MOVED,
     READ_ENDED,
+    ALONE,        /* a list of one point */
+    ALONE_ZEROED, /* that zeroed a log block */
+    ALL_FILLED,   /* several points filled runs of several blocks in one round */
+    ALL_ZEROED,   /* several zeroed log blocks in one round */
+    BOTH,         /* one filled such a run and another zeroed */
     ODD = ANSWERS - 1
 };
 

@@ -1,7 +1,8 @@
 /* Lists of points that are served by one call. */
 #include "runs.h"
 
-enum { LISTS = 3 }; /* of a hostile run */
+enum { LISTS = 3 };    /* of a hostile run */
+enum { APART = 4096 }; /* bytes from one point's place to the next */
 
 uint32_t serve_all(size_t n, size_t offset, size_t apart, size_t size)
 {
@@ -65,6 +66,39 @@ static void honest_lists(size_t all)
     serve_all(all, 0, 512, 8);
 }
 
+/* Each of n points writes to a place of its own, its bytes 37 further on than those of the one before, and 300 more, up to 1,024: runs of one to three blocks,
+   which end in different rounds. */
+static void serve_mixed(size_t n)
+{
+    store_write writes[LISTED_MOST];
+    size_t size = 0;
+    for (size_t i = 0; i < n; i++) {
+        writes[i].offset = APART * i + 37 * i;
+        writes[i].size = 1 + (723 + 300 * i) % STORE_TEXT_MOST;
+        size += writes[i].size;
+    }
+    serve(0, n, writes, n, size);
+}
+
+/* Nobody meets another: n points fill two blocks each, three with old bytes at both edges, one of which most is copied; then runs of all lengths. Where the log
+   is full all zero a log block; where it has a place left, one zeroes while others fill. */
+static void lists_apart(size_t n, size_t shift)
+{
+    size_t blocks = 16 + 7 * n;
+    lend_empty(blocks, shift);
+    start(n, 0);
+    serve_all(n, 0, APART, 1024);
+    serve_all(n, 250, APART, 1024);
+    serve_all(n, 3, APART, 8);
+    serve_mixed(n);
+    lend_chain(blocks, shift, 1, 62);
+    start(n, 0);
+    serve_all(n, 100, APART, 600);
+    lend_chain(blocks, shift, 1, 61);
+    start(n, 0);
+    serve_mixed(n);
+}
+
 /* Some words, fields and arguments become anything, then a list is served. */
 static void hostile_list(void)
 {
@@ -98,6 +132,10 @@ void run_served(size_t runs, size_t all)
 {
     refused_lists();
     honest_lists(all);
+    for (size_t shift = 0; shift < SHIFTS; shift++)
+        lists_apart(1, shift);
+    lists_apart(3, 1);
+    lists_apart(all, 2);
     for (size_t i = 0; i < runs / 2; i++) {
         size_t blocks = 6 + below(14);
         if (below(2))

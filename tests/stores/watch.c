@@ -28,7 +28,7 @@ static const struct {
     [BEGIN_READ] = {"begin_read", {8, 0, 10, 11, 14, 15, 16, 17, 18}},
     [STEP] = {"step", {18, FILLED, REFILLED, ZEROED, LINKED, CAUGHT_UP, LOST_LINK, EXTENDING, COMMITTED, COPIED, READ_MOVED, READ_ENDED,
                        10, 11, 14, 15, 18, 20, 21}},
-    [SERVE] = {"serve", {3, 0, 26, 27}},
+    [SERVE] = {"serve", {8, 0, ALONE, ALONE_ZEROED, ALL_FILLED, ALL_ZEROED, BOTH, 26, 27}},
     [LEAVE] = {"leave", {4, 0, 10, 11, 14}},
     [READ] = {"read", {5, 0, 10, 11, 14, 18}},
     [LOCATE] = {"locate", {7, 0, 10, 11, 14, 17, 18, 22}},
@@ -88,9 +88,10 @@ static long in_row, first_other;
 static const char *answer_name(unsigned answer)
 {
     static const char *const names[] = {"fill",      "refill",    "zero",   "link",       "caught up", "lost link",
-                                        "extending", "committed", "copied", "read moved", "read ended"};
+                                        "extending", "committed", "copied", "read moved", "read ended", "alone",
+                                        "alone, zeroing", "all fill", "all zero", "fill and zero"};
     static char refusal[8];
-    if (answer >= FILLED && answer <= READ_ENDED)
+    if (answer >= FILLED && answer <= BOTH)
         return names[answer - FILLED];
     snprintf(refusal, sizeof refusal, "%u", answer);
     return answer == 0 ? "done" : answer == ODD ? "odd" : refusal;

@@ -2,12 +2,14 @@
 //! `count IMPLEMENTATION CALL TIMES`. Only what runs inside `measured_call`
 //! counts; everything else is put back outside of it. With the feature
 //! `bytes` it prints the calls and bytes of memcpy, memmove and memset inside.
-//! `count beginnings` prints the calls that are beginnings on different maps.
+//! A call that serves is named as in the section on serving. `count beginnings` prints the calls that are beginnings on different maps.
 
 use bench::beginning::{Again, Beginning};
 use bench::column::text_of;
 use bench::rows::Port;
 use bench::second::Second;
+#[cfg(feature = "library")]
+use bench::serving::Served;
 use bench::store::{Map, Store};
 
 /// The call, looked up by its name before the counting.
@@ -19,6 +21,7 @@ enum Call {
     Open,
     Read,
     ReadInSteps,
+    Serve,
 }
 
 impl Call {
@@ -31,6 +34,7 @@ impl Call {
             "open" => Call::Open,
             "read" => Call::Read,
             "read in steps" => Call::ReadInSteps,
+            _ if name.starts_with("serve ") => Call::Serve,
             _ => panic!("no such call"),
         }
     }
@@ -108,7 +112,34 @@ impl<S: Store> Calls for Kept<S> {
             Call::Open => assert_eq!(self.store.open(), 1_000),
             Call::Read => assert_eq!(self.store.read(0, 0, &mut self.buffer), 1_024),
             Call::ReadInSteps => self.store.read_in_steps(0, 0, &mut self.buffer),
+            Call::Serve => panic!("a call of lists"),
         }
+    }
+}
+
+/// Points that are served, and what they are put back to.
+#[cfg(feature = "library")]
+struct Lists {
+    served: Served,
+    kept: Served,
+}
+
+#[cfg(feature = "library")]
+impl Lists {
+    fn named(name: &str) -> Lists {
+        let (points, size) = bench::serving::named(name).expect("points and bytes of a row");
+        Lists { served: Served::once(points, size), kept: Served::once(points, size) }
+    }
+}
+
+#[cfg(feature = "library")]
+impl Calls for Lists {
+    fn prepare(&mut self) {
+        self.served.restore(&self.kept);
+    }
+
+    fn call(&mut self, _call: Call) {
+        self.served.serve();
     }
 }
 
@@ -211,6 +242,8 @@ fn main() {
     let beginning = Beginning::named(call);
     let call = if beginning.is_some() { "begin" } else { call };
     let mut calls: Box<dyn Calls> = match implementation.as_str() {
+        #[cfg(feature = "library")]
+        "library" if Call::named(call) == Call::Serve => Box::new(Lists::named(call)),
         #[cfg(feature = "library")]
         "library" => calls_of::<bench::library::Library>(beginning.as_ref(), call),
         "second" => calls_of::<Second>(beginning.as_ref(), call),

@@ -6,8 +6,6 @@ ghost use Rattle.log.specs.Opening.{layoutRefusal, layout};
 ghost use Rattle.log.specs.Listing.{rowsOf};
 ghost use Rattle.c_lent.specs.Calls.{OpensFor, left, stepLeft, sharedLeft, readLeft};
 ghost use Rattle.c_lent.specs.Calls.{sharedFor, joinFor, beginFor, beginReadFor, stepFor, leaveFor, readFor, locateFor};
-ghost use Rattle.c_lent.specs.Numbers.{sharedLent};
-ghost use Rattle.c_lent.specs.Serving.{commonLent, serveLeft, serveFor};
 ghost use Rattle.c_api.specs.Records.{version, sharedParts, pointParts, textlessParts};
 use c_lent::Answer;
 use c_lent::Count;
@@ -204,35 +202,4 @@ pub extern "C" fn store_open(
         × (sharedParts (now (shared .exit)) ≡ sharedFor (now (image .entry)) (now (scratch .entry))) ⌝ }
 {
     c_lent::open(image, scratch, &mut shared.numbers, &mut shared.taken)
-}
-
-// Both parts of the shared record are lent by themselves, as the header hands them on: so the borrow checker covers it.
-#[no_mangle]
-pub extern "C" fn store_serve_parts(
-    image: &mut [u64],
-    shared: &mut [u32; 35],
-    taken: &mut [u64; 16],
-    heads: &mut [[u32; 11]],
-    tables: &mut [[u16; 256]],
-    texts: &mut [[u8; 1024]],
-    answers: &mut [[u32; 2]],
-    writes: &[[usize; 2]],
-    bytes: &[u8],
-) -> u32
-    ensures { λ r. ⌜ serveLeft r (commonLent (now (image .exit)) (sharedLent (shared .exit) (taken .exit)))
-        (now (heads .exit)) (now (tables .exit)) (now (texts .exit)) (now (answers .exit))
-        ≡ serveFor (commonLent (now (image .entry)) (sharedLent (shared .entry) (taken .entry)))
-        (now (heads .entry)) (now (tables .entry)) (now (texts .entry)) (now (answers .entry)) (now (writes .entry)) (now (bytes .entry)) ⌝ }
-{
-    c_lent::serve::serve(
-        image,
-        shared,
-        taken,
-        heads,
-        tables,
-        texts,
-        answers,
-        writes,
-        bytes,
-    )
 }
