@@ -2,13 +2,13 @@
 use mathlib.Core.Path.{_≡_, refl, sym, ap, _∙_, subst}
 use mathlib.Core.Logic.{_≢_}
 use mathlib.Core.Bool.{Bool, true, false}
-use mathlib.Core.List.{List, []}
-use Prim.Native.Nat.{ℕ, zero, suc, _+_, _≤_, _<_}
+use mathlib.Core.List.{List}
+use Prim.Native.Nat.{ℕ, zero, suc, _+_, _<_}
 use native.Mathlib.Omega.{arith}
 use native.Mathlib.Decide.{decLt}
 use lib.ListN.{length, getD, set}
 use Rattle.words.specs.Edition.{one}
-use Rattle.words.proofs.Choice.{choose-true, choose-false, chosen-suc}
+use Rattle.words.proofs.Choice.{choose-true, choose-false}
 use Rattle.words.proofs.Tests.{no-true}
 use Rattle.log.specs.Opening.{numberOf}
 use Rattle.log.proofs.Replies.{number-back}
@@ -17,7 +17,6 @@ use Rattle.points.specs.Record.{badShared}
 use Rattle.points.specs.Calls.{beginning, beginRefusal}
 use Rattle.points.specs.Serving.{Turned}
 use Rattle.points.proofs.Replies.{begin-replies}
-use Rattle.points.proofs.Ready.{Ready}
 use Rattle.points.proofs.ReadyOn.{begin-ready, begin-others}
 use Rattle.c_lent.specs.Numbers.{headFrom, isKnown, sharedFrom, SharedLent, PointLent, sharedIn, pointIn, lendShared, lendPoint}
 use Rattle.c_lent.specs.Calls.{PointLeft, unknown, ifKnown}

@@ -1,11 +1,8 @@
 -- A loop in which each of a list has its turn, in place: those before i have had theirs, the others are as they were.
 use mathlib.Core.Path.{_≡_, refl, sym, ap, _∙_}
-use mathlib.Core.Logic.{_≢_}
 use mathlib.Core.List.{List, [], _∷_, _++_}
-use Prim.Native.Nat.{ℕ, zero, suc, _+_, _-_, _≤_, _<_}
+use Prim.Native.Nat.{ℕ, suc, _+_, _-_, _≤_, _<_}
 use native.Mathlib.Omega.{arith}
-use lib.ListN.{length, getD, set}
-use lib.Seq.{getD-set-same, getD-set-other}
 use Rattle.words.specs.Logic.{listFrom}
 use Rattle.points.specs.Serving.{Turned, inTurn}
 use Rattle.c_lent.proofs.Places.{same-list, one-last, one-less}

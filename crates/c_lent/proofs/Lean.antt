@@ -1,10 +1,10 @@
 -- Steps of points that are known to fit, made without a plan: moving on by one entry, committing by the head. Assumes nothing.
 use mathlib.Core.Path.{_≡_, refl, sym, ap, _∙_, subst}
-use mathlib.Core.Bool.{Bool, true, false}
+use mathlib.Core.Bool.{true, false}
 use mathlib.Core.List.{List, [], _∷_}
 use mathlib.Core.Option.{some}
-use Prim.Native.Nat.{ℕ, _≤_}
-use lib.ListN.{length, getD}
+use Prim.Native.Nat.{ℕ}
+use lib.ListN.{getD}
 use Rattle.words.specs.Edition.{one}
 use Rattle.words.specs.Memory.{after}
 use Rattle.words.proofs.Tests.{no-true}
@@ -13,8 +13,8 @@ use Rattle.points.specs.declared.Point.{Point}
 use Rattle.points.specs.declared.serve.MovedByOne.{MovedByOne}
 use Rattle.points.specs.declared.serve.CommittedByHead.{CommittedByHead}
 use Rattle.points.specs.Record.{pointOf}
-use Rattle.points.specs.Plan.{Outcome, reported}
-use Rattle.points.specs.Search.{withTaken, reportingPlace}
+use Rattle.points.specs.Plan.{Outcome}
+use Rattle.points.specs.Search.{reportingPlace}
 use Rattle.points.specs.Stepping.{stepRefusal, stepping}
 use Rattle.points.specs.Serving.{Turned}
 use Rattle.points.specs.Batch.{passedBy, MovesByOne, entryStore, committedBy, CommitsByHead}

@@ -1,7 +1,7 @@
 -- A list of one point that fills its run: m rounds are its next m words, and nothing else. Assumes nothing.
 use mathlib.Core.Path.{_≡_, refl, sym, ap, _∙_, subst}
-use mathlib.Core.Logic.{_⊎_, inl, inr}
-use mathlib.Core.Bool.{Bool, true, false}
+use mathlib.Core.Logic.{inl, inr}
+use mathlib.Core.Bool.{true}
 use mathlib.Core.List.{List, [], _∷_}
 use Prim.Native.Nat.{ℕ, zero, suc, _+_, _≤_, _<_}
 use native.Mathlib.Omega.{arith}
@@ -13,14 +13,14 @@ use Rattle.points.specs.declared.Head.{Head}
 use Rattle.points.specs.declared.Point.{Point}
 use Rattle.points.specs.Record.{phaseNumber, phaseOf, runWords, withHead, writing}
 use Rattle.points.specs.Stepping.{filled}
-use Rattle.points.specs.Serving.{Turned, inTurn, rounds}
+use Rattle.points.specs.Serving.{inTurn, rounds}
 use Rattle.points.specs.Batch.{filledAt, filledOn, movedOn, InOneBlock}
 use Rattle.points.proofs.Ready.{Ready, ready-text}
 use Rattle.points.specs.Lent.{TextFits}
 use Rattle.points.proofs.Rows.{filled-same}
 use Rattle.points.proofs.Turns.{fill-turn, fill-ready}
 use Rattle.c_lent.specs.Numbers.{headNumbers, headFrom, isKnown, SharedLent, PointLent, sharedIn, lendPoint}
-use Rattle.c_lent.specs.Serving.{CommonLent, ListedLent, commonLent, listedLent, listed, listedAt, pointAs, turnLeft, kindGoesOn, stepTurnFor}
+use Rattle.c_lent.specs.Serving.{ListedLent, commonLent, listedLent, listed, listedAt, pointAs, turnLeft, kindGoesOn, stepTurnFor}
 use Rattle.c_lent.specs.Batch.{ReadyAt, AllReady, Lengths, Fills, PlainAt, FillsAlone}
 use Rattle.c_lent.proofs.Heads.{phase-back, head-back}
 use Rattle.c_lent.proofs.Known.{Few}

@@ -3,15 +3,14 @@ use mathlib.Core.Path.{_≡_, refl, sym, ap, _∙_, subst}
 use mathlib.Core.Logic.{_≢_}
 use mathlib.Core.Bool.{Bool, true, false}
 use mathlib.Core.List.{List, [], _∷_}
-use Prim.Native.Nat.{ℕ, zero, suc, _≤_, _<_}
+use Prim.Native.Nat.{ℕ, _<_}
 use native.Mathlib.Omega.{arith}
 use native.Mathlib.Decide.{ℕ-discrete}
-use lib.ListN.{length, getD}
+use lib.ListN.{getD}
 use Rattle.words.specs.Edition.{one}
 use Rattle.words.specs.Memory.{after}
 use Rattle.words.proofs.Choice.{choose-true}
 use Rattle.words.proofs.Tests.{no-true}
-use Rattle.log.specs.declared.Shared.{Shared}
 use Rattle.points.specs.declared.Point.{Point}
 use Rattle.points.specs.declared.StepAnswer.{StepAnswer}
 use Rattle.points.specs.declared.StepAnswer.the-variants.{Stored, Moved, Extending, Committed, Refused, Copied, Bytes}
@@ -20,10 +19,10 @@ use Rattle.points.specs.Stepping.{stepping, stepKind, stepValue}
 use Rattle.points.specs.Serving.{Turned, stepGoesOn}
 use Rattle.points.proofs.Ready.{Ready}
 use Rattle.points.proofs.ReadyOn.{step-ready, step-others}
-use Rattle.c_lent.specs.Numbers.{headNumbers, headFrom, isKnown, SharedLent, PointLent, sharedIn, pointIn, lendShared, lendPoint, answerNumbers}
-use Rattle.c_lent.specs.Calls.{StepLeft, stepLeft, stepFor, ifKnown}
+use Rattle.c_lent.specs.Numbers.{isKnown, sharedIn, pointIn, lendShared, lendPoint}
+use Rattle.c_lent.specs.Calls.{StepLeft, stepFor, ifKnown}
 use Rattle.c_lent.specs.Serving.{CommonLent, ListedLent, commonLent, listedLent, turnLeft, kindGoesOn, stepTurnFor}
-use Rattle.c_lent.specs.Batch.{ReadyAt, Going, AllReady}
+use Rattle.c_lent.specs.Batch.{ReadyAt, AllReady}
 use Rattle.c_lent.proofs.Heads.{head-back}
 use Rattle.c_lent.proofs.Known.{few-known, step-few}
 use Rattle.c_lent.proofs.Turns.{turn-on, turn-off}

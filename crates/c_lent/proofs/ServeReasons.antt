@@ -1,17 +1,17 @@
 -- 26 and 27: each way out of the tests, and what they leave known.
-use mathlib.Core.Path.{_≡_, refl, sym, ap, _∙_}
+use mathlib.Core.Path.{_≡_, refl, sym}
 use mathlib.Core.Bool.{Bool, true, false, _&&_, not}
 use mathlib.Core.List.{List, [], _∷_}
-use Prim.Native.Nat.{ℕ, zero, suc, _+_, _≤_, _<_}
+use Prim.Native.Nat.{ℕ, zero, suc, _≤_, _<_}
 use native.Mathlib.Omega.{arith}
 use lib.ListN.{length, getD}
-use lib.Dec.{leb, eqb}
+use lib.Dec.{eqb}
 use borrow.Author.Tests.{leb-true, eqb-true, le-leb, lt-leb, eq-eqb, ne-eqb, not-false}
-use Rattle.words.specs.Logic.{listFrom, every, first, _when_}
-use Rattle.words.proofs.Logic.{every-all, all-every}
+use Rattle.words.specs.Logic.{listFrom, every, _when_}
+use Rattle.words.proofs.Logic.{every-all}
 use Rattle.words.proofs.Tests.{passes}
 use Rattle.points.specs.Serving.{twice}
-use Rattle.c_lent.specs.Serving.{numberAt, startAt, oneForEach, serveReason, Lent}
+use Rattle.c_lent.specs.Serving.{numberAt, startAt, oneForEach, serveReason}
 
 -- one test that fails is enough
 every-false : (ts : List Bool) (k : ℕ) → getD ts k true ≡ false → every ts ≡ false

@@ -8,7 +8,7 @@ use Rattle.words.specs.Logic.{listFrom}
 use Rattle.points.specs.Serving.{Turned, inTurn, rounds, row, serveRounds}
 use Rattle.c_lent.specs.Batch.{Lengths}
 use Rattle.c_lent.specs.Serving.{CommonLent, ListedLent, turnLeft, listed, listedAt, asking, beginTurnFor, stepTurnFor}
-use Rattle.c_lent.specs.Serving.{serveReason, ServeLeft, serveLeft, listsOf, serveFor}
+use Rattle.c_lent.specs.Serving.{serveReason, serveLeft, listsOf, serveFor}
 use Rattle.c_lent.proofs.Places.{whole-list, map-list}
 
 -- the lists of the points that these lists have

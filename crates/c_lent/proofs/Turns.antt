@@ -5,7 +5,7 @@ use mathlib.Core.List.{List, [], _∷_}
 use mathlib.Core.Logic.{_≢_}
 use Prim.Native.Nat.{ℕ, zero, suc, _+_, _-_, _≤_, _<_}
 use native.Mathlib.Omega.{arith}
-use lib.ListN.{length, getD, set, take, drop, length-set}
+use lib.ListN.{getD, set, take, drop, length-set}
 use native.Mathlib.Decide.{decLt}
 use lib.Dec.{eqb}
 use borrow.Author.Tests.{eq-eqb, ne-eqb}
@@ -16,9 +16,8 @@ use Rattle.words.specs.Logic.{listFrom, some-of}
 use Rattle.points.specs.Serving.{Turned, inTurn, rounds}
 use Rattle.c_lent.specs.Batch.{Lengths}
 use Rattle.c_lent.proofs.InTurn.{Reached, reached-next}
-use Rattle.c_lent.specs.declared.Answer.{Answer}
 use Rattle.c_lent.specs.Numbers.{SharedLent, PointLent, isKnown}
-use Rattle.c_lent.specs.Calls.{PointLeft, StepLeft, stepLeft, beginFor, stepFor, ifKnown}
+use Rattle.c_lent.specs.Calls.{PointLeft, StepLeft, beginFor, stepFor, ifKnown}
 use Rattle.c_lent.specs.Serving.{CommonLent, ListedLent, commonLent, listedLent, turnLeft, kindGoesOn, stepTurnFor, pointAs, listedAt}
 use Rattle.c_lent.specs.Serving.{askingLent, begunAnswer, beginTurnFor, offsetAt, sizeAt, startAt, askingAt}
 

@@ -1,9 +1,9 @@
 -- How many words all points have left to store one by one, and their rows.
-use mathlib.Core.Path.{_≡_, refl, sym, ap, _∙_, subst}
-use mathlib.Core.Logic.{_≢_, _⊎_, inl, inr}
-use mathlib.Core.Bool.{true, false}
+use mathlib.Core.Path.{_≡_, sym, _∙_, subst}
+use mathlib.Core.Logic.{inl, inr}
+use mathlib.Core.Bool.{true}
 use mathlib.Core.List.{List, [], _∷_}
-use Prim.Native.Nat.{ℕ, suc, _+_, _*_, _-_, _/_, _%_, _≤_, _<_}
+use Prim.Native.Nat.{ℕ, _+_, _*_, _-_, _/_, _%_, _≤_, _<_}
 use native.Mathlib.Omega.{arith}
 use native.Mathlib.Decide.{ℕ-discrete}
 use lib.ListN.{length, getD, set}
@@ -11,14 +11,14 @@ use lib.Seq.{getD-set-same, getD-set-other}
 use Rattle.words.specs.Edition.{one}
 use Rattle.points.specs.declared.Head.{Head}
 use Rattle.points.specs.declared.serve.Row.{Row}
-use Rattle.points.specs.Record.{span, runWords}
+use Rattle.points.specs.Record.{span}
 use Rattle.points.specs.Lent.{TextFits}
 use Rattle.points.specs.Batch.{rowOf, Fillable}
 use Rattle.points.proofs.Ready.{ready-text}
 use Rattle.points.proofs.Rows.{row-same}
 use Rattle.c_lent.specs.Numbers.{PointLent, headFrom, isKnown}
 use Rattle.c_lent.specs.Serving.{CommonLent, ListedLent, listedAt, kindGoesOn}
-use Rattle.c_lent.specs.Batch.{ReadyAt, AllReady, Fills, Zeroes, PlainAt, Plain, rowFrom, RowAt, RowFor, NextWords, Lengths, Rows}
+use Rattle.c_lent.specs.Batch.{ReadyAt, AllReady, PlainAt, Plain, RowAt, RowFor, Lengths, Rows}
 use Rattle.c_lent.proofs.ReadyAt.{is-ready, is-known}
 
 -- ---- words

@@ -160,6 +160,9 @@ fn plain_words(heads: &[[u32; 11]], answers: &[[u32; 2]]) -> u32
     let mut least: u32 = 64;
     for i in 0..heads.len() {
         least = least_left(least, answers[i][0], &heads[i]);
+        if least == 0 {
+            return 0;
+        }
     }
     least
 }

@@ -1,4 +1,4 @@
-use Prim.Native.Nat.{ℕ, _≤_}
+use Prim.Native.Nat.{_≤_}
 use native.Mathlib.Omega.{arith}
 use lib.ListN.{length}
 use Rattle.c_lent.specs.Numbers.{sharedLent}
@@ -7,16 +7,10 @@ use Rattle.c_lent.proofs.WordsLeft.{all-known, rows-made}
 use borrow.Author.Needs.{needs}
 use Rattle.c_lent.proofs.batch.by_rows.Statement.{statement}
 use Rattle.c_lent.proofs.batch.by_rows.Tie as tie
-use Rattle.c_lent.proofs.batch.by_rows.Reads as reads
-use Rattle.c_lent.proofs.batch.by_rows.Lts as lts
-use Rattle.c_lent.proofs.batch.plain_rounds.Reads as plain-rounds-reads
-use Rattle.c_lent.proofs.batch.rows_for.Reads as rows-for-reads
 
--- src/serve.rt:336:38
 slice-aggregate-rows-for : tie.Need-slice-aggregate-rows-for
 slice-aggregate-rows-for c = search needs
 
--- src/serve.rt:336:5
 rows-for-requires : tie.Need-rows-for-requires
 rows-for-requires c κs =
     let s = c .before .before .before .before in
@@ -24,11 +18,9 @@ rows-for-requires c κs =
     let p = s .pre in
     (p .0 .1, p .0 .3, p .1, all-known (commonLent (a .image .now) (sharedLent (a .shared) (a .taken))) (a .heads .now) (a .tables .now) (a .texts .now) (a .answers .now) (p .0) (p .2))
 
--- src/serve.rt:337:40
 slice-aggregate-plain-rounds : tie.Need-slice-aggregate-plain-rounds
 slice-aggregate-plain-rounds c = search needs
 
--- src/serve.rt:337:5
 plain-rounds-requires : tie.Need-plain-rounds-requires
 plain-rounds-requires c κs =
     let s = c .before .before .before .before .before .before .before .before .before .before in
@@ -39,19 +31,15 @@ plain-rounds-requires c κs =
     rows-made (commonLent (a .image .now) (sharedLent (a .shared) (a .taken))) (a .heads .now) (a .tables .now) (a .texts .now) (a .answers .now) (p .0) (p .2)
     (a .m) (r .last .1 .1 .1 .0) enough (p .3) (r .ensures)
 
--- src/serve.rt:316:1
 same-length : tie.Need-same-length
 same-length c = search needs
 
--- src/serve.rt:316:1
 same-length-2 : tie.Need-same-length-2
 same-length-2 c = search needs
 
--- src/serve.rt:316:1
 same-length-3 : tie.Need-same-length-3
 same-length-3 c = search needs
 
--- src/serve.rt:316:1
 returns : tie.Need-returns
 returns c = search needs
 

@@ -1,43 +1,32 @@
-use mathlib.Core.Path.{refl, subst}
+use mathlib.Core.Path.{refl}
 use native.Mathlib.Omega.{arith}
 use borrow.Author.Needs.{needs}
 use Rattle.points.proofs.Rows.{few-words}
 use Rattle.c_lent.specs.Numbers.{headFrom}
 use Rattle.c_lent.proofs.batch.fill_alone.Statement.{statement}
 use Rattle.c_lent.proofs.batch.fill_alone.Tie as tie
-use Rattle.c_lent.proofs.batch.fill_alone.Reads as reads
-use Rattle.c_lent.proofs.batch.fill_alone.Lts as lts
-use Rattle.c_lent.proofs.numbers.head.Reads as head-reads
-use Rattle.points.proofs.serve.fill_words.Reads as fill-words-reads
 
--- src/serve.rt:466:13
 element-copy-out-k : tie.Need-element-copy-out-k
 element-copy-out-k c = search needs
 
--- src/serve.rt:467:38
 head-requires : tie.Need-head-requires
 head-requires c κs = c .before .before .before .before .pre .0
 
--- src/serve.rt:467:5
 fill-words-requires : tie.Need-fill-words-requires
 fill-words-requires c κs = search needs
 
--- src/serve.rt:468:15
 add-head : tie.Need-add-head
 add-head c =
     let s = c .before .before .before .before .before .before .before .before in
     let block = s .pre .1 in
     omega (arith, block .2, few-words (headFrom (s .args .head .now)) (block .0))
 
--- src/serve.rt:468:5
 element-write-head : tie.Need-element-write-head
 element-write-head c = search needs
 
--- src/serve.rt:453:1
 same-length : tie.Need-same-length
 same-length c = search needs
 
--- src/serve.rt:453:1
 returns : tie.Need-returns
 returns c =
     let y = c .before .before .before in

@@ -4,39 +4,28 @@ use borrow.Author.Tests.{eqb-true, not-false}
 use Rattle.words.proofs.Tests.{no-true}
 use Rattle.c_lent.proofs.batch.fills_alone.Statement.{statement}
 use Rattle.c_lent.proofs.batch.fills_alone.Tie as tie
-use Rattle.c_lent.proofs.batch.fills_alone.Reads as reads
-use Rattle.c_lent.proofs.batch.fills_alone.Lts as lts
-use Rattle.c_lent.proofs.turn.goes_on.Reads as goes-on-reads
 
--- src/serve.rt:444:9
 returns : tie.Need-returns
 returns c e = absurd (no-true e refl)
 
--- src/serve.rt:446:17
 index-1-goes-on : tie.Need-index-1-goes-on
 index-1-goes-on c = search needs
 
--- src/serve.rt:446:17
 index-2-goes-on : tie.Need-index-2-goes-on
 index-2-goes-on c = search needs
 
--- src/serve.rt:446:9
 goes-on-requires : tie.Need-goes-on-requires
 goes-on-requires c κs = search needs
 
--- src/serve.rt:447:9
 returns-2 : tie.Need-returns-2
 returns-2 c e = absurd (no-true e refl)
 
--- src/serve.rt:449:5
 index-1-result : tie.Need-index-1-result
 index-1-result c = search needs
 
--- src/serve.rt:449:5
 index-2-result : tie.Need-index-2-result
 index-2-result c = search needs
 
--- src/serve.rt:439:1
 returns-3 : tie.Need-returns-3
 returns-3 c e = (c .before .before .before .before .if1 .left, sym (c .before .before .goes-on .ensures) ∙ not-false _ (c .before .if2 .left), eqb-true _ _ e)
 

@@ -7,11 +7,6 @@ use Rattle.c_lent.specs.Batch.{FillsAlone}
 use Rattle.c_lent.proofs.Lone.{alone-known, alone-block, alone-rounds}
 use Rattle.c_lent.proofs.batch.plain_batch.Statement.{statement}
 use Rattle.c_lent.proofs.batch.plain_batch.Tie as tie
-use Rattle.c_lent.proofs.batch.plain_batch.Reads as reads
-use Rattle.c_lent.proofs.batch.plain_batch.Lts as lts
-use Rattle.c_lent.proofs.batch.by_rows.Reads as by-rows-reads
-use Rattle.c_lent.proofs.batch.fill_alone.Reads as fill-alone-reads
-use Rattle.c_lent.proofs.batch.fills_alone.Reads as fills-alone-reads
 
 -- the way back; it is one point alone
 abbrev start : tie.Then1 → tie.Start
@@ -23,27 +18,21 @@ alone c = c .before .fills-alone .ensures (c .if1 .taken)
 some-heads : (c : tie.Then1) → 0 < length (start c .args .heads .now)
 some-heads c = let n = alone c .0 in omega arith
 
--- src/serve.rt:492:8
 fills-alone-requires : tie.Need-fills-alone-requires
 fills-alone-requires c κs = search needs
 
--- src/serve.rt:493:27
 index-1-fill-alone : tie.Need-index-1-fill-alone
 index-1-fill-alone c = some-heads (c .before)
 
--- src/serve.rt:493:42
 shared-slice-element-fill-alone : tie.Need-shared-slice-element-fill-alone
 shared-slice-element-fill-alone c = let t = c .before .before in omega (arith, start t .pre .0 .1, some-heads t)
 
--- src/serve.rt:493:54
 shared-slice-element-fill-alone-2 : tie.Need-shared-slice-element-fill-alone-2
 shared-slice-element-fill-alone-2 c = let t = c .before .before .before in omega (arith, start t .pre .0 .2, some-heads t)
 
--- src/serve.rt:493:65
 index-1-fill-alone-2 : tie.Need-index-1-fill-alone-2
 index-1-fill-alone-2 c = let t = c .before .before .before .before in omega (arith, start t .pre .0 .3, some-heads t)
 
--- src/serve.rt:493:9
 fill-alone-requires : tie.Need-fill-alone-requires
 fill-alone-requires c κs =
     let t = c .before .before .before .before .before in
@@ -54,23 +43,18 @@ fill-alone-requires c κs =
       alone-block (a .image .now) shared (a .heads .now) (a .tables .now) (a .texts .now) (a .answers .now) (p .0) (p .3) (alone t) (a .m) (p .4),
     )
 
--- src/serve.rt:495:9
 by-rows-requires : tie.Need-by-rows-requires
 by-rows-requires c κs = let p = c .before .before .before .before .before .before .before .before .pre in (p .0, p .1, p .3, p .4)
 
--- src/serve.rt:473:1
 same-length : tie.Need-same-length
 same-length c = search needs
 
--- src/serve.rt:473:1
 same-length-2 : tie.Need-same-length-2
 same-length-2 c = search needs
 
--- src/serve.rt:473:1
 same-length-3 : tie.Need-same-length-3
 same-length-3 c = search needs
 
--- src/serve.rt:473:1
 returns : tie.Need-returns
 returns c =
     let y = c .before .before in
@@ -81,19 +65,15 @@ returns c =
     alone-rounds (a .image .now) (sharedLent (a .shared) (a .taken)) (a .heads .now) (a .tables .now) (a .texts .now) (a .answers .now) (p .0) (p .3) (alone t) (a .m) (p .4)
     (p .2) _ _ _ (e .0) (e .1) (e .2)
 
--- src/serve.rt:473:1
 same-length-4 : tie.Need-same-length-4
 same-length-4 c = search needs
 
--- src/serve.rt:473:1
 same-length-5 : tie.Need-same-length-5
 same-length-5 c = search needs
 
--- src/serve.rt:473:1
 same-length-6 : tie.Need-same-length-6
 same-length-6 c = search needs
 
--- src/serve.rt:473:1
 returns-2 : tie.Need-returns-2
 returns-2 c = search needs
 

@@ -26,68 +26,53 @@ Inv-loop image₀ shared taken rows heads₀ tables texts answers₀ i₀ i-end 
 abbrev μ-loop : tie.MeasureT-loop
 μ-loop image₀ shared taken rows heads₀ tables texts answers₀ i₀ i-end image heads answers i = length heads₀ - i
 
--- src/serve.rt:198:5
 loop-holds : tie.Need-loop-holds Inv-loop μ-loop
 loop-holds c =
     let p = c .before .pre in
     (omega arith, refl, refl, p .lengths, p .enough, passed-start _ _ _ (p .ready))
 
--- src/serve.rt:203:13
 mul-plain-turn : tie.Need-mul-plain-turn Inv-loop μ-loop
 mul-plain-turn c = omega arith
 
--- src/serve.rt:203:13
 shared-slice-element-plain-turn : tie.Need-shared-slice-element-plain-turn Inv-loop μ-loop
 shared-slice-element-plain-turn c = omega arith
 
--- src/serve.rt:204:13
 mul-plain-turn-2 : tie.Need-mul-plain-turn-2 Inv-loop μ-loop
 mul-plain-turn-2 c = omega arith
 
--- src/serve.rt:204:13
 index-1-plain-turn : tie.Need-index-1-plain-turn Inv-loop μ-loop
 index-1-plain-turn c = omega arith
 
--- src/serve.rt:205:13
 mul-plain-turn-3 : tie.Need-mul-plain-turn-3 Inv-loop μ-loop
 mul-plain-turn-3 c = omega arith
 
--- src/serve.rt:205:13
 shared-slice-element-plain-turn-2 : tie.Need-shared-slice-element-plain-turn-2 Inv-loop μ-loop
 shared-slice-element-plain-turn-2 c = omega arith
 
--- src/serve.rt:206:13
 mul-plain-turn-4 : tie.Need-mul-plain-turn-4 Inv-loop μ-loop
 mul-plain-turn-4 c = omega arith
 
--- src/serve.rt:206:13
 shared-slice-element-plain-turn-3 : tie.Need-shared-slice-element-plain-turn-3 Inv-loop μ-loop
 shared-slice-element-plain-turn-3 c = omega arith
 
--- src/serve.rt:207:13
 mul-plain-turn-5 : tie.Need-mul-plain-turn-5 Inv-loop μ-loop
 mul-plain-turn-5 c = omega arith
 
--- src/serve.rt:207:13
 index-1-plain-turn-2 : tie.Need-index-1-plain-turn-2 Inv-loop μ-loop
 index-1-plain-turn-2 c = omega arith
 
--- src/serve.rt:199:9
 plain-turn-requires : tie.Need-plain-turn-requires Inv-loop μ-loop
 plain-turn-requires c κs =
     let l = c .before .before .before .before .before .before .before .loop in
     let s = c .before .before .before .before .before .before .before .before .before in
     passed-asks (l .inv .5) (omega arith) (s .args .rows .now) (s .pre .next)
 
--- src/serve.rt:198:9
 add-i : tie.Need-add-i Inv-loop μ-loop
 add-i c = omega arith
 
--- src/serve.rt:198:5
 loop-less : tie.Need-loop-less Inv-loop μ-loop
 loop-less c = omega arith
 
--- src/serve.rt:198:5
 loop-again : tie.Need-loop-again Inv-loop μ-loop
 loop-again c =
     let y = c .before .before in
@@ -101,19 +86,15 @@ loop-again c =
       stored-next (l .heads) (a .tables .now) (a .texts .now) (l .answers) _ _ _ (l .inv .3) (omega arith) (l .inv .5) (y .plain-turn .ensures .0) (y .plain-turn .ensures .1),
     )
 
--- src/serve.rt:178:1
 same-length : tie.Need-same-length Inv-loop μ-loop
 same-length c = c .before .loop .inv .1
 
--- src/serve.rt:178:1
 same-length-2 : tie.Need-same-length-2 Inv-loop μ-loop
 same-length-2 c = c .before .loop .inv .3 .0
 
--- src/serve.rt:178:1
 same-length-3 : tie.Need-same-length-3 Inv-loop μ-loop
 same-length-3 c = c .before .loop .inv .3 .3 ∙ sym (c .before .before .before .pre .lengths .3)
 
--- src/serve.rt:178:1
 returns : tie.Need-returns Inv-loop μ-loop
 returns c =
     let l = c .before .loop in

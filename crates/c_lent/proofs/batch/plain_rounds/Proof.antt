@@ -27,23 +27,18 @@ Inv-loop image₀ shared taken rows heads₀ tables texts answers₀ m left₀ i
 abbrev μ-loop : tie.MeasureT-loop
 μ-loop image₀ shared taken rows heads₀ tables texts answers₀ m left₀ image heads answers left = left
 
--- src/serve.rt:232:5
 loop-holds : tie.Need-loop-holds Inv-loop μ-loop
 loop-holds c = (refl, refl, refl, c .before .pre, refl)
 
--- src/serve.rt:233:9
 plain-round-requires : tie.Need-plain-round-requires Inv-loop μ-loop
 plain-round-requires c κs = rows-start (c .before .before .before .before .loop .inv .3) (omega arith)
 
--- src/serve.rt:234:9
 sub-left : tie.Need-sub-left Inv-loop μ-loop
 sub-left c = omega arith
 
--- src/serve.rt:232:5
 loop-less : tie.Need-loop-less Inv-loop μ-loop
 loop-less c = omega arith
 
--- src/serve.rt:232:5
 loop-again : tie.Need-loop-again Inv-loop μ-loop
 loop-again c =
     let y = c .before .before .before .before .plain-round in
@@ -57,19 +52,15 @@ loop-again c =
       l .inv .4 ∙ rounds-next (l .left) _ _ _ _ (omega arith) (y .ensures .0),
     )
 
--- src/serve.rt:213:1
 same-length : tie.Need-same-length Inv-loop μ-loop
 same-length c = c .before .loop .inv .0
 
--- src/serve.rt:213:1
 same-length-2 : tie.Need-same-length-2 Inv-loop μ-loop
 same-length-2 c = c .before .loop .inv .1
 
--- src/serve.rt:213:1
 same-length-3 : tie.Need-same-length-3 Inv-loop μ-loop
 same-length-3 c = c .before .loop .inv .2
 
--- src/serve.rt:213:1
 returns : tie.Need-returns Inv-loop μ-loop
 returns c =
     let l = c .before .loop in

@@ -11,31 +11,24 @@ use Rattle.c_lent.proofs.batch.plain_turn.Lts as lts
 use Rattle.c_lent.proofs.turn.goes_on.Reads as goes-on-reads
 use Rattle.c_lent.proofs.batch.store_next.Reads as store-next-reads
 
--- src/serve.rt:169:16
 element-copy-out-goes-on : tie.Need-element-copy-out-goes-on
 element-copy-out-goes-on c = search needs
 
--- src/serve.rt:169:8
 goes-on-requires : tie.Need-goes-on-requires
 goes-on-requires c κs = search needs
 
--- src/serve.rt:170:17
 element-copy-out-k : tie.Need-element-copy-out-k
 element-copy-out-k c = search needs
 
--- src/serve.rt:171:32
 element-copy-out-store-next : tie.Need-element-copy-out-store-next
 element-copy-out-store-next c = search needs
 
--- src/serve.rt:171:41
 element-copy-out-store-next-2 : tie.Need-element-copy-out-store-next-2
 element-copy-out-store-next-2 c = search needs
 
--- src/serve.rt:171:9
 store-next-requires : tie.Need-store-next-requires
 store-next-requires c κs = search needs
 
--- src/serve.rt:172:19
 add-head : tie.Need-add-head
 add-head c =
     let t = c .before .before .before .before .before .before .before in
@@ -43,15 +36,12 @@ add-head c =
     let w = t .before .before .before .before .pre g in
     omega (arith, next-small (w .0) g (w .1))
 
--- src/serve.rt:172:9
 element-write-head : tie.Need-element-write-head
 element-write-head c = search needs
 
--- src/serve.rt:151:1
 same-length : tie.Need-same-length
 same-length c = search needs
 
--- src/serve.rt:151:1
 returns : tie.Need-returns
 returns c =
     let t = c .before .before .before .before .before .before .before .before in
@@ -60,7 +50,6 @@ returns c =
     let w = t .before .before .before .before .pre g in
     (plain-turned (w .0) g (w .1) _ (c .before .before .before .store-next .ensures), sym (one-on (pointLent (a .head) (a .table) (a .text)) (a .answer .now) g))
 
--- src/serve.rt:151:1
 returns-2 : tie.Need-returns-2
 returns-2 c =
     let a = c .before .before .before .before .args in

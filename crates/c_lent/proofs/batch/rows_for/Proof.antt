@@ -1,18 +1,12 @@
-use mathlib.Core.Path.{_≡_, refl, sym, ap, _∙_}
+use mathlib.Core.Path.{_≡_, refl, _∙_}
 use Prim.Native.Nat.{ℕ, _≤_, _<_, _-_}
 use native.Mathlib.Omega.{arith}
 use mathlib.Core.List.{[]}
 use lib.ListN.{length, getD, length-set}
-use borrow.Author.Needs.{needs}
-use Rattle.c_lent.specs.Batch.{PlainAt, RowAt}
-use Rattle.words.proofs.Tests.{no-true}
-use Rattle.c_lent.proofs.Calls.{tests-none, tests-known}
-use Rattle.c_lent.proofs.WordsLeft.{fills-left, plain-fewer, GoesAt, words-next, row-numbers, rows-set}
+use Rattle.c_lent.specs.Batch.{RowAt}
+use Rattle.c_lent.proofs.WordsLeft.{GoesAt, rows-set}
 use Rattle.c_lent.proofs.batch.rows_for.Statement.{statement}
 use Rattle.c_lent.proofs.batch.rows_for.Tie as tie
-use Rattle.c_lent.proofs.batch.rows_for.Reads as reads
-use Rattle.c_lent.proofs.batch.rows_for.Lts as lts
-use Rattle.c_lent.proofs.batch.row_for.Reads as row-for-reads
 
 abbrev Inv-loop : tie.InvT-loop
 Inv-loop heads tables answers rows₀ i₀ i-end rows i =
@@ -27,59 +21,45 @@ Inv-loop heads tables answers rows₀ i₀ i-end rows i =
 abbrev μ-loop : tie.MeasureT-loop
 μ-loop heads tables answers rows₀ i₀ i-end rows i = length heads - i
 
--- src/serve.rt:307:5
 loop-holds : tie.Need-loop-holds Inv-loop μ-loop
 loop-holds c = (omega arith, refl, c .pre .0, c .pre .1, c .pre .2, refl, λ j l. absurd (omega arith))
 
--- src/serve.rt:308:27
 mul-row-for : tie.Need-mul-row-for Inv-loop μ-loop
 mul-row-for c = omega arith
 
--- src/serve.rt:308:27
 index-1-row-for : tie.Need-index-1-row-for Inv-loop μ-loop
 index-1-row-for c = omega arith
 
--- src/serve.rt:308:27
 index-2-row-for : tie.Need-index-2-row-for Inv-loop μ-loop
 index-2-row-for c = omega arith
 
--- src/serve.rt:308:42
 mul-row-for-2 : tie.Need-mul-row-for-2 Inv-loop μ-loop
 mul-row-for-2 c = omega arith
 
--- src/serve.rt:308:42
 shared-slice-element-row-for : tie.Need-shared-slice-element-row-for Inv-loop μ-loop
 shared-slice-element-row-for c = omega arith
 
--- src/serve.rt:308:53
 mul-row-for-3 : tie.Need-mul-row-for-3 Inv-loop μ-loop
 mul-row-for-3 c = omega arith
 
--- src/serve.rt:308:53
 shared-slice-element-row-for-2 : tie.Need-shared-slice-element-row-for-2 Inv-loop μ-loop
 shared-slice-element-row-for-2 c = omega arith
 
--- src/serve.rt:308:19
 row-for-requires : tie.Need-row-for-requires Inv-loop μ-loop
 row-for-requires c κs = c .before .before .before .before .before .pre .3 (c .before .before .before .before .loop .i) (omega arith)
 
--- src/serve.rt:308:9
 mul-t20 : tie.Need-mul-t20 Inv-loop μ-loop
 mul-t20 c = omega arith
 
--- src/serve.rt:308:9
 slice-set-from-rows : tie.Need-slice-set-from-rows Inv-loop μ-loop
 slice-set-from-rows c = omega arith
 
--- src/serve.rt:307:9
 add-i : tie.Need-add-i Inv-loop μ-loop
 add-i c = omega arith
 
--- src/serve.rt:307:5
 loop-less : tie.Need-loop-less Inv-loop μ-loop
 loop-less c = omega arith
 
--- src/serve.rt:307:5
 loop-again : tie.Need-loop-again Inv-loop μ-loop
 loop-again c =
     let l = c .before .before .before .before .before .loop in
@@ -94,11 +74,9 @@ loop-again c =
       rows-set (a .heads .now) (a .tables .now) (a .answers .now) (l .rows) (c .row-for .result) (l .i) (omega arith) (l .inv .6) (c .row-for .ensures),
     )
 
--- src/serve.rt:301:1
 same-length : tie.Need-same-length Inv-loop μ-loop
 same-length c = c .before .loop .inv .5
 
--- src/serve.rt:301:1
 returns : tie.Need-returns Inv-loop μ-loop
 returns c = λ i k. c .before .loop .inv .6 i (omega arith)
 

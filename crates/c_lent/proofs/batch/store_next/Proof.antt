@@ -7,43 +7,33 @@ use Rattle.c_lent.proofs.batch.store_next.Lts as lts
 use Rattle.points.proofs.serve.fill_word.Reads as fill-word-reads
 use Rattle.words.proofs.image.store.Reads as store-reads
 
--- src/serve.rt:138:9
 store-requires : tie.Need-store-requires
 store-requires c κs = search needs
 
--- src/serve.rt:141:18
 element-copy-out-t15 : tie.Need-element-copy-out-t15
 element-copy-out-t15 c = search needs
 
--- src/serve.rt:142:19
 element-copy-out-t18 : tie.Need-element-copy-out-t18
 element-copy-out-t18 c = search needs
 
--- src/serve.rt:143:19
 element-copy-out-t21 : tie.Need-element-copy-out-t21
 element-copy-out-t21 c = search needs
 
--- src/serve.rt:144:18
 element-copy-out-t24 : tie.Need-element-copy-out-t24
 element-copy-out-t24 c = search needs
 
--- src/serve.rt:146:9
 fill-word-requires : tie.Need-fill-word-requires
 fill-word-requires c κs = search needs
 
--- src/serve.rt:134:1
 same-length : tie.Need-same-length
 same-length c = search needs
 
--- src/serve.rt:134:1
 returns : tie.Need-returns
 returns c = record { zeroed = λ e. c .before .before .store .ensures; filled = λ d h table q. absurd (d (omega arith)) }
 
--- src/serve.rt:134:1
 same-length-2 : tie.Need-same-length-2
 same-length-2 c = search needs
 
--- src/serve.rt:134:1
 returns-2 : tie.Need-returns-2
 returns-2 c = record { zeroed = λ e. absurd (omega arith); filled = λ d. c .before .before .fill-word .ensures }
 

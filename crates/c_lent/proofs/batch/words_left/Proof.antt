@@ -8,60 +8,43 @@ use Rattle.c_lent.proofs.WordsLeft.{fills-left}
 use borrow.Author.Needs.{needs}
 use Rattle.c_lent.proofs.batch.words_left.Statement.{statement}
 use Rattle.c_lent.proofs.batch.words_left.Tie as tie
-use Rattle.c_lent.proofs.batch.words_left.Reads as reads
-use Rattle.c_lent.proofs.batch.words_left.Lts as lts
-use Rattle.points.proofs.record.span.Reads as span-reads
-use Rattle.words.proofs.offset.word.Reads as word-reads
 
--- src/serve.rt:260:20
 sub-result : tie.Need-sub-result
 sub-result c = search needs
 
--- src/serve.rt:260:13
 returns : tie.Need-returns
 returns c = λ h eo es ep ek l. inr (omega arith, omega arith)
 
--- src/serve.rt:262:9
 returns-2 : tie.Need-returns-2
 returns-2 c = λ h eo es ep ek l. absurd (omega arith)
 
--- src/serve.rt:265:9
 returns-3 : tie.Need-returns-3
 returns-3 c = λ h eo es ep ek l. absurd (omega arith)
 
--- src/serve.rt:267:22
 span-requires : tie.Need-span-requires
 span-requires c κs = search needs
 
--- src/serve.rt:267:22
 cast-words : tie.Need-cast-words
 cast-words c = search needs
 
--- src/serve.rt:267:17
 mul-words : tie.Need-mul-words
 mul-words c = search needs
 
--- src/serve.rt:269:9
 returns-4 : tie.Need-returns-4
 returns-4 c = λ h eo es ep ek l. absurd (omega arith)
 
--- src/serve.rt:271:30
 mul-word : tie.Need-mul-word
 mul-word c = search needs
 
--- src/serve.rt:271:10
 word-requires : tie.Need-word-requires
 word-requires c κs = search needs
 
--- src/serve.rt:271:10
 cast-result : tie.Need-cast-result
 cast-result c = search needs
 
--- src/serve.rt:271:5
 sub-result-2 : tie.Need-sub-result-2
 sub-result-2 c = search needs
 
--- src/serve.rt:255:1
 returns-5 : tie.Need-returns-5
 returns-5 c =
     let s = c .before .before .span in

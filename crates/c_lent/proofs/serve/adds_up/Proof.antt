@@ -1,18 +1,12 @@
-use mathlib.Core.Path.{_≡_, refl, sym, ap, _∙_}
-use mathlib.Core.Bool.{true, false}
-use Prim.Native.Nat.{ℕ, suc, _+_, _≤_, _-_}
+use mathlib.Core.Path.{_≡_, refl, sym}
+use Prim.Native.Nat.{suc, _+_, _≤_, _-_}
 use native.Mathlib.Omega.{arith}
-use lib.ListN.{length, getD, drop}
-use lib.Dec.{eqb}
-use borrow.Author.Needs.{needs}
-use Rattle.words.specs.Logic.{listFrom, member, some-of}
-use Rattle.c_lent.specs.Serving.{startAt, sizeAt}
+use lib.ListN.{length}
+use Rattle.c_lent.specs.Serving.{startAt}
 use borrow.Author.Tests.{ne-eqb}
 use Rattle.c_lent.proofs.Turns.{starts-up, none-left}
 use Rattle.c_lent.proofs.serve.adds_up.Statement.{statement}
 use Rattle.c_lent.proofs.serve.adds_up.Tie as tie
-use Rattle.c_lent.proofs.serve.adds_up.Reads as reads
-use Rattle.c_lent.proofs.serve.adds_up.Lts as lts
 
 abbrev Inv-loop : tie.InvT-loop
 Inv-loop writes bytes left₀ i₀ i-end left i =
@@ -21,23 +15,18 @@ Inv-loop writes bytes left₀ i₀ i-end left i =
 abbrev μ-loop : tie.MeasureT-loop
 μ-loop writes bytes left₀ i₀ i-end left i = length writes - i
 
--- src/serve.rt:201:5
 loop-holds : tie.Need-loop-holds Inv-loop μ-loop
 loop-holds c = (refl, omega arith, omega arith)
 
--- src/serve.rt:202:20
 mul-size : tie.Need-mul-size Inv-loop μ-loop
 mul-size c = omega arith
 
--- src/serve.rt:202:20
 index-1-size : tie.Need-index-1-size Inv-loop μ-loop
 index-1-size c = omega arith
 
--- src/serve.rt:202:20
 index-2-size : tie.Need-index-2-size Inv-loop μ-loop
 index-2-size c = omega arith
 
--- src/serve.rt:204:13
 returns : tie.Need-returns Inv-loop μ-loop
 returns c =
     let l = c .before .before .before .loop in
@@ -45,15 +34,12 @@ returns c =
     let up = starts-up writes (l .i) (length writes) (omega arith) in
     sym (ne-eqb (startAt writes (length writes)) _ (omega (arith, l .inv .2)))
 
--- src/serve.rt:201:9
 add-i : tie.Need-add-i Inv-loop μ-loop
 add-i c = omega arith
 
--- src/serve.rt:201:5
 loop-less : tie.Need-loop-less Inv-loop μ-loop
 loop-less c = omega arith
 
--- src/serve.rt:201:5
 loop-again : tie.Need-loop-again Inv-loop μ-loop
 loop-again c =
     let l = c .before .before .before .loop in
@@ -61,7 +47,6 @@ loop-again c =
     let one : l .i + 1 ≡ suc (l .i) = omega arith in
     (refl, omega arith, rw one (omega (arith, l .inv .2)))
 
--- src/serve.rt:197:1
 returns-2 : tie.Need-returns-2 Inv-loop μ-loop
 returns-2 c =
     let l = c .before .loop in

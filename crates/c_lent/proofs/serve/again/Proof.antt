@@ -1,18 +1,14 @@
 use borrow.Author.Tests.{eq-eqb, ne-eqb}
 use Rattle.c_lent.proofs.Places.{some-here, some-later, some-nowhere}
-use mathlib.Core.Path.{_≡_, refl, sym, ap, _∙_}
-use mathlib.Core.Bool.{true, false}
-use Prim.Native.Nat.{ℕ, suc, _+_, _≤_, _-_}
+use mathlib.Core.Path.{_≡_, refl, sym, _∙_}
+use Prim.Native.Nat.{suc, _+_, _≤_, _-_}
 use native.Mathlib.Omega.{arith}
-use lib.ListN.{length, getD, drop}
+use lib.ListN.{length}
 use lib.Dec.{eqb}
-use borrow.Author.Needs.{needs}
-use Rattle.words.specs.Logic.{listFrom, member, some-of}
+use Rattle.words.specs.Logic.{listFrom, member}
 use Rattle.c_lent.specs.Serving.{numberAt}
 use Rattle.c_lent.proofs.serve.again.Statement.{statement}
 use Rattle.c_lent.proofs.serve.again.Tie as tie
-use Rattle.c_lent.proofs.serve.again.Reads as reads
-use Rattle.c_lent.proofs.serve.again.Lts as lts
 
 abbrev Inv-loop : tie.InvT-loop
 Inv-loop heads i number j₀ j-end j =
@@ -21,42 +17,33 @@ Inv-loop heads i number j₀ j-end j =
 abbrev μ-loop : tie.MeasureT-loop
 μ-loop heads i number j₀ j-end j = length heads - j
 
--- src/serve.rt:175:18
 mul-number : tie.Need-mul-number Inv-loop μ-loop
 mul-number c = omega arith
 
--- src/serve.rt:175:18
 index-1-number : tie.Need-index-1-number Inv-loop μ-loop
 index-1-number c = omega arith
 
--- src/serve.rt:175:18
 index-2-number : tie.Need-index-2-number Inv-loop μ-loop
 index-2-number c = omega arith
 
--- src/serve.rt:176:14
 add-j : tie.Need-add-j Inv-loop μ-loop
 add-j c = omega arith
 
--- src/serve.rt:176:5
 loop-holds : tie.Need-loop-holds Inv-loop μ-loop
 loop-holds c =
     let a = c .before .args in
     let one : a .i + 1 ≡ suc (a .i) = omega arith in
     (omega arith, refl, omega arith, refl, rw one)
 
--- src/serve.rt:177:12
 mul-if1 : tie.Need-mul-if1 Inv-loop μ-loop
 mul-if1 c = omega arith
 
--- src/serve.rt:177:12
 index-1-if1 : tie.Need-index-1-if1 Inv-loop μ-loop
 index-1-if1 c = omega arith
 
--- src/serve.rt:177:12
 index-2-if1 : tie.Need-index-2-if1 Inv-loop μ-loop
 index-2-if1 c = omega arith
 
--- src/serve.rt:178:13
 returns : tie.Need-returns Inv-loop μ-loop
 returns c =
     let l = c .before .before .before .loop in
@@ -64,15 +51,12 @@ returns c =
     sym (l .inv .4 ∙ some-here (eqb (numberAt (a .heads .now) (a .i))) (numberAt (a .heads .now)) (length (a .heads .now)) (l .j) (omega arith)
     (eq-eqb (numberAt (a .heads .now) (a .i)) (numberAt (a .heads .now) (l .j)) (sym (c .if1 .taken))))
 
--- src/serve.rt:176:9
 add-j-2 : tie.Need-add-j-2 Inv-loop μ-loop
 add-j-2 c = omega arith
 
--- src/serve.rt:176:5
 loop-less : tie.Need-loop-less Inv-loop μ-loop
 loop-less c = omega arith
 
--- src/serve.rt:176:5
 loop-again : tie.Need-loop-again Inv-loop μ-loop
 loop-again c =
     let l = c .before .before .before .loop in
@@ -85,7 +69,6 @@ loop-again c =
           (ne-eqb (numberAt (a .heads .now) (a .i)) (numberAt (a .heads .now) (l .j)) (λ e. c .if1 .left (sym e))),
     )
 
--- src/serve.rt:170:1
 returns-2 : tie.Need-returns-2 Inv-loop μ-loop
 returns-2 c =
     let l = c .before .loop in

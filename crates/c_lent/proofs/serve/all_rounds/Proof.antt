@@ -1,6 +1,5 @@
 use mathlib.Core.Path.{_≡_, refl, sym, _∙_}
-use mathlib.Core.Bool.{true, false}
-use Prim.Native.Nat.{ℕ, _≤_, _-_}
+use Prim.Native.Nat.{_-_}
 use native.Mathlib.Omega.{arith}
 use lib.ListN.{length}
 use borrow.Author.Needs.{needs}
@@ -12,10 +11,6 @@ use Rattle.c_lent.proofs.Turns.{rounds-over, rounds-idle}
 use Rattle.c_lent.proofs.RoundsMore.{rounds-more}
 use Rattle.c_lent.proofs.serve.all_rounds.Statement.{statement}
 use Rattle.c_lent.proofs.serve.all_rounds.Tie as tie
-use Rattle.c_lent.proofs.serve.all_rounds.Reads as reads
-use Rattle.c_lent.proofs.serve.all_rounds.Lts as lts
-use Rattle.c_lent.proofs.serve.anybody.Reads as anybody-reads
-use Rattle.c_lent.proofs.batch.batch.Reads as batch-reads
 
 abbrev Inv-loop : tie.InvT-loop
 Inv-loop image₀ shared₀ taken₀ heads₀ tables₀ texts₀ answers₀ most bytes₀ left₀ image shared taken heads tables texts answers bytes left =
@@ -29,15 +24,12 @@ abbrev μ-loop : tie.MeasureT-loop
 μ-loop image₀ shared₀ taken₀ heads₀ tables₀ texts₀ answers₀ most bytes₀ left₀ image shared taken heads tables texts answers bytes left =
     left
 
--- src/serve.rt:163:5
 loop-holds : tie.Need-loop-holds Inv-loop μ-loop
 loop-holds c = (refl, c .before .pre .0, refl, c .before .pre .2)
 
--- src/serve.rt:163:23
 anybody-requires : tie.Need-anybody-requires Inv-loop μ-loop
 anybody-requires c κs = search needs
 
--- src/serve.rt:164:9
 batch-requires : tie.Need-batch-requires Inv-loop μ-loop
 batch-requires c κs =
     let l = c .before .before .before .before .before .before .before .before .before .before .before .before .loop in
@@ -49,15 +41,12 @@ batch-requires c κs =
       λ i k g. l .inv .3 i (omega (arith, h, k)) g,
     )
 
--- src/serve.rt:165:9
 sub-left : tie.Need-sub-left Inv-loop μ-loop
 sub-left c = c .before .before .before .before .before .before .batch .ensures .1
 
--- src/serve.rt:163:5
 loop-less : tie.Need-loop-less Inv-loop μ-loop
 loop-less c = let y = c .before .before .before .before .before .before .batch .ensures in omega (arith, y .0, y .1)
 
--- src/serve.rt:163:5
 loop-again : tie.Need-loop-again Inv-loop μ-loop
 loop-again c =
     let l = c .before .before .before .before .before .before .before .before .before .before .before .before .before .before .before .before .before .before .before .loop in
@@ -69,54 +58,42 @@ loop-again c =
       λ i k g. y .ensures .3 i (omega (arith, h, k)) g,
     )
 
--- src/serve.rt:145:1
 same-length : tie.Need-same-length Inv-loop μ-loop
 same-length c = c .before .before .before .before .loop .inv .0
 
--- src/serve.rt:145:1
 same-length-2 : tie.Need-same-length-2 Inv-loop μ-loop
 same-length-2 c = c .before .before .before .before .loop .inv .1 .0
 
--- src/serve.rt:145:1
 same-length-3 : tie.Need-same-length-3 Inv-loop μ-loop
 same-length-3 c = c .before .before .before .before .loop .inv .1 .1 ∙ sym (c .before .before .before .before .before .before .pre .0 .1)
 
--- src/serve.rt:145:1
 same-length-4 : tie.Need-same-length-4 Inv-loop μ-loop
 same-length-4 c = c .before .before .before .before .loop .inv .1 .2 ∙ sym (c .before .before .before .before .before .before .pre .0 .2)
 
--- src/serve.rt:145:1
 same-length-5 : tie.Need-same-length-5 Inv-loop μ-loop
 same-length-5 c = c .before .before .before .before .loop .inv .1 .3 ∙ sym (c .before .before .before .before .before .before .pre .0 .3)
 
--- src/serve.rt:145:1
 returns : tie.Need-returns Inv-loop μ-loop
 returns c =
     let l = c .before .before .before .before .loop in
     rounds-idle (l .left) _ (length (l .heads)) (listedAt (l .heads) (l .tables) (l .texts) (l .answers))
     (rw (l .inv .1 .0 ∙ sym (l .inv .1 .3)) (sym (c .before .anybody .ensures) ∙ c .if1 .left)) ∙ sym (l .inv .2)
 
--- src/serve.rt:145:1
 same-length-6 : tie.Need-same-length-6 Inv-loop μ-loop
 same-length-6 c = c .before .loop .inv .0
 
--- src/serve.rt:145:1
 same-length-7 : tie.Need-same-length-7 Inv-loop μ-loop
 same-length-7 c = c .before .loop .inv .1 .0
 
--- src/serve.rt:145:1
 same-length-8 : tie.Need-same-length-8 Inv-loop μ-loop
 same-length-8 c = c .before .loop .inv .1 .1 ∙ sym (c .before .before .before .pre .0 .1)
 
--- src/serve.rt:145:1
 same-length-9 : tie.Need-same-length-9 Inv-loop μ-loop
 same-length-9 c = c .before .loop .inv .1 .2 ∙ sym (c .before .before .before .pre .0 .2)
 
--- src/serve.rt:145:1
 same-length-10 : tie.Need-same-length-10 Inv-loop μ-loop
 same-length-10 c = c .before .loop .inv .1 .3 ∙ sym (c .before .before .before .pre .0 .3)
 
--- src/serve.rt:145:1
 returns-2 : tie.Need-returns-2 Inv-loop μ-loop
 returns-2 c =
     let l = c .before .loop in

@@ -1,18 +1,13 @@
 use Rattle.c_lent.proofs.Places.{some-here, some-later, some-nowhere}
-use mathlib.Core.Path.{_≡_, refl, sym, ap, _∙_}
-use mathlib.Core.Bool.{true, false}
-use Prim.Native.Nat.{ℕ, suc, _+_, _≤_, _-_}
+use mathlib.Core.Path.{_≡_, refl, sym, _∙_}
+use Prim.Native.Nat.{_≤_, _-_}
 use native.Mathlib.Omega.{arith}
-use lib.ListN.{length, getD, drop}
-use lib.Dec.{eqb}
+use lib.ListN.{length}
 use borrow.Author.Needs.{needs}
-use Rattle.words.specs.Logic.{listFrom, member, some-of}
+use Rattle.words.specs.Logic.{listFrom, some-of}
 use Rattle.c_lent.specs.Serving.{anyGoesOn, kindAt, kindGoesOn}
 use Rattle.c_lent.proofs.serve.anybody.Statement.{statement}
 use Rattle.c_lent.proofs.serve.anybody.Tie as tie
-use Rattle.c_lent.proofs.serve.anybody.Reads as reads
-use Rattle.c_lent.proofs.serve.anybody.Lts as lts
-use Rattle.c_lent.proofs.turn.goes_on.Reads as goes-on-reads
 
 abbrev Inv-loop : tie.InvT-loop
 Inv-loop answers i₀ i-end i =
@@ -21,42 +16,33 @@ Inv-loop answers i₀ i-end i =
 abbrev μ-loop : tie.MeasureT-loop
 μ-loop answers i₀ i-end i = length answers - i
 
--- src/serve.rt:136:5
 loop-holds : tie.Need-loop-holds Inv-loop μ-loop
 loop-holds c = let e : length (c .args .answers .now) - 0 ≡ length (c .args .answers .now) = omega arith in (refl, omega arith, rw e)
 
--- src/serve.rt:137:20
 mul-goes-on : tie.Need-mul-goes-on Inv-loop μ-loop
 mul-goes-on c = omega arith
 
--- src/serve.rt:137:20
 index-1-goes-on : tie.Need-index-1-goes-on Inv-loop μ-loop
 index-1-goes-on c = omega arith
 
--- src/serve.rt:137:20
 index-2-goes-on : tie.Need-index-2-goes-on Inv-loop μ-loop
 index-2-goes-on c = omega arith
 
--- src/serve.rt:137:12
 goes-on-requires : tie.Need-goes-on-requires Inv-loop μ-loop
 goes-on-requires c κs = search needs
 
--- src/serve.rt:138:13
 returns : tie.Need-returns Inv-loop μ-loop
 returns c =
     let l = c .before .before .before .before .loop in
     let a = c .before .before .before .before .before .args in
     sym (l .inv .2 ∙ some-here kindGoesOn (kindAt (a .answers .now)) (length (a .answers .now)) (l .i) (omega arith) (sym (c .before .goes-on .ensures) ∙ c .if1 .taken))
 
--- src/serve.rt:136:9
 add-i : tie.Need-add-i Inv-loop μ-loop
 add-i c = omega arith
 
--- src/serve.rt:136:5
 loop-less : tie.Need-loop-less Inv-loop μ-loop
 loop-less c = omega arith
 
--- src/serve.rt:136:5
 loop-again : tie.Need-loop-again Inv-loop μ-loop
 loop-again c =
     let l = c .before .before .before .before .loop in
@@ -66,7 +52,6 @@ loop-again c =
       l .inv .2 ∙ some-later kindGoesOn (kindAt (a .answers .now)) (length (a .answers .now)) (l .i) (omega arith) (sym (c .before .goes-on .ensures) ∙ c .if1 .left),
     )
 
--- src/serve.rt:133:1
 returns-2 : tie.Need-returns-2 Inv-loop μ-loop
 returns-2 c =
     let l = c .before .loop in

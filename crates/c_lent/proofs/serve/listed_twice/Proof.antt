@@ -8,9 +8,6 @@ use Rattle.c_lent.specs.Serving.{numberAt}
 use Rattle.c_lent.proofs.Places.{twice-here, twice-later, twice-nowhere}
 use Rattle.c_lent.proofs.serve.listed_twice.Statement.{statement}
 use Rattle.c_lent.proofs.serve.listed_twice.Tie as tie
-use Rattle.c_lent.proofs.serve.listed_twice.Reads as reads
-use Rattle.c_lent.proofs.serve.listed_twice.Lts as lts
-use Rattle.c_lent.proofs.serve.again.Reads as again-reads
 
 abbrev Inv-loop : tie.InvT-loop
 Inv-loop heads i₀ i-end i =
@@ -20,30 +17,24 @@ Inv-loop heads i₀ i-end i =
 abbrev μ-loop : tie.MeasureT-loop
 μ-loop heads i₀ i-end i = length heads - i
 
--- src/serve.rt:188:5
 loop-holds : tie.Need-loop-holds Inv-loop μ-loop
 loop-holds c = let e : length (c .args .heads .now) - 0 ≡ length (c .args .heads .now) = omega arith in (refl, omega arith, rw e)
 
--- src/serve.rt:189:12
 again-requires : tie.Need-again-requires Inv-loop μ-loop
 again-requires c κs = omega arith
 
--- src/serve.rt:190:13
 returns : tie.Need-returns Inv-loop μ-loop
 returns c =
     let l = c .before .before .before .loop in
     let a = c .before .before .before .before .args in
     sym (l .inv .2 ∙ twice-here (numberAt (a .heads .now)) (length (a .heads .now)) (l .i) (omega arith) (sym (c .before .again .ensures) ∙ c .if1 .taken))
 
--- src/serve.rt:188:9
 add-i : tie.Need-add-i Inv-loop μ-loop
 add-i c = omega arith
 
--- src/serve.rt:188:5
 loop-less : tie.Need-loop-less Inv-loop μ-loop
 loop-less c = omega arith
 
--- src/serve.rt:188:5
 loop-again : tie.Need-loop-again Inv-loop μ-loop
 loop-again c =
     let l = c .before .before .before .loop in
@@ -53,7 +44,6 @@ loop-again c =
       l .inv .2 ∙ twice-later (numberAt (a .heads .now)) (length (a .heads .now)) (l .i) (omega arith) (sym (c .before .again .ensures) ∙ c .if1 .left),
     )
 
--- src/serve.rt:185:1
 returns-2 : tie.Need-returns-2 Inv-loop μ-loop
 returns-2 c =
     let l = c .before .loop in

@@ -2,30 +2,22 @@ use native.Mathlib.Omega.{arith}
 use Rattle.c_lent.proofs.ServeReasons.{none, many, no-table, no-text, no-write, all-but}
 use Rattle.c_lent.proofs.serve.one_for_each.Statement.{statement}
 use Rattle.c_lent.proofs.serve.one_for_each.Tie as tie
-use Rattle.c_lent.proofs.serve.one_for_each.Reads as reads
-use Rattle.c_lent.proofs.serve.one_for_each.Lts as lts
 
--- src/serve.rt:216:9
 returns : tie.Need-returns
 returns c = let a = c .before .args in none (a .n) (a .tables) (a .texts) (a .writes) (a .answers) (c .if1 .taken)
 
--- src/serve.rt:219:9
 returns-2 : tie.Need-returns-2
 returns-2 c = let a = c .before .before .args in many (a .n) (a .tables) (a .texts) (a .writes) (a .answers) (c .if2 .taken)
 
--- src/serve.rt:222:9
 returns-3 : tie.Need-returns-3
 returns-3 c = let a = c .before .before .before .args in no-table (a .n) (a .tables) (a .texts) (a .writes) (a .answers) (c .if3 .taken)
 
--- src/serve.rt:225:9
 returns-4 : tie.Need-returns-4
 returns-4 c = let a = c .before .before .before .before .args in no-text (a .n) (a .tables) (a .texts) (a .writes) (a .answers) (c .if4 .taken)
 
--- src/serve.rt:228:9
 returns-5 : tie.Need-returns-5
 returns-5 c = let a = c .before .before .before .before .before .args in no-write (a .n) (a .tables) (a .texts) (a .writes) (a .answers) (c .if5 .taken)
 
--- src/serve.rt:212:1
 returns-6 : tie.Need-returns-6
 returns-6 c = let a = c .before .before .before .before .before .args in all-but (a .n) (a .tables) (a .texts) (a .writes) (a .answers) (omega arith) (omega arith) (c .before .before .if3 .left) (c .before .if4 .left) (c .if5 .left)
 

@@ -4,38 +4,27 @@ use Rattle.c_lent.proofs.ServeReasons.{not-each, not-whole, two-same, n
 use borrow.Author.Needs.{needs}
 use Rattle.c_lent.proofs.serve.reason.Statement.{statement}
 use Rattle.c_lent.proofs.serve.reason.Tie as tie
-use Rattle.c_lent.proofs.serve.reason.Reads as reads
-use Rattle.c_lent.proofs.serve.reason.Lts as lts
-use Rattle.c_lent.proofs.serve.adds_up.Reads as adds-up-reads
-use Rattle.c_lent.proofs.serve.listed_twice.Reads as listed-twice-reads
-use Rattle.c_lent.proofs.serve.one_for_each.Reads as one-for-each-reads
 
--- src/serve.rt:244:9
 one-for-each-requires : tie.Need-one-for-each-requires
 one-for-each-requires c κs = search needs
 
--- src/serve.rt:245:9
 returns : tie.Need-returns
 returns c =
     let a = c .before .before .args in
     not-each (a .heads .now) (a .tables) (a .texts) (a .writes .now) (a .answers) (a .bytes) (sym (c .before .one-for-each .ensures) ∙ not-true _ (c .if1 .taken))
 
--- src/serve.rt:247:9
 adds-up-requires : tie.Need-adds-up-requires
 adds-up-requires c κs = search needs
 
--- src/serve.rt:248:9
 returns-2 : tie.Need-returns-2
 returns-2 c =
     let e = c .before .before in
     let a = e .before .before .args in
     not-whole (a .heads .now) (a .tables) (a .texts) (a .writes .now) (a .answers) (a .bytes) (sym (e .before .one-for-each .ensures) ∙ not-false _ (e .if1 .left)) (sym (c .before .adds-up .ensures) ∙ not-true _ (c .if2 .taken))
 
--- src/serve.rt:250:8
 listed-twice-requires : tie.Need-listed-twice-requires
 listed-twice-requires c κs = search needs
 
--- src/serve.rt:251:9
 returns-3 : tie.Need-returns-3
 returns-3 c =
     let w = c .before .before in
@@ -44,7 +33,6 @@ returns-3 c =
     two-same (a .heads .now) (a .tables) (a .texts) (a .writes .now) (a .answers) (a .bytes) (sym (e .before .one-for-each .ensures) ∙ not-false _ (e .if1 .left))
     (sym (w .before .adds-up .ensures) ∙ not-false _ (w .if2 .left)) (sym (c .before .listed-twice .ensures) ∙ c .if3 .taken)
 
--- src/serve.rt:234:1
 returns-4 : tie.Need-returns-4
 returns-4 c =
     let w = c .before .before in

@@ -1,4 +1,4 @@
-use mathlib.Core.Path.{_≡_, refl, sym, _∙_}
+use mathlib.Core.Path.{refl, sym, _∙_}
 use native.Mathlib.Omega.{arith}
 use lib.ListN.{length}
 use Rattle.c_lent.specs.Numbers.{sharedAs}
@@ -8,12 +8,6 @@ use Rattle.c_lent.proofs.Serves.{serve-refused, serve-done}
 use borrow.Author.Needs.{needs}
 use Rattle.c_lent.proofs.serve.serve.Statement.{statement}
 use Rattle.c_lent.proofs.serve.serve.Tie as tie
-use Rattle.c_lent.proofs.serve.serve.Reads as reads
-use Rattle.c_lent.proofs.serve.serve.Lts as lts
-use Rattle.c_lent.proofs.serve.all_rounds.Reads as all-rounds-reads
-use Rattle.c_lent.proofs.turn.begin_all.Reads as begin-all-reads
-use Rattle.c_lent.proofs.serve.most_rounds.Reads as most-rounds-reads
-use Rattle.c_lent.proofs.serve.reason.Reads as reason-reads
 
 -- the way back, call by call
 abbrev rounded : tie.After-all-rounds → tie.After-most-rounds
@@ -36,34 +30,28 @@ each c =
     is-each (a .heads .now) (a .tables .now) (a .texts .now) (a .answers .now) (a .writes .now) (a .bytes .now)
     (sym (c .if1 .left) ∙ c .before .reason .ensures)
 
--- src/serve.rt:261:9
 reason-requires : tie.Need-reason-requires
 reason-requires c κs = search needs
 
--- src/serve.rt:263:9
 same-length : tie.Need-same-length
 same-length c = search needs
 
--- src/serve.rt:263:9
 returns : tie.Need-returns
 returns c =
     let a = start (c .before) .args in
     serve-refused (commonLent (a .image .now) (sharedAs (a .shared .now) (a .taken .now))) (a .heads .now) (a .tables .now) (a .texts .now) (a .answers .now) (a .writes .now) (a .bytes .now) (c .before .reason .result) (c .before .reason .ensures) (c .if1 .taken)
 
--- src/serve.rt:265:5
 begin-all-requires : tie.Need-begin-all-requires
 begin-all-requires c κs =
     let x = each (c .before .before .before .before .before .before .before) in
     (x .tables-are, x .texts-are, x .answers-are, x .writes-are, x .bytes-are)
 
--- src/serve.rt:266:9
 most-rounds-requires : tie.Need-most-rounds-requires
 most-rounds-requires c κs =
     let x = each (passed (begun c)) in
     let h = c .before .before .before .heads .given in
     (omega (arith, x .least, h), omega (arith, x .most, h))
 
--- src/serve.rt:267:5
 all-rounds-requires : tie.Need-all-rounds-requires
 all-rounds-requires c κs =
     let n = c .before .before .before .before .before .before .before .before in
@@ -74,27 +62,21 @@ all-rounds-requires c κs =
       λ i k g. begun n .begin-all .ensures .1 i (omega (arith, h, k)) g,
     )
 
--- src/serve.rt:245:1
 same-length-2 : tie.Need-same-length-2
 same-length-2 c = search needs
 
--- src/serve.rt:245:1
 same-length-3 : tie.Need-same-length-3
 same-length-3 c = search needs
 
--- src/serve.rt:245:1
 same-length-4 : tie.Need-same-length-4
 same-length-4 c = search needs
 
--- src/serve.rt:245:1
 same-length-5 : tie.Need-same-length-5
 same-length-5 c = search needs
 
--- src/serve.rt:245:1
 same-length-6 : tie.Need-same-length-6
 same-length-6 c = search needs
 
--- src/serve.rt:245:1
 returns-2 : tie.Need-returns-2
 returns-2 c =
     let y = c .before .before .before .before .before .before in

@@ -7,15 +7,12 @@ use Rattle.words.specs.Logic.{listFrom}
 use Rattle.points.specs.Serving.{inTurn}
 use Rattle.c_lent.specs.Numbers.{sharedAs}
 use Rattle.c_lent.specs.Batch.{Lengths, AllReady}
-use Rattle.c_lent.specs.Serving.{commonLent, turnLeft, listed, listedAt, asking, askingAt, startAt, beginTurnFor}
+use Rattle.c_lent.specs.Serving.{commonLent, turnLeft, listedAt, asking, askingAt, startAt, beginTurnFor}
 use Rattle.c_lent.proofs.InTurn.{Reached, reached-start, reached-end}
 use Rattle.c_lent.proofs.BeginReady.{begin-good-next}
 use Rattle.c_lent.proofs.Turns.{lengths-set, starts-up, start-next, text-part, begin-next}
 use Rattle.c_lent.proofs.turn.begin_all.Statement.{statement}
 use Rattle.c_lent.proofs.turn.begin_all.Tie as tie
-use Rattle.c_lent.proofs.turn.begin_all.Reads as reads
-use Rattle.c_lent.proofs.turn.begin_all.Lts as lts
-use Rattle.c_lent.proofs.turn.begin_turn.Reads as begin-turn-reads
 
 abbrev Inv-loop : tie.InvT-loop
 Inv-loop image shared₀ taken₀ heads₀ tables₀ texts₀ answers₀ writes bytes start₀ i₀ i-end shared taken heads tables texts answers start i =
@@ -31,7 +28,6 @@ abbrev μ-loop : tie.MeasureT-loop
 μ-loop image shared₀ taken₀ heads₀ tables₀ texts₀ answers₀ writes bytes start₀ i₀ i-end shared taken heads tables texts answers start i =
     length heads₀ - i
 
--- src/serve.rt:66:5
 loop-holds : tie.Need-loop-holds Inv-loop μ-loop
 loop-holds c =
     let s = c .before .before in
@@ -44,19 +40,15 @@ loop-holds c =
       λ j l g. absurd (omega arith),
     )
 
--- src/serve.rt:67:27
 mul-end : tie.Need-mul-end Inv-loop μ-loop
 mul-end c = omega arith
 
--- src/serve.rt:67:27
 index-1-end : tie.Need-index-1-end Inv-loop μ-loop
 index-1-end c = omega arith
 
--- src/serve.rt:67:27
 index-2-end : tie.Need-index-2-end Inv-loop μ-loop
 index-2-end c = omega arith
 
--- src/serve.rt:67:19
 add-end : tie.Need-add-end Inv-loop μ-loop
 add-end c =
     let l = c .before .before .loop in
@@ -64,55 +56,42 @@ add-end c =
     let up = starts-up (s .args .writes .now) (l .i) (length (s .args .heads .now)) (omega arith) in
     omega (arith, s .pre .4)
 
--- src/serve.rt:72:13
 mul-begin-turn : tie.Need-mul-begin-turn Inv-loop μ-loop
 mul-begin-turn c = omega arith
 
--- src/serve.rt:72:13
 index-1-begin-turn : tie.Need-index-1-begin-turn Inv-loop μ-loop
 index-1-begin-turn c = omega arith
 
--- src/serve.rt:73:13
 mul-begin-turn-2 : tie.Need-mul-begin-turn-2 Inv-loop μ-loop
 mul-begin-turn-2 c = omega arith
 
--- src/serve.rt:73:13
 index-1-begin-turn-2 : tie.Need-index-1-begin-turn-2 Inv-loop μ-loop
 index-1-begin-turn-2 c = omega arith
 
--- src/serve.rt:74:13
 mul-begin-turn-3 : tie.Need-mul-begin-turn-3 Inv-loop μ-loop
 mul-begin-turn-3 c = omega arith
 
--- src/serve.rt:74:13
 index-1-begin-turn-3 : tie.Need-index-1-begin-turn-3 Inv-loop μ-loop
 index-1-begin-turn-3 c = omega arith
 
--- src/serve.rt:75:13
 mul-begin-turn-4 : tie.Need-mul-begin-turn-4 Inv-loop μ-loop
 mul-begin-turn-4 c = omega arith
 
--- src/serve.rt:75:13
 index-1-begin-turn-4 : tie.Need-index-1-begin-turn-4 Inv-loop μ-loop
 index-1-begin-turn-4 c = omega arith
 
--- src/serve.rt:76:13
 mul-begin-turn-5 : tie.Need-mul-begin-turn-5 Inv-loop μ-loop
 mul-begin-turn-5 c = omega arith
 
--- src/serve.rt:76:13
 index-1-begin-turn-5 : tie.Need-index-1-begin-turn-5 Inv-loop μ-loop
 index-1-begin-turn-5 c = omega arith
 
--- src/serve.rt:76:13
 index-2-begin-turn : tie.Need-index-2-begin-turn Inv-loop μ-loop
 index-2-begin-turn c = omega arith
 
--- src/serve.rt:77:13
 sub-begin-turn : tie.Need-sub-begin-turn Inv-loop μ-loop
 sub-begin-turn c = omega arith
 
--- src/serve.rt:77:13
 part-begin-turn-start : tie.Need-part-begin-turn-start Inv-loop μ-loop
 part-begin-turn-start c =
     let l = c .before .before .before .before .before .before .before .before .before .loop in
@@ -120,7 +99,6 @@ part-begin-turn-start c =
     let up = starts-up (s .args .writes .now) (l .i) (length (s .args .heads .now)) (omega arith) in
     omega (arith, s .pre .4)
 
--- src/serve.rt:77:13
 part-begin-turn-end : tie.Need-part-begin-turn-end Inv-loop μ-loop
 part-begin-turn-end c =
     let l = c .before .before .before .before .before .before .before .before .before .loop in
@@ -128,19 +106,15 @@ part-begin-turn-end c =
     let up = starts-up (s .args .writes .now) (l .i) (length (s .args .heads .now)) (omega arith) in
     omega (arith, s .pre .4)
 
--- src/serve.rt:68:9
 begin-turn-requires : tie.Need-begin-turn-requires Inv-loop μ-loop
 begin-turn-requires c κs = search needs
 
--- src/serve.rt:66:9
 add-i : tie.Need-add-i Inv-loop μ-loop
 add-i c = omega arith
 
--- src/serve.rt:66:5
 loop-less : tie.Need-loop-less Inv-loop μ-loop
 loop-less c = omega arith
 
--- src/serve.rt:66:5
 loop-again : tie.Need-loop-again Inv-loop μ-loop
 loop-again c =
     let l = c .before .before .before .before .before .before .before .before .before .before .before .loop in
@@ -154,23 +128,18 @@ loop-again c =
       begin-good-next _ _ (l .heads) (l .tables) (l .texts) (l .answers) _ _ _ _ _ (l .i) _ (l .inv .3) (omega arith) (l .inv .5) (c .begin-turn .ensures),
     )
 
--- src/serve.rt:48:1
 same-length : tie.Need-same-length Inv-loop μ-loop
 same-length c = c .before .loop .inv .3 .0
 
--- src/serve.rt:48:1
 same-length-2 : tie.Need-same-length-2 Inv-loop μ-loop
 same-length-2 c = c .before .loop .inv .3 .1 ∙ sym (c .before .before .before .before .pre .0)
 
--- src/serve.rt:48:1
 same-length-3 : tie.Need-same-length-3 Inv-loop μ-loop
 same-length-3 c = c .before .loop .inv .3 .2 ∙ sym (c .before .before .before .before .pre .1)
 
--- src/serve.rt:48:1
 same-length-4 : tie.Need-same-length-4 Inv-loop μ-loop
 same-length-4 c = c .before .loop .inv .3 .3 ∙ sym (c .before .before .before .before .pre .2)
 
--- src/serve.rt:48:1
 returns : tie.Need-returns Inv-loop μ-loop
 returns c =
     let l = c .before .loop in

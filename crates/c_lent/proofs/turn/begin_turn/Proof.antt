@@ -5,20 +5,13 @@ use Rattle.c_lent.proofs.Turns.{turn-begun}
 use borrow.Author.Needs.{needs}
 use Rattle.c_lent.proofs.turn.begin_turn.Statement.{statement}
 use Rattle.c_lent.proofs.turn.begin_turn.Tie as tie
-use Rattle.c_lent.proofs.turn.begin_turn.Reads as reads
-use Rattle.c_lent.proofs.turn.begin_turn.Lts as lts
-use Rattle.c_lent.proofs.begin.Reads as begin-reads
-use Rattle.c_lent.proofs.turn.begun_answer.Reads as begun-answer-reads
 
--- src/serve.rt:43:9
 begin-requires : tie.Need-begin-requires
 begin-requires c κs = search needs
 
--- src/serve.rt:44:15
 begun-answer-requires : tie.Need-begun-answer-requires
 begun-answer-requires c κs = search needs
 
--- src/serve.rt:27:1
 returns : tie.Need-returns
 returns c =
     let b = c .before .begin in

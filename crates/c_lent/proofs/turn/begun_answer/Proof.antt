@@ -2,14 +2,10 @@ use Rattle.c_lent.proofs.Turns.{refused-answer}
 use borrow.Author.Needs.{needs}
 use Rattle.c_lent.proofs.turn.begun_answer.Statement.{statement}
 use Rattle.c_lent.proofs.turn.begun_answer.Tie as tie
-use Rattle.c_lent.proofs.turn.begun_answer.Reads as reads
-use Rattle.c_lent.proofs.turn.begun_answer.Lts as lts
 
--- src/serve.rt:21:9
 returns : tie.Need-returns
 returns c = search needs
 
--- src/serve.rt:17:1
 returns-2 : tie.Need-returns-2
 returns-2 c = refused-answer (c .before .args .refused) (λ e. search needs)
 

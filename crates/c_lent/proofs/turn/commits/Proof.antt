@@ -3,39 +3,27 @@ use borrow.Author.Tests.{not-true, not-false}
 use Rattle.c_lent.proofs.Lean.{commits-done, commits-not}
 use Rattle.c_lent.proofs.turn.commits.Statement.{statement}
 use Rattle.c_lent.proofs.turn.commits.Tie as tie
-use Rattle.c_lent.proofs.turn.commits.Reads as reads
-use Rattle.c_lent.proofs.turn.commits.Lts as lts
-use Rattle.c_lent.proofs.numbers.head.Reads as head-reads
-use Rattle.c_lent.proofs.numbers.of_head.Reads as of-head-reads
-use Rattle.points.proofs.serve.commit_by_head.Reads as commit-by-head-reads
 
--- src/serve.rt:127:9
 head-requires : tie.Need-head-requires
 head-requires c κs = c .before .before .before .before .pre
 
--- src/serve.rt:124:9
 commit-by-head-requires : tie.Need-commit-by-head-requires
 commit-by-head-requires c κs = search needs
 
--- src/serve.rt:132:9
 same-length : tie.Need-same-length
 same-length c = search needs
 
--- src/serve.rt:132:9
 returns : tie.Need-returns
 returns c =
     let y = c .before .before .before .before in
     commits-not (y .before .before .before .head .ensures) (y .commit-by-head .ensures) (not-true _ (c .if1 .taken))
 
--- src/serve.rt:135:13
 of-head-requires : tie.Need-of-head-requires
 of-head-requires c κs = search needs
 
--- src/serve.rt:113:1
 same-length-2 : tie.Need-same-length-2
 same-length-2 c = search needs
 
--- src/serve.rt:113:1
 returns-2 : tie.Need-returns-2
 returns-2 c =
     let t = c .before .before in

@@ -9,11 +9,6 @@ use Rattle.c_lent.specs.Batch.{MovesOn, CommitsOn}
 use Rattle.c_lent.proofs.Lean.{known, known-then, then-commits, then-steps}
 use Rattle.c_lent.proofs.turn.ready_step.Statement.{statement}
 use Rattle.c_lent.proofs.turn.ready_step.Tie as tie
-use Rattle.c_lent.proofs.turn.ready_step.Reads as reads
-use Rattle.c_lent.proofs.turn.ready_step.Lts as lts
-use Rattle.c_lent.proofs.turn.commits.Reads as commits-reads
-use Rattle.c_lent.proofs.turn.moves_on.Reads as moves-on-reads
-use Rattle.c_lent.proofs.step.Reads as step-reads
 
 -- the way back, call by call
 abbrev start : tie.After-moves-on → tie.Start
@@ -45,48 +40,38 @@ tried c done e =
     subst (λ (b : Bool). CommitsOn (a .image .now) (a .taken .now) (m .1 .0) (m .1 .1 .0) (a .text .now) b (k .0) (k .1 .0) (k .1 .1 .0) (k .1 .1 .1 .0)
     (k .1 .1 .1 .1 .0)) e (c .commits .ensures)
 
--- src/serve.rt:156:8
 moves-on-requires : tie.Need-moves-on-requires
 moves-on-requires c κs = known (c .before .before .before .before .before .pre)
 
--- src/serve.rt:157:9
 same-length : tie.Need-same-length
 same-length c = search needs
 
--- src/serve.rt:157:9
 returns : tie.Need-returns
 returns c a g =
     let y = c .before in
     y .moves-on .ensures .moved (c .if1 .taken) (start y .args .taken .now) (start y .args .text .now) a (start y .pre) g
 
--- src/serve.rt:159:19
 element-copy-out-retries : tie.Need-element-copy-out-retries
 element-copy-out-retries c = search needs
 
--- src/serve.rt:160:8
 commits-requires : tie.Need-commits-requires
 commits-requires c κs = let t = c .before .before .before .before .before .before in known-then (start (t .before) .pre) (0 ∷ []) refl (stands t)
 
--- src/serve.rt:161:9
 same-length-2 : tie.Need-same-length-2
 same-length-2 c = search needs
 
--- src/serve.rt:161:9
 returns-2 : tie.Need-returns-2
 returns-2 c a g =
     let y = c .before .before .before in
     let t = moved y in
     then-commits (start (t .before) .pre) a g (stands t) (tried y true (c .if2 .taken)) _ refl
 
--- src/serve.rt:163:9
 step-requires : tie.Need-step-requires
 step-requires c κs = search needs
 
--- src/serve.rt:140:1
 same-length-3 : tie.Need-same-length-3
 same-length-3 c = search needs
 
--- src/serve.rt:140:1
 returns-3 : tie.Need-returns-3
 returns-3 c a g =
     let z = c .before .before in

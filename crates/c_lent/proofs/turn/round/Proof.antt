@@ -2,7 +2,6 @@ use mathlib.Core.Path.{_≡_, refl, sym, ap, _∙_}
 use Prim.Native.Nat.{ℕ, _≤_, _-_}
 use native.Mathlib.Omega.{arith}
 use lib.ListN.{length}
-use borrow.Author.Needs.{needs}
 use Rattle.points.specs.Serving.{inTurn}
 use Rattle.c_lent.specs.Numbers.{sharedAs}
 use Rattle.c_lent.specs.Batch.{Lengths, AllReady}
@@ -14,9 +13,6 @@ use Rattle.c_lent.proofs.PlainRounds.{round-good}
 use Rattle.c_lent.proofs.Lean.{any-answer}
 use Rattle.c_lent.proofs.turn.round.Statement.{statement}
 use Rattle.c_lent.proofs.turn.round.Tie as tie
-use Rattle.c_lent.proofs.turn.round.Reads as reads
-use Rattle.c_lent.proofs.turn.round.Lts as lts
-use Rattle.c_lent.proofs.turn.turn.Reads as turn-reads
 
 abbrev Inv-loop : tie.InvT-loop
 Inv-loop image₀ shared₀ taken₀ heads₀ tables₀ texts₀ answers₀ bytes₀ i₀ i-end image shared taken heads tables texts answers bytes i =
@@ -32,7 +28,6 @@ abbrev μ-loop : tie.MeasureT-loop
 μ-loop image₀ shared₀ taken₀ heads₀ tables₀ texts₀ answers₀ bytes₀ i₀ i-end image shared taken heads tables texts answers bytes i =
     length heads₀ - i
 
--- src/serve.rt:54:5
 loop-holds : tie.Need-loop-holds Inv-loop μ-loop
 loop-holds c =
     let a = c .before .args in (
@@ -44,51 +39,39 @@ loop-holds c =
       c .before .pre .1,
     )
 
--- src/serve.rt:55:36
 mul-turn : tie.Need-mul-turn Inv-loop μ-loop
 mul-turn c = omega arith
 
--- src/serve.rt:55:36
 index-1-turn : tie.Need-index-1-turn Inv-loop μ-loop
 index-1-turn c = omega arith
 
--- src/serve.rt:55:51
 mul-turn-2 : tie.Need-mul-turn-2 Inv-loop μ-loop
 mul-turn-2 c = omega arith
 
--- src/serve.rt:55:51
 index-1-turn-2 : tie.Need-index-1-turn-2 Inv-loop μ-loop
 index-1-turn-2 c = omega arith
 
--- src/serve.rt:55:67
 mul-turn-3 : tie.Need-mul-turn-3 Inv-loop μ-loop
 mul-turn-3 c = omega arith
 
--- src/serve.rt:55:67
 index-1-turn-3 : tie.Need-index-1-turn-3 Inv-loop μ-loop
 index-1-turn-3 c = omega arith
 
--- src/serve.rt:55:82
 mul-turn-4 : tie.Need-mul-turn-4 Inv-loop μ-loop
 mul-turn-4 c = omega arith
 
--- src/serve.rt:55:82
 index-1-turn-4 : tie.Need-index-1-turn-4 Inv-loop μ-loop
 index-1-turn-4 c = omega arith
 
--- src/serve.rt:55:9
 turn-requires : tie.Need-turn-requires Inv-loop μ-loop
 turn-requires c κs g = let l = c .before .before .before .before .before .before .before .before .before .loop in any-answer (l .inv .5 (l .i) (omega arith) g)
 
--- src/serve.rt:54:9
 add-i : tie.Need-add-i Inv-loop μ-loop
 add-i c = omega arith
 
--- src/serve.rt:54:5
 loop-less : tie.Need-loop-less Inv-loop μ-loop
 loop-less c = omega arith
 
--- src/serve.rt:54:5
 loop-again : tie.Need-loop-again Inv-loop μ-loop
 loop-again c =
     let y = c .before .before in
@@ -102,27 +85,21 @@ loop-again c =
       round-good _ _ (l .heads) (l .tables) (l .texts) (l .answers) _ _ _ _ _ (l .i) (l .inv .3) (omega arith) (l .inv .5) (y .turn .ensures),
     )
 
--- src/serve.rt:38:1
 same-length : tie.Need-same-length Inv-loop μ-loop
 same-length c = c .before .loop .inv .1
 
--- src/serve.rt:38:1
 same-length-2 : tie.Need-same-length-2 Inv-loop μ-loop
 same-length-2 c = c .before .loop .inv .3 .0
 
--- src/serve.rt:38:1
 same-length-3 : tie.Need-same-length-3 Inv-loop μ-loop
 same-length-3 c = c .before .loop .inv .3 .1 ∙ sym (c .before .before .before .pre .0 .1)
 
--- src/serve.rt:38:1
 same-length-4 : tie.Need-same-length-4 Inv-loop μ-loop
 same-length-4 c = c .before .loop .inv .3 .2 ∙ sym (c .before .before .before .pre .0 .2)
 
--- src/serve.rt:38:1
 same-length-5 : tie.Need-same-length-5 Inv-loop μ-loop
 same-length-5 c = c .before .loop .inv .3 .3 ∙ sym (c .before .before .before .pre .0 .3)
 
--- src/serve.rt:38:1
 returns : tie.Need-returns Inv-loop μ-loop
 returns c =
     let l = c .before .loop in (

@@ -4,35 +4,25 @@ use Rattle.c_lent.specs.Numbers.{sharedLent, pointLent}
 use Rattle.c_lent.proofs.Turns.{turn-off}
 use Rattle.c_lent.proofs.turn.turn.Statement.{statement}
 use Rattle.c_lent.proofs.turn.turn.Tie as tie
-use Rattle.c_lent.proofs.turn.turn.Reads as reads
-use Rattle.c_lent.proofs.turn.turn.Lts as lts
-use Rattle.c_lent.proofs.turn.goes_on.Reads as goes-on-reads
-use Rattle.c_lent.proofs.turn.ready_step.Reads as ready-step-reads
 
--- src/serve.rt:184:16
 element-copy-out-goes-on : tie.Need-element-copy-out-goes-on
 element-copy-out-goes-on c = search needs
 
--- src/serve.rt:184:8
 goes-on-requires : tie.Need-goes-on-requires
 goes-on-requires c κs = search needs
 
--- src/serve.rt:185:19
 ready-step-requires : tie.Need-ready-step-requires
 ready-step-requires c κs = let t = c .before .before .before .before .before .before .before in t .before .before .before .before .pre (sym (t .before .goes-on .ensures) ∙ t .if1 .taken)
 
--- src/serve.rt:168:1
 same-length : tie.Need-same-length
 same-length c = search needs
 
--- src/serve.rt:168:1
 returns : tie.Need-returns
 returns c =
     let y = c .before .before in
     let t = y .before .before .before .before .before .before .before .before in
     y .ready-step .ensures (t .before .before .before .before .args .answer .now) (sym (t .before .goes-on .ensures) ∙ t .if1 .taken)
 
--- src/serve.rt:168:1
 returns-2 : tie.Need-returns-2
 returns-2 c =
     let a = c .before .before .before .before .args in
