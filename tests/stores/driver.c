@@ -37,7 +37,7 @@ int main(int count, char **arguments)
         run_directed();
         run_honest();
         run_hostile(runs);
-        run_served(runs, 8);
+        run_served(runs, 5);
     }
     end_trace();
     return 0;

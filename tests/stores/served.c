@@ -132,9 +132,8 @@ void run_served(size_t runs, size_t all)
 {
     refused_lists();
     honest_lists(all);
-    for (size_t shift = 0; shift < SHIFTS; shift++)
-        lists_apart(1, shift);
-    lists_apart(3, 1);
+    lists_apart(1, 0);
+    lists_apart(1, 1);
     lists_apart(all, 2);
     for (size_t i = 0; i < runs / 2; i++) {
         size_t blocks = 6 + below(14);
