@@ -3,3 +3,6 @@
 pub mod Back
 pub mod Told
 pub mod Served
+pub mod Related
+pub mod Turns
+pub mod Serves

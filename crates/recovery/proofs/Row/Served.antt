@@ -174,7 +174,7 @@ together-points v [] (x ∷ xs) g = absurd g
 together-points v (t ∷ ts) [] g = absurd g
 
 module _ (E : Edition) (words : List ℕ) (s : Shared) (ps : List Point) (qs : List Request) where
-  abbrev refusal : ℕ
+  abbrev pub refusal : ℕ
   refusal = serveRefusal (pointNumbers ps) (length qs)
 
   abbrev first : Common
@@ -183,17 +183,17 @@ module _ (E : Edition) (words : List ℕ) (s : Shared) (ps : List Point) (qs : L
   abbrev after : Turned Common (List Listed)
   after = row (beginTurn E) (stepTurn E) (serveRounds E (length ps)) first (asking ps qs)
 
-  abbrev served : Service
+  abbrev pub served : Service
   served = record { reply = Done; common = after .common; points = pointsOf (after .own); lasts = lastsOf (after .own) }
 
-  abbrev stopped : ℕ → Service
+  abbrev pub stopped : ℕ → Service
   stopped n = record { reply = Refused (suc n); common = first; points = ps; lasts = [] }
 
-  is-served : refusal ≡ 0 → serving E words s ps qs ≡ served
+  pub is-served : refusal ≡ 0 → serving E words s ps qs ≡ served
   unfolding serving
   is-served e = chosen-zero refusal served stopped e
 
-  is-stopped : (n : ℕ) → refusal ≡ suc n → serving E words s ps qs ≡ stopped n
+  pub is-stopped : (n : ℕ) → refusal ≡ suc n → serving E words s ps qs ≡ stopped n
   unfolding serving
   is-stopped n e = chosen-suc refusal n served stopped e
 
