@@ -5,7 +5,7 @@ use native.Mathlib.Omega.{arith}
 use mathlib.Core.Path.{_≡_, refl, sym, ap, _∙_, subst}
 use mathlib.Core.Logic.{_≢_}
 use mathlib.Core.Bool.{Bool, true, false, _&&_, _||_, not}
-use mathlib.Core.List.{List, [], _∷_, map}
+use mathlib.Core.List.{List, [], _∷_}
 use lib.ListN.{length, getD}
 use lib.Dec.{leb, eqb}
 use borrow.Author.Tests.{eq-eqb, eqb-true}
@@ -14,17 +14,16 @@ use Rattle.words.specs.Logic.{between, all-of, every, listFrom, first, _when_}
 use Rattle.words.proofs.Logic.{and-left, and-right, every-all, length-listFrom}
 use Rattle.words.proofs.Choice.{chosen-zero, chosen-suc}
 use Rattle.points.specs.declared.Point.{Point}
-use Rattle.points.specs.Serving.{Turned, Common, Listed, asking, beginTurn, stepTurn, row, serveRounds, twice, serveRefusal, pointNumbers, pointsOf, lastsOf, Service}
-use Rattle.recovery.specs.Served.{ServeServed}
+use Rattle.points.specs.Serving.{Turned, Request, Common, Listed, asking, beginTurn, stepTurn, row, serveRounds, twice, serveRefusal, pointNumbers, lastsOf}
+use Rattle.points.proofs.Alike.{Pairs, Alike}
 use Rattle.recovery.proofs.Row.Served.{is-served, is-stopped, serve-served}
 use Rattle.c_lent.specs.Numbers.{sharedIn, isKnown}
 use Rattle.c_lent.specs.Serving.{CommonLent, ListedLent, askingAt, beginTurnFor, stepTurnFor, numberAt, startAt, Lent, oneForEach, serveReason}
 use Rattle.c_lent.specs.Serving.{ServeLeft, serveLeft, listsOf, serveFor}
 use Rattle.c_lent.specs.Serving as lent
 use Rattle.c_lent.proofs.ServeReasons.{not-each, not-whole}
-use Rattle.c_served.specs.Served.{pointAt, pointsIn, requestAt, requestsIn, lastNumbers, commonIn, serviceFrom, ServeServedAs, ServeServedFor}
-use Rattle.c_served.proofs.Related.{Pairs, Alike}
-use Rattle.c_served.proofs.Turns.{SameCommon, SameAsking, SameListed, rows-alike, asking-pairs, heads-known, answers-same, points-same}
+use Rattle.c_served.specs.Served.{pointAt, pointsIn, requestAt, requestsIn, commonIn, ServeServedAs, ServeServedFor}
+use Rattle.c_served.proofs.Turns.{SameCommon, SameListed, rows-alike, asking-pairs, heads-known, answers-same, points-same}
 
 all-at : (p : List ℕ → Bool) (xs : List (List ℕ)) (i : ℕ) → all-of p xs ≡ true → i < length xs → p (getD xs i []) ≡ true
 all-at p [] i a l = absurd (omega arith)
@@ -76,9 +75,13 @@ module _ (heads tables texts answers writes : List (List ℕ)) (bytes : List ℕ
   unfolding oneForEach
   is-lent e f =
       let ts = every-all _ e in
-      let w : length writes ≡ n = eqb-true _ _ (ts .1 .1 .1 .1 .0) in
-      (eqb-true _ _ (ts .1 .1 .0), eqb-true _ _ (ts .1 .1 .1 .0), eqb-true _ _ (ts .1 .1 .1 .1 .1 .0), w,
-      sym (ap (startAt writes) w) ∙ eqb-true (startAt writes (length writes)) (length bytes) f)
+      let w : length writes ≡ n = eqb-true _ _ (ts .1 .1 .1 .1 .0) in (
+        eqb-true _ _ (ts .1 .1 .0),
+        eqb-true _ _ (ts .1 .1 .1 .0),
+        eqb-true _ _ (ts .1 .1 .1 .1 .1 .0),
+        w,
+        sym (ap (startAt writes) w) ∙ eqb-true (startAt writes (length writes)) (length bytes) f,
+      )
 
   not-lent : (Lent heads tables texts answers writes bytes → ⊥) → why ≡ 26
   not-lent never = go _ refl _ refl
@@ -91,14 +94,24 @@ module _ (heads tables texts answers writes : List (List ℕ)) (bytes : List ℕ
 
   -- ---- the call
 
-  module _ (c : CommonLent) where
-    abbrev after : Turned CommonLent (List ListedLent)
-    after = row beginTurnFor stepTurnFor (serveRounds one n) c (lent.asking heads tables texts writes bytes)
+  abbrev points : List Point
+  points = pointsIn heads tables texts
 
+  abbrev requests : List Request
+  requests = requestsIn writes bytes
+
+  module _ (c : CommonLent) where
     abbrev left : ServeLeft
     left = serveFor c heads tables texts answers writes bytes
 
-    is-row : why ≡ 0 → left ≡ listsOf (after .common) (after .own)
+    -- the row in numbers, and that of the records
+    abbrev numbers : Turned CommonLent (List ListedLent)
+    numbers = row beginTurnFor stepTurnFor (serveRounds one n) c (lent.asking heads tables texts writes bytes)
+
+    abbrev records : Turned Common (List Listed)
+    records = row (beginTurn one) (stepTurn one) (serveRounds one (length points)) (commonIn c) (asking points requests)
+
+    is-row : why ≡ 0 → left ≡ listsOf (numbers .common) (numbers .own)
     unfolding serveFor
     is-row e = chosen-zero why _ _ e
 
@@ -106,57 +119,51 @@ module _ (heads tables texts answers writes : List (List ℕ)) (bytes : List ℕ
     unfolding serveFor
     is-refused k e = chosen-suc why k _ _ e
 
-    -- the row, of records
-    abbrev records : Turned Common (List Listed)
-    records = row (beginTurn one) (stepTurn one) (serveRounds one (length (pointsIn heads tables texts))) (commonIn c)
-        (asking (pointsIn heads tables texts) (requestsIn writes bytes))
-
-    alike : Lent heads tables texts answers writes bytes → all-of isKnown heads ≡ true → Alike SameCommon (Pairs SameListed) after records
-    alike l known =
-        let many : length (pointsIn heads tables texts) ≡ n = length-listFrom 0 n (pointAt heads tables texts) in
-        rw (many, l .3) (rows-alike (serveRounds one n) c _ _ (asking-pairs 0 n (askingAt heads tables texts writes bytes) (pointAt heads tables texts)
-        (requestAt writes bytes) (λ j a b. record { known = all-at isKnown heads j known (omega arith); same = refl })))
-
-    served-as : Lent heads tables texts answers writes bytes → all-of isKnown heads ≡ true → ServeServedAs c heads tables texts writes bytes left
-    served-as l known = go why refl
-      where
-        ps : List Point
-        ps = pointsIn heads tables texts
-
-        go : (k : ℕ) → why ≡ k → ServeServedAs c heads tables texts writes bytes left
-        go zero e =
-            let a = alike l known in
-            rw (is-row e) (record {
-              lasts = lastsOf (records .own);
-              known = heads-known (after .own) (records .own) (a .own);
-              answers = λ z. answers-same (after .own) (records .own) (a .own);
-              served = serve-served one (c .image) (sharedIn (c .shared)) (pointsIn heads tables texts) (requestsIn writes bytes) _
-                  (rw (a .common, points-same (after .own) (records .own) (a .own))
-                  (sym (is-served one (c .image) (sharedIn (c .shared)) (pointsIn heads tables texts) (requestsIn writes bytes) (sym (same-reason l) ∙ e))));
-            })
-        go (suc k) e = rw (is-refused k e) (record {
-          lasts = [];
-          known = known;
-          answers = λ z. absurd (omega arith);
-          served = serve-served one (c .image) (sharedIn (c .shared)) (pointsIn heads tables texts) (requestsIn writes bytes) _
-              (sym (is-stopped one (c .image) (sharedIn (c .shared)) (pointsIn heads tables texts) (requestsIn writes bytes) k (sym (same-reason l) ∙ e)));
-        })
-
-    unchanged : left .refused ≢ 0 → left ≡ serveLeft (left .refused) c heads tables texts answers
-    unchanged h = go why refl
-      where
-        go : (k : ℕ) → why ≡ k → left ≡ serveLeft (left .refused) c heads tables texts answers
-        go zero e = absurd (h (ap (λ (x : ServeLeft). x .refused) (is-row e)))
-        go (suc k) e = rw (is-refused k e)
-
-    reason-told : left .refused ≡ why
-    reason-told = go why refl
+    refused-why : left .refused ≡ why
+    refused-why = go why refl
       where
         go : (k : ℕ) → why ≡ k → left .refused ≡ why
         go zero e = ap (λ (x : ServeLeft). x .refused) (is-row e) ∙ sym e
         go (suc k) e = ap (λ (x : ServeLeft). x .refused) (is-refused k e) ∙ sym e
 
+    unchanged : left .refused ≢ 0 → left ≡ serveLeft (left .refused) c heads tables texts answers
+    unchanged h = go why refl
+      where
+        go : (k : ℕ) → why ≡ k → left ≡ serveLeft (left .refused) c heads tables texts answers
+        go zero e = absurd (h (refused-why ∙ e))
+        go (suc k) e = rw (is-refused k e)
+
+    module _ (l : Lent heads tables texts answers writes bytes) (known : all-of isKnown heads ≡ true) where
+      alike : Alike SameCommon (Pairs SameListed) numbers records
+      alike =
+          let many : length points ≡ n = length-listFrom 0 n (pointAt heads tables texts) in
+          rw (many, l .3) (rows-alike (serveRounds one n) c _ _ (asking-pairs 0 n (askingAt heads tables texts writes bytes) (pointAt heads tables texts)
+          (requestAt writes bytes) (λ j a b. record { known = all-at isKnown heads j known (omega arith); same = refl })))
+
+      served-as : ServeServedAs c heads tables texts writes bytes left
+      served-as = go why refl
+        where
+          go : (k : ℕ) → why ≡ k → ServeServedAs c heads tables texts writes bytes left
+          go zero e =
+              let xs = numbers .own in
+              let ys = records .own in
+              let p : Pairs SameListed xs ys = alike .own in
+              rw (is-row e) (record {
+                lasts = lastsOf ys;
+                known = heads-known xs ys p;
+                answers = λ z. answers-same xs ys p;
+                served = serve-served one (c .image) (sharedIn (c .shared)) points requests _ (rw (alike .common, points-same xs ys p)
+                    (sym (is-served one (c .image) (sharedIn (c .shared)) points requests (sym (same-reason l) ∙ e))));
+              })
+          go (suc k) e = rw (is-refused k e) (record {
+            lasts = [];
+            known = known;
+            answers = λ z. absurd (omega arith);
+            served = serve-served one (c .image) (sharedIn (c .shared)) points requests _
+                (sym (is-stopped one (c .image) (sharedIn (c .shared)) points requests k (sym (same-reason l) ∙ e)));
+          })
+
     pub serve-for : (l : ServeLeft) → l ≡ left → ServeServedFor c heads tables texts answers writes bytes l
     unfolding ServeServedFor
     serve-for l e = subst (ServeServedFor c heads tables texts answers writes bytes) (sym e)
-        (served-as, λ never. reason-told ∙ not-lent never, unchanged)
+        (served-as, λ never. refused-why ∙ not-lent never, unchanged)

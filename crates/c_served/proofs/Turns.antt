@@ -20,16 +20,17 @@ use Rattle.points.specs.Serving.{Turned, Request, Common, Asking, asking, Last,
 use Rattle.points.specs.Serving.{pointsOf, lastsOf}
 use Rattle.points.proofs.Replies.{begin-replies}
 use Rattle.points.proofs.Turns.{turn-of, no-turn}
-use Rattle.c_lent.specs.Numbers.{sharedIn, pointIn, headFrom, isKnown}
+use Rattle.points.proofs.Alike.{Pairs, Alike, TurnsAlike, row-alike}
+use Rattle.c_lent.specs.Numbers.{sharedIn, pointIn, isKnown}
 use Rattle.c_lent.specs.Calls.{StepLeft, stepFor, ifKnown}
 use Rattle.c_lent.specs.Serving.{CommonLent, ListedLent, AskingLent, turnLeft, commonLent, listedLent, begunAnswer, kindGoesOn, beginTurnFor, stepTurnFor}
 use Rattle.c_lent.proofs.Known.{begin-known, step-known}
 use Rattle.c_lent.proofs.BeginReady.{begun-turn}
 use Rattle.c_lent.proofs.ReadyAt.{outcomeTurn, goes-same}
+use Rattle.c_lent.proofs.Places.{later-list}
 use Rattle.c_lent.proofs.Turns.{turn-on, turn-off}
 use Rattle.c_served.specs.Served.{pointAt, pointsIn, lastNumbers, commonIn}
 use Rattle.c_served.proofs.Back.{point-back}
-use Rattle.c_served.proofs.Related.{Pairs, Alike, TurnsAlike, row-alike}
 
 -- ---- what is handed in and left in numbers, and with records
 
@@ -131,10 +132,6 @@ rows-alike k c xs ys p = row-alike SameCommon SameAsking SameListed beginTurnFor
     k c (commonIn c) xs ys refl p
 
 -- ---- the lists
-
-later-list : {A : Type 0} (i n : ℕ) (f : ℕ → A) → listFrom (suc i) n f ≡ listFrom i n (λ j. f (suc j))
-later-list i zero f = refl
-later-list i (suc n) f = ap (λ (l : List _). f (suc i) ∷ l) (later-list (suc i) n f)
 
 pub asking-pairs : (i n : ℕ) (f : ℕ → AskingLent) (g : ℕ → Point) (h : ℕ → Request)
     → ((j : ℕ) → i ≤ j → j < i + n → SameAsking (f j) (record { point = g j; request = h j }))

@@ -135,14 +135,15 @@ serviceFrom l lasts =
     record { reply = replyOf (l .refused); common = commonIn (l .common); points = pointsIn (l .heads) (l .tables) (l .texts); lasts = lasts }
 
 module _ (c : CommonLent) (heads tables texts : List (List ℕ)) where
-  -- with answers whose numbers stand in the lent list: those of a refused beginning are those of a refused step, so they are not read back
+  -- the lent list has the numbers of these answers. (They are not read back: the numbers of a refused beginning are those of a refused step)
   pub record ServeServedAs (writes : List (List ℕ)) (bytes : List ℕ) (l : ServeLeft) : Type 0 where
     pub lasts : List Last
     pub known : all-of isKnown (l .heads) ≡ true
     pub answers : l .refused ≡ 0 → l .answers ≡ map lastNumbers lasts
     pub served : ServeServed one (c .image) (sharedIn (c .shared)) (pointsIn heads tables texts) (requestsIn writes bytes) (serviceFrom l lasts)
 
-  -- served where one record, one answer and one write for each are lent, and the sizes add up; 26 where not; and refused it changes nothing
+  -- where a table, a text, an answer and a write are lent for each head, and the texts are as long as the sizes together, it is served as the row in a list
+  -- is; elsewhere it is refused by 26; and refused it changes nothing
   unfoldable pub ServeServedFor : List (List ℕ) → List (List ℕ) → List ℕ → ServeLeft → Type 0
   ServeServedFor answers writes bytes l =
       (Lent heads tables texts answers writes bytes → all-of isKnown heads ≡ true → ServeServedAs writes bytes l)

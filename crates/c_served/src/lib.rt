@@ -142,6 +142,14 @@ pub fn serve(
         (now (heads .exit)) (now (tables .exit)) (now (texts .exit)) (now (answers .exit))) ⌝ }
 {
     c_lent::serve::serve(
-        image, shared, taken, heads, tables, texts, answers, writes, bytes,
+        image,
+        shared,
+        taken,
+        heads,
+        tables,
+        texts,
+        answers,
+        writes,
+        bytes,
     )
 }

@@ -1,7 +1,7 @@
 -- The calls of the code are the calls of the list: what a call leaves is what `serve` says of it, in every world that has the image and the
 -- shared record that it was lent and in which the point hands in the record that it was given. So the claims hold of the code. Opening makes the world
--- that a list begins with; reading at once and locating, which are no calls of the list, show the book's file. (Of the call that serves a list of points it
--- is said of the definition, `serving`; no contract of code cites it yet.)
+-- that a list begins with; reading at once and locating, which are no calls of the list, show the book's file. The call that serves a list of points is a row
+-- of them; it has no function with records, and its function with numbers cites it in c_served.
 use Prim.Native.Nat.{ℕ, _+_, _*_, _<_}
 use mathlib.Core.Path.{_≡_}
 use mathlib.Core.Bool.{true, false}
@@ -131,10 +131,10 @@ pub record RowServed (w v : World) (es : List Event) (ts : List Turn) (r : Servi
   pub answered : map (λ t. lastAnswer (t .number) none es) ts ≡ map (λ a. some a) (r .lasts)
 
 -- it is refused where 26 or 27 holds, and there alone; what is left and answered is what the row of its beginnings and steps leaves and answers; refused,
--- nothing is begun
+-- nothing is begun and nobody answered
 unfoldable pub ServeServed : Edition → List ℕ → Shared → List Point → List Request → Service → Type 0
 ServeServed E words s points requests r =
     (r .reply ≡ replyOf (serveRefusal (pointNumbers points) (length requests)))
     × (r .reply ≡ Done → (w : World) → w .words ≡ words → w .shared ≡ s → (ts : List Turn) → TurnsOf w words s ts points requests
     → let calls = rowCalls E w ts in RowServed w (world E w calls) (events E w calls) ts r)
-    × ((n : ℕ) → r .reply ≡ Refused n → (r .common ≡ record { words = words; shared = s }) × (r .points ≡ points))
+    × ((n : ℕ) → r .reply ≡ Refused n → (r .common ≡ record { words = words; shared = s }) × (r .points ≡ points) × (r .lasts ≡ []))

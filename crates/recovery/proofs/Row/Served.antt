@@ -237,4 +237,4 @@ module _ (E : Edition) (words : List ℕ) (s : Shared) (ps : List Point) (qs : L
       go zero h = subst (ServeServed E words s ps qs) (sym (is-served h))
           (ap replyOf (sym h), λ d. row-served h, λ n d. let z : _≡_ {A = ℕ} 0 1 = cc (d) in absurd (omega arith))
       go (suc n) h = subst (ServeServed E words s ps qs) (sym (is-stopped n h))
-          (ap replyOf (sym h), λ d. let z : _≡_ {A = ℕ} 0 1 = cc (d) in absurd (omega arith), λ k d. (refl, refl))
+          (ap replyOf (sym h), λ d. let z : _≡_ {A = ℕ} 0 1 = cc (d) in absurd (omega arith), λ k d. (refl, refl, refl))

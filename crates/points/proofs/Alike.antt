@@ -1,8 +1,7 @@
--- Rows over turns that are alike leave what is alike: two rows, over turns of two kinds, and what holds between the two that are handed in, turn by turn,
--- and between what both leave. Assumes nothing.
+-- Two rows, over turns of two kinds: where of what is alike each two turns leave what is alike, the rows do too. Assumes nothing.
 use Prim.Native.Nat.{ℕ, zero, suc}
 use mathlib.Core.List.{List, [], _∷_}
 use Rattle.points.specs.Serving.{Turned, inTurn, rounds, row}
 
 -- ---- what is alike
 
@@ -26,7 +25,7 @@ module _ {S T : Type 0} (R : S → T → Type 0) where
   abbrev pub TurnsAlike : {A B X Y : Type 0} → (A → B → Type 0) → (X → Y → Type 0) → (S → A → Turned S X) → (T → B → Turned T Y) → Type 0
   TurnsAlike {A} {B} P Q turn other = (s : S) (t : T) (a : A) (b : B) → R s t → P a b → Alike R Q (turn s a) (other t b)
 
-  pub in-turn-alike : {A B X Y : Type 0} (P : A → B → Type 0) (Q : X → Y → Type 0) (turn : S → A → Turned S X) (other : T → B → Turned T Y)
+  in-turn-alike : {A B X Y : Type 0} (P : A → B → Type 0) (Q : X → Y → Type 0) (turn : S → A → Turned S X) (other : T → B → Turned T Y)
       → TurnsAlike P Q turn other → (s : S) (t : T) (xs : List A) (ys : List B) → R s t → Pairs P xs ys
       → Alike R (Pairs Q) (inTurn turn s xs) (inTurn other t ys)
   unfolding inTurn
