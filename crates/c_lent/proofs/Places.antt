@@ -55,7 +55,7 @@ module _ (f : ℕ → ℕ) (n i : ℕ) where
 
 -- ---- a list is its elements
 
-later-list : {A : Type 0} (i n : ℕ) (f : ℕ → A) → listFrom (suc i) n f ≡ listFrom i n (λ j. f (suc j))
+pub later-list : {A : Type 0} (i n : ℕ) (f : ℕ → A) → listFrom (suc i) n f ≡ listFrom i n (λ j. f (suc j))
 later-list i zero f = refl
 later-list i (suc n) f = ap (λ (l : List _). f (suc i) ∷ l) (later-list (suc i) n f)
 

@@ -4,10 +4,11 @@
 use Prim.Native.Nat.{ℕ, zero, suc}
 use mathlib.Core.Path.{_≡_}
 use mathlib.Core.Bool.{Bool, true}
-use mathlib.Core.List.{List}
-use lib.ListN.{getD, set}
+use mathlib.Core.Logic.{_≢_}
+use mathlib.Core.List.{List, [], _∷_, map}
+use lib.ListN.{length, getD, set, take, drop}
 use Rattle.words.specs.Edition.{one}
-use Rattle.words.specs.Logic.{between}
+use Rattle.words.specs.Logic.{between, all-of, listFrom}
 use Rattle.log.specs.Opening.{replyOf, openRefusal}
 use Rattle.points.specs.declared.StepAnswer.{StepAnswer}
 use Rattle.points.specs.declared.StepAnswer.the-variants.{Stored, Moved, Extending, Committed, Refused, Copied, Bytes}
@@ -15,14 +16,17 @@ use Rattle.points.specs.declared.Joined.{Joined}
 use Rattle.points.specs.declared.Begun.{Begun}
 use Rattle.points.specs.declared.Stepped.{Stepped}
 use Rattle.points.specs.declared.Left.{Left}
+use Rattle.points.specs.declared.Point.{Point}
 use Rattle.points.specs.declared.Count as counted
 use Rattle.points.specs.Record.{pointOf}
+use Rattle.points.specs.Serving.{Common, Request, Last, lastKind, lastValue, Service}
 use Rattle.recovery.specs.World.{start}
 use Rattle.recovery.specs.History.{openWorld}
-use Rattle.recovery.specs.Served.{JoinServed, BeginServed, BeginReadServed, StepServed, LeaveServed, ReadServed, LocateServed}
+use Rattle.recovery.specs.Served.{JoinServed, BeginServed, BeginReadServed, StepServed, LeaveServed, ReadServed, LocateServed, ServeServed}
 use Rattle.c_lent.specs.declared.Count.{Count}
 use Rattle.c_lent.specs.Numbers.{SharedLent, PointLent, sharedIn, pointIn, headFrom, isKnown}
 use Rattle.c_lent.specs.Calls.{PointLeft, StepLeft, SharedLeft, ReadLeft}
+use Rattle.c_lent.specs.Serving.{CommonLent, pointAs, offsetAt, sizeAt, startAt, Lent, ServeLeft, serveLeft}
 
 -- ---- answers, read back from their numbers
 
@@ -101,3 +105,47 @@ module _ (words : List ℕ) (s : SharedLent) where
     unfoldable pub LocateServedFor : ℕ → Count → Type 0
     LocateServedFor block c =
         isKnown (p .head) ≡ true → LocateServed one words (sharedIn s) (headFrom (p .head)) (p .table) block (countFrom c)
+
+-- ---- the call that serves a list of points (document 02, K6)
+
+-- the records of these heads, tables and texts
+abbrev pub pointAt : List (List ℕ) → List (List ℕ) → List (List ℕ) → ℕ → Point
+pointAt heads tables texts i = pointIn (pointAs (getD heads i []) (getD tables i []) (getD texts i []))
+
+abbrev pub pointsIn : List (List ℕ) → List (List ℕ) → List (List ℕ) → List Point
+pointsIn heads tables texts = listFrom 0 (length heads) (pointAt heads tables texts)
+
+-- the writes of these offsets and sizes, their texts one after the other
+abbrev pub requestAt : List (List ℕ) → List ℕ → ℕ → Request
+requestAt writes bytes i = record { offset = offsetAt writes i; text = take (sizeAt writes i) (drop (startAt writes i) bytes) }
+
+abbrev pub requestsIn : List (List ℕ) → List ℕ → List Request
+requestsIn writes bytes = listFrom 0 (length writes) (requestAt writes bytes)
+
+-- what a point's last beginning or step answered, in numbers: kind and value
+abbrev pub lastNumbers : Last → List ℕ
+lastNumbers a = lastKind a ∷ lastValue a ∷ []
+
+abbrev pub commonIn : CommonLent → Common
+commonIn c = record { words = c .image; shared = sharedIn (c .shared) }
+
+-- what the call leaves, with these as the points' last answers
+abbrev pub serviceFrom : ServeLeft → List Last → Service
+serviceFrom l lasts =
+    record { reply = replyOf (l .refused); common = commonIn (l .common); points = pointsIn (l .heads) (l .tables) (l .texts); lasts = lasts }
+
+module _ (c : CommonLent) (heads tables texts : List (List ℕ)) where
+  -- the lent list has the numbers of these answers. (They are not read back: the numbers of a refused beginning are those of a refused step)
+  pub record ServeServedAs (writes : List (List ℕ)) (bytes : List ℕ) (l : ServeLeft) : Type 0 where
+    pub lasts : List Last
+    pub known : all-of isKnown (l .heads) ≡ true
+    pub answers : l .refused ≡ 0 → l .answers ≡ map lastNumbers lasts
+    pub served : ServeServed one (c .image) (sharedIn (c .shared)) (pointsIn heads tables texts) (requestsIn writes bytes) (serviceFrom l lasts)
+
+  -- where a table, a text, an answer and a write are lent for each head, and the texts are as long as the sizes together, it is served as the row in a list
+  -- is; elsewhere it is refused by 26; and refused it changes nothing
+  unfoldable pub ServeServedFor : List (List ℕ) → List (List ℕ) → List ℕ → ServeLeft → Type 0
+  ServeServedFor answers writes bytes l =
+      (Lent heads tables texts answers writes bytes → all-of isKnown heads ≡ true → ServeServedAs writes bytes l)
+      × ((Lent heads tables texts answers writes bytes → ⊥) → l .refused ≡ 26)
+      × (l .refused ≢ 0 → l ≡ serveLeft (l .refused) c heads tables texts answers)

@@ -2,8 +2,9 @@
 // are beside them, as in recovery/src/code.rt. Nothing here runs.
 ghost use Rattle.c_lent.specs.Numbers.{sharedLent, pointLent, textless};
 ghost use Rattle.c_lent.specs.Calls.{left, stepLeft, sharedLeft, readLeft};
+ghost use Rattle.c_lent.specs.Serving.{commonLent, serveLeft};
 ghost use Rattle.c_served.specs.Served.{OpenServedFor, JoinServedFor, BeginServedFor, BeginReadServedFor, StepServedFor};
-ghost use Rattle.c_served.specs.Served.{LeaveServedFor, ReadServedFor, LocateServedFor};
+ghost use Rattle.c_served.specs.Served.{LeaveServedFor, ReadServedFor, LocateServedFor, ServeServedFor};
 use c_lent::Answer;
 use c_lent::Count;
 use c_lent::Opened;
@@ -122,4 +123,33 @@ pub fn locate(
     ensures { λ r. ⌜ LocateServedFor (now (image .entry)) (sharedLent (shared .entry) (taken .entry)) (textless (head .entry) (table .entry)) block r ⌝ }
 {
     c_lent::locate(image, shared, taken, head, table, block)
+}
+
+pub fn serve(
+    image: &mut [u64],
+    shared: &mut [u32; 35],
+    taken: &mut [u64; 16],
+    heads: &mut [[u32; 11]],
+    tables: &mut [[u16; 256]],
+    texts: &mut [[u8; 1024]],
+    answers: &mut [[u32; 2]],
+    writes: &[[usize; 2]],
+    bytes: &[u8],
+) -> u32
+    ensures { λ r. ⌜ ServeServedFor (commonLent (now (image .entry)) (sharedLent (shared .entry) (taken .entry)))
+        (now (heads .entry)) (now (tables .entry)) (now (texts .entry)) (now (answers .entry)) (now (writes .entry)) (now (bytes .entry))
+        (serveLeft r (commonLent (now (image .exit)) (sharedLent (shared .exit) (taken .exit)))
+        (now (heads .exit)) (now (tables .exit)) (now (texts .exit)) (now (answers .exit))) ⌝ }
+{
+    c_lent::serve::serve(
+        image,
+        shared,
+        taken,
+        heads,
+        tables,
+        texts,
+        answers,
+        writes,
+        bytes,
+    )
 }

@@ -1,6 +1,7 @@
 -- Small cases of the definitions, computed, at the borders where a definition that is off by one would differ.
--- When a record fits, and a shared record; what the search finds; an entry's used bytes; the retry count; what leaving frees; what is filled again.
-use Prim.Native.Nat.{ℕ}
+-- When a record fits, and a shared record; what the search finds; an entry's used bytes; the retry count; what leaving frees; what is filled again; whose
+-- turn it is in a row.
+use Prim.Native.Nat.{ℕ, _+_}
 use mathlib.Core.Path.{_≡_, refl}
 use mathlib.Core.List.{List, [], _∷_, _++_, map}
 use lib.ListN.{replicate, take}
@@ -19,6 +20,7 @@ use Rattle.points.specs.Record.{noTable, phaseNumber, badShared, fits}
 use Rattle.points.specs.Search.{search}
 use Rattle.points.specs.Plan.{withoutHeld}
 use Rattle.points.specs.Stepping.{retried, refillAfter, entryFor}
+use Rattle.points.specs.Serving.{Turned, inTurn, rounds, row}
 
 -- ---- when a record fits, in an image of 8 blocks
 
@@ -159,3 +161,15 @@ three-again : again 511 514 0 3 ∷ again 511 514 0 2 ∷ again 511 514 1 1 ∷ 
     ≡ 4 ∷ 2 ∷ 1 ∷ 3 ∷ 1 ∷ []
 unfolding computing
 three-again = refl
+
+-- ---- whose turn it is in a row
+
+-- a turn that writes down a number, and leaves its own
+abbrev writesDown : ℕ → List ℕ → ℕ → Turned (List ℕ) ℕ
+writesDown n s x = record { common = s ++ ((n + x) ∷ []); own = x }
+
+-- all begin, in list order, before anybody has a step; then two rounds, in list order too
+order-of-turns : row (writesDown 10) (writesDown 0) 2 [] (1 ∷ 2 ∷ 3 ∷ [])
+    ≡ record { common = 11 ∷ 12 ∷ 13 ∷ 1 ∷ 2 ∷ 3 ∷ 1 ∷ 2 ∷ 3 ∷ []; own = 1 ∷ 2 ∷ 3 ∷ [] }
+unfolding row rounds inTurn
+order-of-turns = refl

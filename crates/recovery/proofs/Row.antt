@@ -6,5 +6,6 @@ pub mod Listed
 pub mod OneTurn
 pub mod Round
 pub mod Begun
+pub mod Heard
 pub mod Together
 pub mod Served

@@ -3,12 +3,14 @@
 use Prim.Native.Nat.{ℕ, zero, suc}
 use mathlib.Core.Bool.{Bool, true, false}
 use mathlib.Core.List.{List, [], _∷_, _++_, map}
+use mathlib.Core.Option.{Option, some}
 use lib.ListN.{length}
+use lib.Dec.{eqb}
 use Rattle.words.specs.Edition.{Edition}
 use Rattle.log.specs.declared.Reply.{Reply}
 use Rattle.log.specs.declared.Reply.the-variants.{Done, Refused}
 use Rattle.points.specs.declared.Point.{Point}
-use Rattle.points.specs.Serving.{Request, stepGoesOn, serveRounds}
+use Rattle.points.specs.Serving.{Request, Last, stepGoesOn, serveRounds, begun as lastBegun, stepped as lastStepped}
 use Rattle.recovery.specs.World.{World, Call, begin, step, Event, joined, begun, begunRead, stepped, left, world, events}
 
 -- a point of the list: its number, the record that it hands in if it is not joined, and its write
@@ -63,3 +65,17 @@ module _ (E : Edition) where
     -- the row
     unfoldable pub rowCalls : List Call
     rowCalls = map beginOf ts ++ roundCalls (serveRounds E (length ts)) begunWorld begunTurns
+
+-- ---- what it answers
+
+-- "what its last beginning or step answered", of point p, after an event; after these events, where it was `before` at first
+abbrev pub answers : ℕ → Option Last → Event → Option Last
+answers p before (joined n r) = before
+answers p before (begun n offset text r) = elim (eqb n p) [ true ↦ some (lastBegun r) | false ↦ before ]
+answers p before (begunRead n offset size r) = elim (eqb n p) [ true ↦ some (lastBegun r) | false ↦ before ]
+answers p before (stepped n h a bytes) = elim (eqb n p) [ true ↦ some (lastStepped a) | false ↦ before ]
+answers p before (left n r) = before
+
+unfoldable pub lastAnswer : ℕ → Option Last → List Event → Option Last
+lastAnswer p before [] = before
+lastAnswer p before (e ∷ es) = lastAnswer p (answers p before e) es

@@ -1,18 +1,19 @@
 -- The calls of the code are the calls of the list: what a call leaves is what `serve` says of it, in every world that has the image and the
 -- shared record that it was lent and in which the point hands in the record that it was given. So the claims hold of the code. Opening makes the world
--- that a list begins with; reading at once and locating, which are no calls of the list, show the book's file. (Of the call that serves a list of points it
--- is said of the definition, `serving`; no contract of code cites it yet.)
+-- that a list begins with; reading at once and locating, which are no calls of the list, show the book's file. The call that serves a list of points is a row
+-- of them; it has no function with records, and its function with numbers cites it in c_served.
 use Prim.Native.Nat.{ℕ, _+_, _*_, _<_}
 use mathlib.Core.Path.{_≡_}
 use mathlib.Core.Bool.{true, false}
 use mathlib.Core.List.{List, [], _∷_, _++_, map}
+use mathlib.Core.Option.{none, some}
 use lib.ListN.{length, getD, drop}
 use Rattle.words.specs.Edition.{Edition, blockBytes, fileBlocks}
 use Rattle.words.specs.Memory.{memory}
 use Rattle.words.specs.Logic.{member}
 use Rattle.log.specs.declared.Reply.the-variants.{Done, Refused}
 use Rattle.log.specs.Replay.{mappedByte}
-use Rattle.log.specs.Opening.{openRefusal, numberOf}
+use Rattle.log.specs.Opening.{openRefusal, numberOf, replyOf}
 use Rattle.log.specs.declared.Shared.{Shared}
 use Rattle.log.specs.declared.Opened.{Opened}
 use Rattle.points.specs.declared.Head.{Head}
@@ -24,10 +25,10 @@ use Rattle.points.specs.declared.Stepped.{Stepped}
 use Rattle.points.specs.declared.Left.{Left}
 use Rattle.points.specs.Record.{isJoined}
 use Rattle.points.specs.Stepping.{bytesAfter}
-use Rattle.points.specs.Serving.{Request, Service}
-use Rattle.recovery.specs.World.{World, join, begin, beginRead, step, leave, joined, begun, begunRead, stepped, left}
-use Rattle.recovery.specs.World.{handed, withNewest, joinedAs, serve, start, world}
-use Rattle.recovery.specs.Row.{Turn, rowCalls}
+use Rattle.points.specs.Serving.{Request, Service, serveRefusal, pointNumbers}
+use Rattle.recovery.specs.World.{World, join, begin, beginRead, step, leave, Event, joined, begun, begunRead, stepped, left}
+use Rattle.recovery.specs.World.{handed, withNewest, joinedAs, serve, start, world, events}
+use Rattle.recovery.specs.Row.{Turn, rowCalls, lastAnswer}
 use Rattle.recovery.specs.History.{History, openWorld, atCut, bookFile, isFault}
 use Rattle.recovery.specs.Claim.{partOf}
 
@@ -120,16 +121,20 @@ TurnsOf w words s [] (p ∷ ps) qs = ⊥
 TurnsOf w words s (t ∷ ts) [] qs = ⊥
 TurnsOf w words s (t ∷ ts) (p ∷ ps) [] = ⊥
 
--- the row leaves image and shared record as the call does, the newest records of the listed points too, and those of all others as they were
-pub record RowServed (w v : World) (ts : List Turn) (r : Service) : Type 0 where
+-- the row, from world w to v with these events, leaves image and shared record as the call does, the newest records of the listed points too, and those of
+-- all others as they were; and the call answers for each listed point what its last beginning or step in the row answered
+pub record RowServed (w v : World) (es : List Event) (ts : List Turn) (r : Service) : Type 0 where
   pub image : v .words ≡ r .common .words
   pub shared : v .shared ≡ r .common .shared
   pub listed : map (λ t. v .newest (t .number)) ts ≡ r .points
   pub others : (k : ℕ) → member k (map (λ t. t .number) ts) ≡ false → v .newest k ≡ w .newest k
+  pub answered : map (λ t. lastAnswer (t .number) none es) ts ≡ map (λ a. some a) (r .lasts)
 
--- what is left is what the row of its beginnings and steps leaves; refused, nothing is begun
+-- it is refused where 26 or 27 holds, and there alone; what is left and answered is what the row of its beginnings and steps leaves and answers; refused,
+-- nothing is begun and nobody answered
 unfoldable pub ServeServed : Edition → List ℕ → Shared → List Point → List Request → Service → Type 0
 ServeServed E words s points requests r =
-    (r .reply ≡ Done → (w : World) → w .words ≡ words → w .shared ≡ s → (ts : List Turn) → TurnsOf w words s ts points requests
-    → RowServed w (world E w (rowCalls E w ts)) ts r)
-    × ((n : ℕ) → r .reply ≡ Refused n → (r .common ≡ record { words = words; shared = s }) × (r .points ≡ points))
+    (r .reply ≡ replyOf (serveRefusal (pointNumbers points) (length requests)))
+    × (r .reply ≡ Done → (w : World) → w .words ≡ words → w .shared ≡ s → (ts : List Turn) → TurnsOf w words s ts points requests
+    → let calls = rowCalls E w ts in RowServed w (world E w calls) (events E w calls) ts r)
+    × ((n : ℕ) → r .reply ≡ Refused n → (r .common ≡ record { words = words; shared = s }) × (r .points ≡ points) × (r .lasts ≡ []))

@@ -2,16 +2,14 @@
 use mathlib.Core.Path.{_≡_, refl, sym, ap, _∙_, subst}
 use mathlib.Core.Logic.{_≢_, _⊎_, inl, inr}
 use mathlib.Core.List.{List}
-use mathlib.Core.Bool.{true, false, _||_}
+use mathlib.Core.Bool.{true, false}
 use Prim.Native.Nat.{ℕ, suc, _-_, _≤_}
 use native.Mathlib.Omega.{arith}
-use lib.Dec.{eqb}
 use Rattle.words.specs.Edition.{Edition}
 use Rattle.words.specs.Word.{bit}
 use Rattle.words.specs.Memory.{memory}
-use Rattle.words.proofs.Tests.{or-split, or-1, or-2, no-true}
+use Rattle.words.proofs.Tests.{or-1, or-2}
 use Rattle.log.specs.CatchUp.{Walk, ahead}
-use Rattle.points.specs.declared.Head.{Head}
 use Rattle.points.specs.declared.Point as PP
 use Rattle.points.specs.declared.StepAnswer.{StepAnswer}
 use Rattle.points.specs.declared.StepAnswer.the-variants.{Stored, Moved, Extending, Committed, Refused, Copied, Bytes}
@@ -19,7 +17,7 @@ use Rattle.points.specs.Record.{isJoined, isWriting}
 use Rattle.points.specs.Plan.{Outcome}
 use Rattle.points.specs.Serving.{stepGoesOn}
 use Rattle.points.specs.Stepping.{stepping}
-use Rattle.recovery.specs.World.{World, stepped, handed, serve}
+use Rattle.recovery.specs.World.{World, handed, serve}
 use Rattle.recovery.specs.Book.{Book}
 use Rattle.recovery.specs.History.{stepFinishes}
 use Rattle.recovery.specs.Row.{Turn, stepOf, goesOn}
@@ -30,31 +28,6 @@ use Rattle.recovery.proofs.Row.Rank.{turnRank, Settled, grown-rank, gro
 use Rattle.recovery.proofs.Row.Rank.{fewer-settled}
 use Rattle.recovery.proofs.Row.Sight.{sight, seenAfter, Still, AllGrown, AllLinked}
 use Rattle.recovery.proofs.Row.Step.{Fair, ends, goes, step-fair}
-
--- ---- answers: a step that goes on or ends its write is not refused, or by 20 or 21
-
-module _ (n : ℕ) (h : Head) (b : List ℕ) where
-  fine-end : (a : StepAnswer) → stepFinishes a ≡ true → isEndOrGoesOn (stepped n h a b) ≡ true
-  fine-end Stored e = refl
-  fine-end Moved e = refl
-  fine-end Extending e = refl
-  fine-end (Committed k) e = refl
-  fine-end (Refused k) e = or-2 (eqb k 0) _ (go (or-split (eqb k 20) (eqb k 21) e))
-    where
-      go : (eqb k 20 ≡ true) ⊎ (eqb k 21 ≡ true) → eqb k 20 || (eqb k 21 || false) ≡ true
-      go (inl x) = or-1 (eqb k 20) _ x
-      go (inr x) = or-2 (eqb k 20) _ (or-1 (eqb k 21) false x)
-  fine-end Copied e = refl
-  fine-end (Bytes k) e = refl
-
-  fine-on : (a : StepAnswer) → stepGoesOn a ≡ true → isEndOrGoesOn (stepped n h a b) ≡ true
-  fine-on Stored e = refl
-  fine-on Moved e = refl
-  fine-on Extending e = refl
-  fine-on (Committed k) e = refl
-  fine-on (Refused k) e = absurd (no-true e refl)
-  fine-on Copied e = refl
-  fine-on (Bytes k) e = refl
 
 ends-stop : (a : StepAnswer) → stepFinishes a ≡ true → stepGoesOn a ≡ false
 ends-stop Stored e = sym e
@@ -163,7 +136,7 @@ module _ {E : Edition} (w : World) (h : Holds E w) (t : Turn) (n : ℕ) (some : 
       went jo (inr s) i q apart li = linked-same i q apart jo s li
 
       pick : Fair E w (n - 1) k out → Turned E w t n r
-      pick (ends f jo s) = over (ends-stop (out .step) f) (fine-end k (handed w k (t .given) .head) (out .bytes) (out .step) f) (ended jo s)
-      pick (goes g jo b set low s) = on g (fine-on k (handed w k (t .given) .head) (out .bytes) (out .step) g)
+      pick (ends f jo s) = over (ends-stop (out .step) f) (or-2 (stepGoesOn (out .step)) (stepFinishes (out .step)) f) (ended jo s)
+      pick (goes g jo b set low s) = on g (or-1 (stepGoesOn (out .step)) (stepFinishes (out .step)) g)
           (live-by v k (out .point) _ (ap (λ (y : ℕ). bit y k) jo ∙ l .joined) (withNewest-same w k (out .point)) refl b set (omega (arith, l .low)))
           (went jo s)

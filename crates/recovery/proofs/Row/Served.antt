@@ -5,6 +5,7 @@ use mathlib.Core.Path.{_≡_, refl, sym, ap, ap₂, _∙_, subst}
 use mathlib.Core.Logic.{_≢_}
 use mathlib.Core.Bool.{true, false, _||_, not}
 use mathlib.Core.List.{List, [], _∷_, map}
+use mathlib.Core.Option.{Option, none}
 use lib.ListN.{length}
 use lib.Dec.{eqb}
 use borrow.Author.Tests.{not-false}
@@ -21,7 +22,7 @@ use Rattle.points.specs.declared.Begun.{Begun}
 use Rattle.points.specs.declared.Point.{Point}
 use Rattle.points.specs.Record.{isJoined}
 use Rattle.points.specs.Calls.{beginning, beginRefusal}
-use Rattle.points.specs.Serving.{Request, asking, Common, Listed, Turned, inTurn, row, beginTurn, stepTurn, isUnfinished, begun as answered}
+use Rattle.points.specs.Serving.{Request, asking, Common, Last, Listed, Turned, inTurn, row, beginTurn, stepTurn, isUnfinished, begun as answered}
 use Rattle.points.specs.Serving.{Service, serving, serveRefusal, serveRounds, pointNumbers, pointsOf, lastsOf, twice}
 use Rattle.points.proofs.NotRefused.{begin-either, begin-joined}
 use Rattle.points.proofs.Replies.{begin-points, begin-replies}
@@ -29,8 +30,9 @@ use Rattle.recovery.specs.World.{World, begun, numbered, handed, withNew
 use Rattle.recovery.specs.Row.{Turn, beginOf, replyGoesOn, unfinished, begunWorld, begunTurns, roundCalls, rowCalls}
 use Rattle.recovery.specs.Served.{TurnsOf, RowServed, ServeServed}
 use Rattle.recovery.proofs.Calls.Mapping.{withNewest-same, withNewest-other}
-use Rattle.recovery.proofs.Row.Listed.{Each, Apart, not-among, once-apart, world-after}
-use Rattle.recovery.proofs.Row.Together.{liveOf, Together, commonOf, Left, same-live, first-left, rounds-went}
+use Rattle.recovery.proofs.Row.Listed.{Each, Apart, not-among, once-apart, world-after, events-after}
+use Rattle.recovery.proofs.Row.Heard.{Told, Heard, begun-answered, none-heard, first-heard, heard-after, afterwards, told-lasts}
+use Rattle.recovery.proofs.Row.Together.{liveOf, Together, commonOf, Left, same-live, first-left, rounds-went, rounds-heard}
 
 -- ---- the beginnings
 
@@ -65,6 +67,7 @@ module _ (E : Edition) where
   record Began (v : World) (ts : List Turn) (c : Common) (ys : List Listed) : Type 0 where
     left : Left v (world E v (map beginOf ts)) ts c ys
     live : unfinished ts (events E v (map beginOf ts)) ≡ liveOf ts ys
+    heard : (f : ℕ → Option Last) → Heard f (events E v (map beginOf ts)) ts ys
 
   begin-served : (v : World) (t : Turn) (c : Common) (p : Point) → commonOf v ≡ c → handed v (t .number) (t .given) ≡ p
       → let b = beginning E (c .words) (c .shared) p (t .request .offset) (t .request .text) in
@@ -128,6 +131,8 @@ module _ (E : Edition) where
               (first-left v u (world E u cs) t ts (r .common) y (r .own) apart (withNewest-same v n (b .point)) busy same joined (x .left));
           live = subst (λ (z : Served). unfinished (t ∷ ts) (z .event ∷ events E (z .world) cs) ≡ liveOf (t ∷ ts) (y ∷ r .own)) (sym s)
               (same-live t ts ts _ (events E u cs) y (r .own) (same-reply (b .reply)) (x .live));
+          heard = λ f. subst (λ (z : Served). Heard f (z .event ∷ events E (z .world) cs) (t ∷ ts) (y ∷ r .own)) (sym s)
+              (first-heard f t ts (events E u cs) y (r .own) apart _ (begun-answered n (t .request .offset) (t .request .text) (b .reply)) (x .heard _));
         }
 
   began : (ts : List Turn) (ps : List Point) (qs : List Request) (v : World) (c : Common) → commonOf v ≡ c → Apart ts → Hands v ts ps qs
@@ -136,6 +141,7 @@ module _ (E : Edition) where
   began [] [] [] v c e a g = record {
     left = unfold world in (record { common = e; together = tt; joined = refl; others = λ k p. refl });
     live = unfold liveOf unfinished in refl;
+    heard = λ f. unfold events Told in none-heard f [] [] tt;
   }
   began (t ∷ ts) (p ∷ ps) (q ∷ qs) v c e a g =
       subst (λ (z : Request). let r = inTurn (beginTurn E) c (asking (p ∷ ps) (z ∷ qs)) in Began v (t ∷ ts) (r .common) (r .own)) (g .0 .2)
@@ -168,7 +174,7 @@ together-points v [] (x ∷ xs) g = absurd g
 together-points v (t ∷ ts) [] g = absurd g
 
 module _ (E : Edition) (words : List ℕ) (s : Shared) (ps : List Point) (qs : List Request) where
-  abbrev refusal : ℕ
+  abbrev pub refusal : ℕ
   refusal = serveRefusal (pointNumbers ps) (length qs)
 
   abbrev first : Common
@@ -177,17 +183,17 @@ module _ (E : Edition) (words : List ℕ) (s : Shared) (ps : List Point) (qs : L
   abbrev after : Turned Common (List Listed)
   after = row (beginTurn E) (stepTurn E) (serveRounds E (length ps)) first (asking ps qs)
 
-  abbrev served : Service
+  abbrev pub served : Service
   served = record { reply = Done; common = after .common; points = pointsOf (after .own); lasts = lastsOf (after .own) }
 
-  abbrev stopped : ℕ → Service
+  abbrev pub stopped : ℕ → Service
   stopped n = record { reply = Refused (suc n); common = first; points = ps; lasts = [] }
 
-  is-served : refusal ≡ 0 → serving E words s ps qs ≡ served
+  pub is-served : refusal ≡ 0 → serving E words s ps qs ≡ served
   unfolding serving
   is-served e = chosen-zero refusal served stopped e
 
-  is-stopped : (n : ℕ) → refusal ≡ suc n → serving E words s ps qs ≡ stopped n
+  pub is-stopped : (n : ℕ) → refusal ≡ suc n → serving E words s ps qs ≡ stopped n
   unfolding serving
   is-stopped n e = chosen-suc refusal n served stopped e
 
@@ -199,20 +205,28 @@ module _ (E : Edition) (words : List ℕ) (s : Shared) (ps : List Point) (qs : L
       refl e 1
 
   row-served : refusal ≡ 0 → (w : World) → w .words ≡ words → w .shared ≡ s → (ts : List Turn) → TurnsOf w words s ts ps qs
-      → RowServed w (world E w (rowCalls E w ts)) ts served
+      → let calls = rowCalls E w ts in RowServed w (world E w calls) (events E w calls) ts served
   unfolding rowCalls row
-  row-served none w i j ts g =
+  row-served unrefused w i j ts g =
       let h = turns-hand w words s ts ps qs g in
-      let a = once-apart ts (rw (h .1) (once none)) in
+      let a = once-apart ts (rw (h .1) (once unrefused)) in
       let x = inTurn (beginTurn E) first (asking ps qs) in
       let b = began E ts ps qs w first (λ k. record { words = i k; shared = j k }) a (h .0) in
       let v = begunWorld E w ts in
-      let y = rounds-went E (serveRounds E (length ps)) ts (x .own) v (x .common) (b .left .common) a (b .left .together) in
-      rw (world-after E w (map beginOf ts) (roundCalls E (serveRounds E (length ts)) v (begunTurns E w ts)), b .live, h .2) (record {
+      let k = serveRounds E (length ps) in
+      let y = rounds-went E k ts (x .own) v (x .common) (b .left .common) a (b .left .together) in
+      let cs = map beginOf ts in
+      let ds = roundCalls E (serveRounds E (length ts)) v (begunTurns E w ts) in
+      let es = events E w cs in
+      let z = b .heard (λ i. none) in
+      let heard = heard-after (λ i. none) es _ ts (x .own) _ z
+      (rounds-heard E k ts (x .own) v (x .common) (b .left .common) a (b .left .together) (afterwards (λ i. none) es) (z .told)) in
+      rw (world-after E w cs ds, events-after E w cs ds, b .live, h .2) (record {
         image = ap (λ (z : Common). z .words) (y .common);
         shared = ap (λ (z : Common). z .shared) (y .common);
         listed = together-points _ ts (after .own) (y .together);
         others = λ k p. y .others k (not-among k ts p) ∙ b .left .others k (not-among k ts p);
+        answered = told-lasts _ ts (after .own) (heard .told);
       })
 
   pub serve-served : (r : Service) → r ≡ serving E words s ps qs → ServeServed E words s ps qs r
@@ -221,6 +235,6 @@ module _ (E : Edition) (words : List ℕ) (s : Shared) (ps : List Point) (qs : L
     where
       go : (n : ℕ) → refusal ≡ n → ServeServed E words s ps qs (serving E words s ps qs)
       go zero h = subst (ServeServed E words s ps qs) (sym (is-served h))
-          (λ d. row-served h, λ n d. let z : _≡_ {A = ℕ} 0 1 = cc (d) in absurd (omega arith))
+          (ap replyOf (sym h), λ d. row-served h, λ n d. let z : _≡_ {A = ℕ} 0 1 = cc (d) in absurd (omega arith))
       go (suc n) h = subst (ServeServed E words s ps qs) (sym (is-stopped n h))
-          (λ d. let z : _≡_ {A = ℕ} 0 1 = cc (d) in absurd (omega arith), λ k d. (refl, refl))
+          (ap replyOf (sym h), λ d. let z : _≡_ {A = ℕ} 0 1 = cc (d) in absurd (omega arith), λ k d. (refl, refl, refl))

@@ -1,23 +1,25 @@
 -- Rounds of the call that serves a list of points are those of the row of calls, by the definitions alone. The listed points with their last answers, and the
--- world with the turns of those that are unfinished, go on together: what a turn leaves is what the call in the list leaves.
+-- world with the turns of those that are unfinished, go on together: what a turn leaves and answers is what the call in the list leaves and answers.
 use Prim.Native.Nat.{ℕ, zero, suc}
 use mathlib.Core.Path.{_≡_, refl, sym, ap, _∙_, subst}
 use mathlib.Core.Logic.{_≢_}
 use mathlib.Core.Bool.{Bool, true, false}
 use mathlib.Core.List.{List, [], _∷_, map}
+use mathlib.Core.Option.{Option}
 use Rattle.words.specs.Edition.{Edition}
 use Rattle.words.specs.Word.{bit}
 use Rattle.words.specs.Memory.{after}
 use Rattle.words.proofs.Choice.{choose-true, choose-false}
 use Rattle.points.specs.Record.{isJoined}
-use Rattle.points.specs.Serving.{Common, Listed, Turned, inTurn, rounds, stepTurn, isUnfinished, stepped as answered}
+use Rattle.points.specs.Serving.{Common, Last, Listed, Turned, inTurn, rounds, stepTurn, isUnfinished, stepped as answered}
 use Rattle.points.specs.Stepping.{stepping}
 use Rattle.points.specs.Plan.{Outcome}
 use Rattle.points.proofs.CarriedOut.{step-points}
 use Rattle.recovery.specs.World.{World, Event, stepped, handed, withNewest, Served, serve, world, events}
-use Rattle.recovery.specs.Row.{Turn, stepOf, goesOn, unfinished, roundCalls}
+use Rattle.recovery.specs.Row.{Turn, stepOf, goesOn, unfinished, roundCalls, answers}
 use Rattle.recovery.proofs.Calls.Mapping.{handed-newest, withNewest-same, withNewest-other}
-use Rattle.recovery.proofs.Row.Listed.{Each, Apart, goes-first, stops-first, world-after}
+use Rattle.recovery.proofs.Row.Listed.{Each, Apart, goes-first, stops-first, world-after, events-after}
+use Rattle.recovery.proofs.Row.Heard.{Answered, step-answered, Told, Heard, afterwards, told-kept, none-heard, first-heard, rest-heard, heard-after}
 
 -- the turns of those that are unfinished
 unfoldable pub liveOf : List Turn → List Listed → List Turn
@@ -93,6 +95,7 @@ module _ (E : Edition) where
   record Went (v : World) (ts : List Turn) (xs : List Listed) (c : Common) (ys : List Listed) : Type 0 where
     left : Left v (world E v (map stepOf (liveOf ts xs))) ts c ys
     live : unfinished (liveOf ts xs) (events E v (map stepOf (liveOf ts xs))) ≡ liveOf ts ys
+    heard : (f : ℕ → Option Last) → Told f ts xs → Heard f (events E v (map stepOf (liveOf ts xs))) ts ys
 
   -- the step of one that is unfinished
   step-served : (v : World) (t : Turn) (c : Common) (x : Listed) → commonOf v ≡ c → handed v (t .number) (t .given) ≡ x .point
@@ -117,25 +120,35 @@ module _ (E : Edition) where
   unfolding stepTurn
   turn-off c x e = choose-false (isUnfinished (x .last)) _ _ e
 
-  module _ (v : World) (t : Turn) (ts : List Turn) (x : Listed) (xs : List Listed) (c : Common) (ys : List Listed) where
+  module _ (v : World) (t : Turn) (ts : List Turn) (x : Listed) (xs : List Listed) (c : Common) (ys : List Listed)
+      (apart : Each (λ u. u .number ≢ t .number) ts) where
     -- a step, then the others'
     first-went : isUnfinished (x .last) ≡ true → (u : World) (ev : Event) → serve E v (stepOf t) ≡ record { event = ev; world = u } → (y : Listed)
-        → goesOn ev ≡ isUnfinished (y .last) → ((w : World) → Left u w ts c ys → Left v w (t ∷ ts) c (y ∷ ys)) → Went u ts xs c ys
-        → Went v (t ∷ ts) (x ∷ xs) c (y ∷ ys)
-    unfolding world events
-    first-went h u ev e y g f r =
+        → goesOn ev ≡ isUnfinished (y .last) → Answered (t .number) (y .last) ev → ((w : World) → Left u w ts c ys → Left v w (t ∷ ts) c (y ∷ ys))
+        → Went u ts xs c ys → Went v (t ∷ ts) (x ∷ xs) c (y ∷ ys)
+    unfolding world events Told
+    first-went h u ev e y g a f r =
         let us = liveOf ts xs in
         let left : Left v (world E v (map stepOf (t ∷ us))) (t ∷ ts) c (y ∷ ys) =
         subst (λ (s : Served). Left v (world E (s .world) (map stepOf us)) (t ∷ ts) c (y ∷ ys)) (sym e) (f _ (r .left)) in
         let live : unfinished (t ∷ us) (events E v (map stepOf (t ∷ us))) ≡ liveOf (t ∷ ts) (y ∷ ys) =
         subst (λ (s : Served). unfinished (t ∷ us) (s .event ∷ events E (s .world) (map stepOf us)) ≡ liveOf (t ∷ ts) (y ∷ ys)) (sym e)
         (same-live t us ts ev (events E u (map stepOf us)) y ys g (r .live)) in
-        record { left = rw (live-on t ts x xs h) left; live = rw (live-on t ts x xs h) live }
+        let heard : (b : ℕ → Option Last) → Told b (t ∷ ts) (x ∷ xs) → Heard b (events E v (map stepOf (t ∷ us))) (t ∷ ts) (y ∷ ys) =
+        λ b k. subst (λ (s : Served). Heard b (s .event ∷ events E (s .world) (map stepOf us)) (t ∷ ts) (y ∷ ys)) (sym e)
+        (first-heard b t ts (events E u (map stepOf us)) y ys apart ev a
+        (r .heard _ (told-kept b (λ i. answers i (b i) ev) (t .number) ts xs (λ i d. a .others i d (b i)) apart (k .1)))) in
+        record { left = rw (live-on t ts x xs h) left; live = rw (live-on t ts x xs h) live; heard = rw (live-on t ts x xs h) heard }
 
     -- no step of this one
     next-went : isUnfinished (x .last) ≡ false → ((w : World) → Left v w ts c ys → Left v w (t ∷ ts) c (x ∷ ys)) → Went v ts xs c ys
         → Went v (t ∷ ts) (x ∷ xs) c (x ∷ ys)
-    next-went h f r = record { left = rw (live-off t ts x xs h) (f _ (r .left)); live = rw (live-off t ts x xs h) (r .live ∙ sym (live-off t ts x ys h)) }
+    unfolding Told
+    next-went h f r = record {
+      left = rw (live-off t ts x xs h) (f _ (r .left));
+      live = rw (live-off t ts x xs h) (r .live ∙ sym (live-off t ts x ys h));
+      heard = λ b k. rw (live-off t ts x xs h) (rest-heard b t ts _ x ys apart (k .0) (r .heard b (k .1)));
+    }
 
   -- the first of a list, then the others
   module _ (v : World) (t : Turn) (ts : List Turn) (x : Listed) (xs : List Listed) (c : Common) (e : commonOf v ≡ c)
@@ -168,11 +181,12 @@ module _ (E : Edition) where
 
         go : (b : Bool) → isUnfinished (x .last) ≡ b → Goal (stepTurn E c x)
         go true h = subst Goal (sym (turn-on c x h))
-            (first-went v t ts x xs _ _ h u _ (step-served v t c x e (handed-newest v n (t .given) (busy h) ∙ mine)) y refl
+            (first-went v t ts x xs _ _ apart h u _ (step-served v t c x e (handed-newest v n (t .given) (busy h) ∙ mine)) y refl
+            (step-answered n (x .point .head) (o .step) (o .bytes))
             (λ w l. first-left v u w t ts _ y _ apart (withNewest-same v n (o .point)) (λ z. busy h) same joined l)
             (ih u (commonOf u) refl (together-kept v u n ts xs same joined apart g)))
         go false h = subst Goal (sym (turn-off c x h))
-            (next-went v t ts x xs _ _ h (λ w l. first-left v v w t ts _ x _ apart mine busy (λ k z. refl) refl l) (ih v c e g))
+            (next-went v t ts x xs _ _ apart h (λ w l. first-left v v w t ts _ x _ apart mine busy (λ k z. refl) refl l) (ih v c e g))
 
   went : (ts : List Turn) (xs : List Listed) (v : World) (c : Common) → commonOf v ≡ c → Apart ts → Together v ts xs
       → let r = inTurn (stepTurn E) c xs in Went v ts xs (r .common) (r .own)
@@ -180,6 +194,7 @@ module _ (E : Edition) where
   went [] [] v c e a g = record {
     left = unfold liveOf world in (record { common = e; together = tt; joined = refl; others = λ k p. refl });
     live = unfold liveOf unfinished in refl;
+    heard = λ f h. unfold liveOf events in none-heard f [] [] h;
   }
   went [] (x ∷ xs) v c e a g = absurd g
   went (t ∷ ts) [] v c e a g = absurd g
@@ -203,3 +218,19 @@ module _ (E : Edition) where
         joined = y .joined ∙ x .left .joined;
         others = λ i p. y .others i p ∙ x .left .others i p;
       })
+
+  -- and what they answer
+  pub rounds-heard : (k : ℕ) (ts : List Turn) (xs : List Listed) (v : World) (c : Common) → commonOf v ≡ c → Apart ts → Together v ts xs
+      → (f : ℕ → Option Last) → Told f ts xs → Heard f (events E v (roundCalls E k v (liveOf ts xs))) ts (rounds k (stepTurn E) c xs .own)
+  unfolding rounds roundCalls
+  rounds-heard zero ts xs v c e a g f h = unfold events in none-heard f ts xs h
+  rounds-heard (suc k) ts xs v c e a g f h =
+      let cs = map stepOf (liveOf ts xs) in
+      let r = inTurn (stepTurn E) c xs in
+      let x = went ts xs v c e a g in
+      let u = world E v cs in
+      let es = events E v cs in
+      let y = x .heard f h in
+      rw (events-after E v cs (roundCalls E k u (unfinished (liveOf ts xs) es)), x .live)
+      (heard-after f es _ ts (r .own) _ y
+      (rounds-heard k ts (r .own) u (r .common) (x .left .common) a (x .left .together) (afterwards f es) (y .told)))
