@@ -1,6 +1,7 @@
 -- The calls for C are the calls of the list: what a call leaves, its numbers read back, is what `serve` says of it; opening makes the world that a list
 -- begins with; reading and locating show the book's file (recovery/specs/Served). Asked of numbers that are a record's (`isKnown`); and what a call leaves
 -- are such numbers, so that the next call may be handed them. With other numbers a call is refused and changes nothing (c_lent): it is none of the list's.
+-- The call that serves a list of points is a row of the list's calls.
 use Prim.Native.Nat.{ℕ, zero, suc}
 use mathlib.Core.Path.{_≡_}
 use mathlib.Core.Bool.{Bool, true}

@@ -1,5 +1,5 @@
 // The calls for C, each with what it leaves in a list of calls as its contract: the claims of `recovery` hold of what C calls. Opening, reading and locating
-// are beside them, as in recovery/src/code.rt. Nothing here runs.
+// are beside them, as in recovery/src/code.rt; serving a list of points is a row of them. Nothing here runs.
 ghost use Rattle.c_lent.specs.Numbers.{sharedLent, pointLent, textless};
 ghost use Rattle.c_lent.specs.Calls.{left, stepLeft, sharedLeft, readLeft};
 ghost use Rattle.c_lent.specs.Serving.{commonLent, serveLeft};
