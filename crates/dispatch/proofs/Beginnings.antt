@@ -130,21 +130,23 @@ module _ {xs : List ℕ} {s : Shared} {ys : List Point} {answers : ℕ} {writes 
   -- the next point's beginning
   begin-next : i + 1 < t .count → Stands xs s ys answers writes bytes (oneOn u) ws (set zs i (b .point)) × (turnsLeft (oneOn u) < turnsLeft t)
   begin-next h =
-      let c = x .goes .count-is in
-      (beginning-now record {
-        goes = goes-at (i + 1) (omega (arith, h, c)) (oneOn u) refl refl refl refl refl refl refl;
-        stage-is = x .stage-is;
-        rounds-are = x .rounds-are;
-        no-reason = x .no-reason;
-        done = done;
-        rest = rest;
-        so-far = begun-on;
-        points-are = points-are;
-        at-is = done-long;
-        all-are = all-are;
-        bytes-left = bytes-left;
-        shown = record { kinds-are = shown .kinds-are; values-are = shown .values-are };
-      }, omega (arith, in-places))
+      let c = x .goes .count-is in (
+        beginning-now record {
+          goes = goes-at (i + 1) (omega (arith, h, c)) (oneOn u) refl refl refl refl refl refl refl;
+          stage-is = x .stage-is;
+          rounds-are = x .rounds-are;
+          no-reason = x .no-reason;
+          done = done;
+          rest = rest;
+          so-far = begun-on;
+          points-are = points-are;
+          at-is = done-long;
+          all-are = all-are;
+          bytes-left = bytes-left;
+          shown = record { kinds-are = shown .kinds-are; values-are = shown .values-are };
+        },
+        omega (arith, in-places),
+      )
 
   none-rest : t .count ≤ i + 1 → rest ≡ []
   none-rest h =
@@ -167,22 +169,24 @@ module _ {xs : List ℕ} {s : Shared} {ys : List Point} {answers : ℕ} {writes 
       (rw e at begun-on) ∙ ap (λ (l : List Listed). record { common = c; own = l }) (append-none done) in
       let k : serveRounds one (length ys) ≡ suc (t .rounds - 1) = sym (x .rounds-are) ∙ some-round in
       let a : length done + 0 ≡ length ys = rw e at all-are in
-      let n : 0 + length done ≡ length ys = omega (arith, a) in
-      (stepping-now record {
-        goes = goes-at 0 (omega (arith, g .each .least)) (nextStage u) refl refl refl refl refl refl refl;
-        stage-is = ap (λ (m : ℕ). m + 1) (x .stage-is);
-        no-reason = x .no-reason;
-        done = [];
-        rest = done;
-        left = t .rounds - 1;
-        rounds-are = some-round;
-        so-far = row-rounds xs s ys writes bytes c done (t .rounds - 1) over k;
-        points-are = points-are ∙ ap (λ (l : List Point). pointsOf done ++ l) e ∙ append-none (pointsOf done);
-        at-is = refl;
-        all-are = n;
-        live-is = refl;
-        shown = record { kinds-are = shown .kinds-are; values-are = shown .values-are };
-      }, omega (arith, g .inside, g .each .most, x .stage-is))
+      let n : 0 + length done ≡ length ys = omega (arith, a) in (
+        stepping-now record {
+          goes = goes-at 0 (omega (arith, g .each .least)) (nextStage u) refl refl refl refl refl refl refl;
+          stage-is = ap (λ (m : ℕ). m + 1) (x .stage-is);
+          no-reason = x .no-reason;
+          done = [];
+          rest = done;
+          left = t .rounds - 1;
+          rounds-are = some-round;
+          so-far = row-rounds xs s ys writes bytes c done (t .rounds - 1) over k;
+          points-are = points-are ∙ ap (λ (l : List Point). pointsOf done ++ l) e ∙ append-none (pointsOf done);
+          at-is = refl;
+          all-are = n;
+          live-is = refl;
+          shown = record { kinds-are = shown .kinds-are; values-are = shown .values-are };
+        },
+        omega (arith, g .inside, g .each .most, x .stage-is),
+      )
     where
       some-round : t .rounds ≡ suc (t .rounds - 1)
       some-round = let r = x .rounds-are in omega (arith, r)

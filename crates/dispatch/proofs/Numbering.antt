@@ -106,17 +106,19 @@ module _ {xs : List ℕ} {s : Shared} {ys : List Point} {answers : ℕ} {writes 
       let m' : member v (take i ns) ≡ true = rw (x .seen) at m in
       let w : twice ns ≡ true = rw (split-at ns i 0 inside-ns, v-is) (twice-here v (take i ns) (drop (suc i) ns) m') in
       let h = x .goes .inside in
-      let a = x .goes .each in
-      (turned-down record {
-        stopped = refl;
-        words-are = x .words-are;
-        shared-is = x .shared-is;
-        points-are = x .points-are;
-        reason = 26;
-        refused-is = refl;
-        not-lent = λ e. absurd (no-true (each-lent _ _ _ _ a) e);
-        lent = λ e. reason-is true w 27 (λ p q r. listed-twice ns _ p q r w);
-      }, omega (arith, h, a .most))
+      let a = x .goes .each in (
+        turned-down record {
+          stopped = refl;
+          words-are = x .words-are;
+          shared-is = x .shared-is;
+          points-are = x .points-are;
+          reason = 26;
+          refused-is = refl;
+          not-lent = λ e. absurd (no-true (each-lent _ _ _ _ a) e);
+          lent = λ e. reason-is true w 27 (λ p q r. listed-twice ns _ p q r w);
+        },
+        omega (arith, h, a .most),
+      )
 
   module _ (m : member v (take i (t .numbers)) ≡ false) where
     seen-more : take (i + 1) (set (t .numbers) i v) ≡ take (i + 1) ns
@@ -137,27 +139,29 @@ module _ {xs : List ℕ} {s : Shared} {ys : List Point} {answers : ℕ} {writes 
     number-next : i + 1 < t .count → Stands xs s ys answers writes bytes (oneOn (noted t v)) ws zs × (turnsLeft (oneOn (noted t v)) < turnsLeft t)
     number-next h =
         let g = x .goes in
-        let a = g .each in
-        (numbering record {
-          goes = record {
-            going-is = g .going-is;
-            not-refused = g .not-refused;
-            count-is = g .count-is;
-            inside = omega (arith, h, g .count-is);
-            numbers-long = length-set (t .numbers) i v ∙ g .numbers-long;
-            kinds-long = g .kinds-long;
-            values-long = g .values-long;
-            each = a;
-          };
-          stage-is = x .stage-is;
-          rounds-are = x .rounds-are;
-          start-is = x .start-is;
-          words-are = x .words-are;
-          shared-is = x .shared-is;
-          points-are = x .points-are;
-          seen = seen-more;
-          once = once-so-far;
-        }, omega (arith, g .inside, a .most))
+        let a = g .each in (
+          numbering record {
+            goes = record {
+              going-is = g .going-is;
+              not-refused = g .not-refused;
+              count-is = g .count-is;
+              inside = omega (arith, h, g .count-is);
+              numbers-long = length-set (t .numbers) i v ∙ g .numbers-long;
+              kinds-long = g .kinds-long;
+              values-long = g .values-long;
+              each = a;
+            };
+            stage-is = x .stage-is;
+            rounds-are = x .rounds-are;
+            start-is = x .start-is;
+            words-are = x .words-are;
+            shared-is = x .shared-is;
+            points-are = x .points-are;
+            seen = seen-more;
+            once = once-so-far;
+          },
+          omega (arith, g .inside, a .most),
+        )
 
     -- all numbers differ: the writes are begun
     number-last : t .count ≤ i + 1 → Stands xs s ys answers writes bytes (nextStage (noted t v)) ws zs × (turnsLeft (nextStage (noted t v)) < turnsLeft t)
@@ -167,30 +171,32 @@ module _ {xs : List ℕ} {s : Shared} {ys : List Point} {answers : ℕ} {writes 
         let all : take (i + 1) ns ≡ ns = take-all (i + 1) ns (omega (arith, h, ns-long, g .count-is)) in
         let w : twice ns ≡ false = sym (ap twice all) ∙ once-so-far in
         let b = a .bytes-are in
-        let whole : 0 + sizesOf writes ≡ length bytes = omega (arith, b) in
-        (beginning-now record {
-          goes = record {
-            going-is = g .going-is;
-            not-refused = g .not-refused;
-            count-is = g .count-is;
-            inside = omega (arith, a .least);
-            numbers-long = length-set (t .numbers) i v ∙ g .numbers-long;
-            kinds-long = g .kinds-long;
-            values-long = g .values-long;
-            each = a;
-          };
-          stage-is = ap (λ (k : ℕ). k + 1) (x .stage-is);
-          rounds-are = x .rounds-are;
-          no-reason = reason-is false w 0 (λ p q r. no-reason ns _ p q r w);
-          done = [];
-          rest = ys;
-          so-far = rw (x .words-are, x .shared-is, x .start-is) refl;
-          points-are = x .points-are;
-          at-is = refl;
-          all-are = omega arith;
-          bytes-left = rw (x .start-is) whole;
-          shown = record { kinds-are = refl; values-are = refl };
-        }, omega (arith, g .inside, a .most, x .stage-is))
+        let whole : 0 + sizesOf writes ≡ length bytes = omega (arith, b) in (
+          beginning-now record {
+            goes = record {
+              going-is = g .going-is;
+              not-refused = g .not-refused;
+              count-is = g .count-is;
+              inside = omega (arith, a .least);
+              numbers-long = length-set (t .numbers) i v ∙ g .numbers-long;
+              kinds-long = g .kinds-long;
+              values-long = g .values-long;
+              each = a;
+            };
+            stage-is = ap (λ (k : ℕ). k + 1) (x .stage-is);
+            rounds-are = x .rounds-are;
+            no-reason = reason-is false w 0 (λ p q r. no-reason ns _ p q r w);
+            done = [];
+            rest = ys;
+            so-far = rw (x .words-are, x .shared-is, x .start-is) refl;
+            points-are = x .points-are;
+            at-is = refl;
+            all-are = omega arith;
+            bytes-left = rw (x .start-is) whole;
+            shown = record { kinds-are = refl; values-are = refl };
+          },
+          omega (arith, g .inside, a .most, x .stage-is),
+        )
 
 -- wherever the turns stand in this stage
 pub number-turned : (words : List ℕ) (t : Turns) (p : Point) (writes : List (List ℕ)) (bytes : List ℕ) (r : TurnLeft) → t .stage ≡ 0 → NumberTurn t p r

@@ -64,31 +64,33 @@ module _ (xs : List ℕ) (s : Shared) (ys : List Point) (answers : ℕ) (writes 
   module _ {t : Turns} {ws : List ℕ} {zs : List Point} (x : Made t ws zs) where
     made-next : t .at + 1 < t .count → Stands xs s ys answers writes bytes (oneOn t) ws zs × (turnsLeft (oneOn t) < turnsLeft t)
     made-next h =
-        let g = x .goes in
-        (stepping-now record {
-          goes = record {
-            going-is = g .going-is;
-            not-refused = g .not-refused;
-            count-is = g .count-is;
-            inside = omega (arith, h, g .count-is);
-            numbers-long = g .numbers-long;
-            kinds-long = g .kinds-long;
-            values-long = g .values-long;
-            each = g .each;
-          };
-          stage-is = x .stage-is;
-          no-reason = x .no-reason;
-          done = x .done;
-          rest = x .rest;
-          left = x .left;
-          rounds-are = x .rounds-are;
-          so-far = x .so-far;
-          points-are = x .points-are;
-          at-is = x .at-is;
-          all-are = x .all-are;
-          live-is = x .live-is;
-          shown = record { kinds-are = x .shown .kinds-are; values-are = x .shown .values-are };
-        }, omega (arith, g .inside, g .each .most))
+        let g = x .goes in (
+          stepping-now record {
+            goes = record {
+              going-is = g .going-is;
+              not-refused = g .not-refused;
+              count-is = g .count-is;
+              inside = omega (arith, h, g .count-is);
+              numbers-long = g .numbers-long;
+              kinds-long = g .kinds-long;
+              values-long = g .values-long;
+              each = g .each;
+            };
+            stage-is = x .stage-is;
+            no-reason = x .no-reason;
+            done = x .done;
+            rest = x .rest;
+            left = x .left;
+            rounds-are = x .rounds-are;
+            so-far = x .so-far;
+            points-are = x .points-are;
+            at-is = x .at-is;
+            all-are = x .all-are;
+            live-is = x .live-is;
+            shown = record { kinds-are = x .shown .kinds-are; values-are = x .shown .values-are };
+          },
+          omega (arith, g .inside, g .each .most),
+        )
 
     module _ (h : t .count ≤ t .at + 1) where
       none-rest : x .rest ≡ []

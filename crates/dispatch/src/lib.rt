@@ -263,7 +263,13 @@ fn number_turn(turns: Turns, point: Point) -> TurnLeft
 }
 
 // Stage 1: the point's write is begun.
-fn begin_turn(image: &[u64], turns: Turns, point: Point, writes: &[[usize; 2]], bytes: &[u8]) -> TurnLeft
+fn begin_turn(
+    image: &[u64],
+    turns: Turns,
+    point: Point,
+    writes: &[[usize; 2]],
+    bytes: &[u8],
+) -> TurnLeft
     requires { ⌜ (turns .at < 32) × (0 < turns .rounds) × TextWithin turns (now writes) (now bytes) ⌝ }
     ensures { λ r. ⌜ BeginTurn turns (now (image .entry)) point (now (writes .entry)) (now (bytes .entry)) r ⌝ }
 {
@@ -310,7 +316,13 @@ fn step_turn(image: &mut [u64], turns: Turns, point: Point) -> TurnLeft
 }
 
 // The turn of one point.
-fn turn(image: &mut [u64], turns: Turns, point: Point, writes: &[[usize; 2]], bytes: &[u8]) -> TurnLeft
+fn turn(
+    image: &mut [u64],
+    turns: Turns,
+    point: Point,
+    writes: &[[usize; 2]],
+    bytes: &[u8],
+) -> TurnLeft
     requires { ⌜ Within turns (now writes) (now bytes) ⌝ }
     ensures { λ r. ⌜ Turning (now (image .entry)) turns point (now (writes .entry)) (now (bytes .entry)) r (now (image .exit)) ⌝ }
 {

@@ -1,9 +1,16 @@
--- `dispatch::serve` meets its contract: a walk of its MIR, by hand.
+-- `dispatch::serve` meets its contract: a walk of its MIR. The borrow checker covers no reference to a slice of structs, so the walk is by hand; all that it
+-- knows of `start`, `turn` and `ends` is that they meet their contracts. It has one loop:
+--     State        where the loop stands: the image, the list and the turns, and that `Stands` holds of them
+--     At           what is had then: the tokens and what is lent, then for each local its cell and the right to free it, the last local first
+--     more         a turn of the loop: the record is copied out of the list, the image is lent again to `turn` and comes back, the record is put back
+--     stops        the loop is left, and the answers are lent to `ends` for good.      exits        what is had then is what the contract says
+--     walk         the MIR up to the loop
+-- `Nearer` is by `turnsLeft`, which each turn makes less. A `refl` says that what a step asks for is what the context has there. Assumes nothing.
 use mathlib.Core.Path.{_≡_, refl, sym, ap, subst, _∙_}
 use mathlib.Core.Bool.{Bool, true, false}
 use mathlib.Core.List.{List, [], _∷_}
 use mathlib.Core.WellFounded.{WellFounded, InvImage·wf}
-use Prim.Native.Nat.{ℕ, zero, suc, _<_, _^_}
+use Prim.Native.Nat.{ℕ, zero, suc, _+_, _-_, _*_, _<_, _^_}
 use lib.ListN.{length, getD, set, length-set}
 use lib.WfN.{Nat·lt-wfRel}
 use lib.Dec.{T as Holds}
@@ -102,8 +109,16 @@ size = 1580
 
 -- what is had of the parameters at exit
 abbrev stayed : Stays (serve.ended .signature .params) (serve.ended .kept)
-stayed = (stay-slice (0 ∷ []) tt (plain (λ _. u64)), (stay-none (λ _. S.the-row) yes, (stay-slice (1 ∷ []) tt (plain (λ _. P.the-row)),
-    (gave-slice (2 ∷ []) tt Answer, (stay-none-slice (3 ∷ []) tt Write yes, (stay-none-slice (4 ∷ []) tt (plain (λ _. u8)) yes, tt))))))
+stayed = (
+  stay-slice (0 ∷ []) tt (plain (λ _. u64)),
+  (
+    stay-none (λ _. S.the-row) yes,
+    (
+      stay-slice (1 ∷ []) tt (plain (λ _. P.the-row)),
+      (gave-slice (2 ∷ []) tt Answer, (stay-none-slice (3 ∷ []) tt Write yes, (stay-none-slice (4 ∷ []) tt (plain (λ _. u8)) yes, tt))),
+    ),
+  ),
+)
 
 -- the type of local k
 abbrev typeIn : List Local → ℕ → Ty
@@ -113,6 +128,11 @@ typeIn (local τ h ∷ ls) (suc k) = typeIn ls k
 
 abbrev ty : ℕ → Ty
 ty = typeIn (code.function .locals)
+
+-- where a context has local k, if n other entries stand before the locals; the last local is the first, and each has two entries
+infix 60 _behind_
+abbrev _behind_ : ℕ → ℕ → ℕ
+k behind n = n + 2 * (21 - k)
 
 abbrev slice-val : {X : Type 0} → RefT (List X) → Val
 slice-val x = sliceVal (x .ptr) (length (x .now))
@@ -140,9 +160,9 @@ EndsEnds = Unit {0} × (List (List ℕ) × Unit {0})
 
 module _ {M : Type 1} (𝓤 : URA M) (H : Heap 𝓤) (A : Atoms 𝓤) (W : Given 𝓤 H A) (at-mem : Memory → SProp 𝓤) (run : Routine → Fun 𝓤)
     (κ₀ κ₁ κ₂ κ₃ κ₄ : Lft) (q₀ q₁ q₂ q₃ q₄ : Share) (b₀ o₀ : ℕ) (γ₀ : GName) (xs : List ℕ) (s : Shared) (b₁ o₁ : ℕ) (γ₁ : GName) (ys : List Point)
-    (r₂ r₃ : RefT (List (List ℕ))) (r₄ : RefT (List ℕ))
+    (answers writes : RefT (List (List ℕ))) (bytes : RefT (List ℕ))
     (xs-room : Room u64 (length xs)) (is-shared : Is S.the-row s (LL.vals S.the-type S′.the-laws s)) (ys-room : Room P.the-row (length ys))
-    (answers-room : Room Answers (length (r₂ .now))) (writes-room : Room Pairs (length (r₃ .now))) (bytes-room : Room u8 (length (r₄ .now))) where
+    (answers-room : Room Answers (length (answers .now))) (writes-room : Room Pairs (length (writes .now))) (bytes-room : Room u8 (length (bytes .now))) where
   -- the image at some words, under some name; the list at some records
   abbrev img : GName → List ℕ → RefT (List ℕ)
   img δ ws = record { ptr = (b₀, o₀); name = δ; now = ws }
@@ -151,26 +171,34 @@ module _ {M : Type 1} (𝓤 : URA M) (H : Heap 𝓤) (A : Atoms 𝓤) (W : Given
   listed-at zs = record { ptr = (b₁, o₁); name = γ₁; now = zs }
 
   abbrev lent-writes : Fml
-  lent-writes = ShrSlice (named 3) κ₃ Pairs .own r₃ (slice-vals r₃)
+  lent-writes = ShrSlice (named 3) κ₃ Pairs .own writes (slice-vals writes)
 
   abbrev lent-bytes : Fml
-  lent-bytes = ShrSlice (named 4) κ₄ u8 .own r₄ (slice-vals r₄)
+  lent-bytes = ShrSlice (named 4) κ₄ u8 .own bytes (slice-vals bytes)
 
   abbrev lent-answers : Fml
-  lent-answers = MutSlice (named 2) κ₂ Answers .own r₂ (slice-vals r₂)
+  lent-answers = MutSlice (named 2) κ₂ Answers .own answers (slice-vals answers)
 
   abbrev Arg : Type 0
   Arg = RefT (List ℕ) × (Shared × (RefT (List Point) × (RefT (List (List ℕ)) × (RefT (List (List ℕ)) × (RefT (List ℕ) × Unit {0})))))
 
   abbrev arg : Arg
-  arg = (img γ₀ xs, (s, (listed-at ys, (r₂, (r₃, (r₄, tt))))))
+  arg = (img γ₀ xs, (s, (listed-at ys, (answers, (writes, (bytes, tt))))))
 
   abbrev Vals : Type 0
   Vals = List Val × (List Val × (List Val × (List Val × (List Val × (List Val × Unit {0})))))
 
   abbrev vals : Vals
-  vals = (sliceVal (b₀, o₀) (length xs) ∷ [], (LL.vals S.the-type S′.the-laws s, (sliceVal (b₁, o₁) (length ys) ∷ [],
-      (slice-vals r₂, (slice-vals r₃, (slice-vals r₄, tt))))))
+  vals = (
+    sliceVal (b₀, o₀) (length xs) ∷ [],
+    (
+      LL.vals S.the-type S′.the-laws s,
+      (
+        sliceVal (b₁, o₁) (length ys) ∷ [],
+        (slice-vals answers, (slice-vals writes, (slice-vals bytes, tt))),
+      ),
+    ),
+  )
 
   abbrev bound : walkOf 𝓤 H A serve.ended stayed (serve.clauses 𝓤 H A at-mem run) .Ghost
   bound = (((κ₀, (κ₁, (κ₂, (κ₃, (κ₄, tt))))), (q₀, (q₁, (q₂, (q₃, (q₄, tt))))), tt, arg, vals), tt)
@@ -186,7 +214,7 @@ module _ {M : Type 1} (𝓤 : URA M) (H : Heap 𝓤) (A : Atoms 𝓤) (W : Given
     as-long : length words ≡ length xs
     listed : length list ≡ length ys
     known : Is T.the-row turns (LL.vals T.the-type T′.the-laws turns)
-    stands : Stands xs s ys (length (r₂ .now)) (r₃ .now) (r₄ .now) turns words list
+    stands : Stands xs s ys (length (answers .now)) (writes .now) (bytes .now) turns words list
 
   abbrev Nearer : State → State → Type 0
   Nearer τ σ = turnsLeft (τ .turns) < turnsLeft (σ .turns)
@@ -197,33 +225,55 @@ module _ {M : Type 1} (𝓤 : URA M) (H : Heap 𝓤) (A : Atoms 𝓤) (W : Given
   -- ---- what the callees are handed
 
   abbrev start-args : Shared × (ℕ × (ℕ × (RefT (List (List ℕ)) × (RefT (List ℕ) × Unit {0}))))
-  start-args = (s, (length ys, (length (r₂ .now), (r₃, (r₄, tt)))))
+  start-args = (s, (length ys, (length (answers .now), (writes, (bytes, tt)))))
 
   abbrev to-start : Start 𝓤 H A at-mem run .Ghost
-  to-start = (((κ₃, (κ₄, tt)), (q₃, (q₄, tt)), tt, start-args, (LL.vals S.the-type S′.the-laws s,
-      (vint w64 (length ys) ∷ [], (vint w64 (length (r₂ .now)) ∷ [], (slice-vals r₃, (slice-vals r₄, tt)))))), tt)
+  to-start = (
+    (
+      (κ₃, (κ₄, tt)),
+      (q₃, (q₄, tt)),
+      tt,
+      start-args,
+      (
+        LL.vals S.the-type S′.the-laws s,
+        (vint w64 (length ys) ∷ [], (vint w64 (length (answers .now)) ∷ [], (slice-vals writes, (slice-vals bytes, tt)))),
+      ),
+    ),
+    tt,
+  )
 
   goes-start : ent 𝓤 (mean 𝓤 H A (‵ (flft κ₃ q₃) ⊛ (‵ (flft κ₄ q₄) ⊛ (‵ lent-writes ⊛ ‵ lent-bytes)))) (Start 𝓤 H A at-mem run .pre to-start)
   goes-start =
       qed W ((‵ (flft κ₃ q₃) ⊛ (‵ (flft κ₄ q₄) ⊛ (‵ lent-writes ⊛ ‵ lent-bytes))) ∷ []) ∵ split ! $ move ! (1 ∷ []) $ split ! $ move ! (1 ∷ []) $ split ! $
       -- [writes; bytes; κ₄; κ₃]
       nothing ! $ move ! (2 ∷ 0 ∷ []) $ fjoin ! $ move ! (1 ∷ 0 ∷ []) $ fjoin ! $
-      owned ! usize (Is usize) (uint-makes 𝓤 H A W w64) (length (r₂ .now)) _ (refl, answers-room .0) $ fjoin ! $
+      owned ! usize (Is usize) (uint-makes 𝓤 H A W w64) (length (answers .now)) _ (refl, answers-room .0) $ fjoin ! $
       owned ! usize (Is usize) (uint-makes 𝓤 H A W w64) (length ys) _ (refl, ys-room .0) $ fjoin ! $
       owned ! S.the-row (Is S.the-row) ((LL.makes S.the-type S′.the-plain) 𝓤 H A) s _ is-shared $ fjoin ! $
       nothing ! $ move ! (2 ∷ 0 ∷ []) $ join ! $ move ! (2 ∷ 0 ∷ []) $ join ! $ join ! $ frame ! $ done !
 
   abbrev turn-args : GName → List ℕ → Turns → Point → RefT (List ℕ) × (Turns × (Point × (RefT (List (List ℕ)) × (RefT (List ℕ) × Unit {0}))))
-  turn-args δ ws t p = (img δ ws, (t, (p, (r₃, (r₄, tt)))))
+  turn-args δ ws t p = (img δ ws, (t, (p, (writes, (bytes, tt)))))
 
   abbrev imageFor : ℕ → GName → List ℕ → Fml
   imageFor ν δ ws = MutSlice (named 0) (ν ∷ []) u64 .own (img δ ws) (sliceVal (b₀, o₀) (length ws) ∷ [])
 
   abbrev to-turn : ℕ → GName → List ℕ → Turns → Point → Turn 𝓤 H A at-mem run .Ghost
-  to-turn ν δ ws t p = (((ν ∷ [], (κ₃, (κ₄, tt))), (fullShare, (q₃, (q₄, tt))), tt, turn-args δ ws t p, (sliceVal (b₀, o₀) (length ws) ∷ [],
-      (LL.vals T.the-type T′.the-laws t, (LL.vals P.the-type P′.the-laws p, (slice-vals r₃, (slice-vals r₄, tt)))))), tt)
+  to-turn ν δ ws t p = (
+    (
+      (ν ∷ [], (κ₃, (κ₄, tt))),
+      (fullShare, (q₃, (q₄, tt))),
+      tt,
+      turn-args δ ws t p,
+      (
+        sliceVal (b₀, o₀) (length ws) ∷ [],
+        (LL.vals T.the-type T′.the-laws t, (LL.vals P.the-type P′.the-laws p, (slice-vals writes, (slice-vals bytes, tt)))),
+      ),
+    ),
+    tt,
+  )
 
-  goes-turn : (ν : ℕ) (δ : GName) (ws : List ℕ) (t : Turns) (p : Point) → Within t (r₃ .now) (r₄ .now) → Is T.the-row t (LL.vals T.the-type T′.the-laws t)
+  goes-turn : (ν : ℕ) (δ : GName) (ws : List ℕ) (t : Turns) (p : Point) → Within t (writes .now) (bytes .now) → Is T.the-row t (LL.vals T.the-type T′.the-laws t)
       → Is P.the-row p (LL.vals P.the-type P′.the-laws p)
       → ent 𝓤 (mean 𝓤 H A (‵ (flft (ν ∷ []) fullShare) ⊛ (‵ (flft κ₃ q₃) ⊛ (‵ (flft κ₄ q₄) ⊛ (‵ (imageFor ν δ ws) ⊛ (‵ lent-writes ⊛ ‵ lent-bytes))))))
       (Turn 𝓤 H A at-mem run .pre (to-turn ν δ ws t p))
@@ -237,14 +287,31 @@ module _ {M : Type 1} (𝓤 : URA M) (H : Heap 𝓤) (A : Atoms 𝓤) (W : Given
       nothing ! $ move ! (2 ∷ 0 ∷ []) $ join ! $ move ! (2 ∷ 0 ∷ []) $ join ! $ move ! (2 ∷ 0 ∷ []) $ join ! $ frame ! $ done !
 
   abbrev to-ends : Turns → Ending 𝓤 H A at-mem run .Ghost
-  to-ends t = (((κ₂, tt), (q₂, tt), tt, (t, (r₂, tt)), (LL.vals T.the-type T′.the-laws t, (slice-vals r₂, tt))), tt)
+  to-ends t = (((κ₂, tt), (q₂, tt), tt, (t, (answers, tt)), (LL.vals T.the-type T′.the-laws t, (slice-vals answers, tt))), tt)
 
-  goes-ends : (t : Turns) → RoomFor t (r₂ .now) → Is T.the-row t (LL.vals T.the-type T′.the-laws t)
+  goes-ends : (t : Turns) → RoomFor t (answers .now) → Is T.the-row t (LL.vals T.the-type T′.the-laws t)
       → ent 𝓤 (mean 𝓤 H A (‵ (flft κ₂ q₂) ⊛ ‵ lent-answers)) (Ending 𝓤 H A at-mem run .pre (to-ends t))
   goes-ends t room is-turns =
       qed W ((‵ (flft κ₂ q₂) ⊛ ‵ lent-answers) ∷ []) ∵ says ! room $ split ! $ nothing ! $ move ! (2 ∷ 0 ∷ []) $ fjoin ! $
       owned ! T.the-row (Is T.the-row) ((LL.makes T.the-type T′.the-plain) 𝓤 H A) t _ is-turns $ fjoin ! $
       nothing ! $ move ! (2 ∷ 0 ∷ []) $ join ! $ frame ! $ done !
+
+  -- ---- what they leave: a call that has returned w
+
+  abbrev after-start : Val → Item 𝓤
+  after-start w = later (some (λ (t : Turns). ((‵ (flft κ₃ q₃) ⊛ (‵ (flft κ₄ q₄) ⊛ ‵ ftrue)) ⊛ ‵ (T.the-row .own t (w ∷ []))) ⊛
+      some (λ (vs : StartEnds). ‵ (lasts start.ended (κ₃, (κ₄, tt)) start-args vs)
+      ⊛ raw (fact 𝓤 (Starts s (length ys) (length (answers .now)) (writes .now) (bytes .now) t)))))
+
+  abbrev after-turn : ℕ → GName → List ℕ → Turns → Point → Val → Item 𝓤
+  after-turn ν δ ws t p w = later (some (λ (r : TurnLeft).
+      ((‵ (flft (ν ∷ []) fullShare) ⊛ (‵ (flft κ₃ q₃) ⊛ (‵ (flft κ₄ q₄) ⊛ ‵ ftrue))) ⊛ ‵ (L.the-row .own r (w ∷ []))) ⊛
+      some (λ (vs : TurnEnds). ‵ (lasts turn.ended (ν ∷ [], (κ₃, (κ₄, tt))) (turn-args δ ws t p) vs)
+      ⊛ raw (fact 𝓤 (Turning ws t p (writes .now) (bytes .now) r (vs .0))))))
+
+  abbrev after-ends : Turns → Val → Item 𝓤
+  after-ends t w = later (some (λ (r : Served). ((‵ (flft κ₂ q₂) ⊛ ‵ ftrue) ⊛ ‵ (D.the-row .own r (w ∷ []))) ⊛
+      some (λ (vs : EndsEnds). ‵ (lasts ends.ended (κ₂, tt) (t, (answers, tt)) vs) ⊛ raw (fact 𝓤 (Ends t (answers .now) r (vs .1 .0))))))
 
   -- ---- the values' types
 
@@ -266,7 +333,7 @@ module _ {M : Type 1} (𝓤 : URA M) (H : Heap 𝓤) (A : Atoms 𝓤) (W : Given
   left-point r w is = LL.owed L.the-type L′.the-laws r (w ∷ []) is .1 .0
 
   -- the loop's beginning
-  abbrev begins : (t : Turns) (w : Val) → Is T.the-row t (w ∷ []) → Starts s (length ys) (length (r₂ .now)) (r₃ .now) (r₄ .now) t → State
+  abbrev begins : (t : Turns) (w : Val) → Is T.the-row t (w ∷ []) → Starts s (length ys) (length (answers .now)) (writes .now) (bytes .now) t → State
   begins t w is started = record {
     words = xs;
     list = ys;
@@ -289,34 +356,29 @@ module _ {M : Type 1} (𝓤 : URA M) (H : Heap 𝓤) (A : Atoms 𝓤) (W : Given
 
     module _ (l₀ l₁ l₂ l₃ l₄ l₅ l₆ l₇ l₈ l₉ l₁₀ l₁₁ l₁₂ l₁₃ l₁₄ l₁₅ l₁₆ l₁₇ l₁₈ l₁₉ l₂₀ l₂₁ : ℕ) where
       abbrev En : Env 𝓤 H
-      En = (ty 0, l₀) ∷ (ty 1, l₁) ∷ (ty 2, l₂) ∷ (ty 3, l₃) ∷ (ty 4, l₄) ∷ (ty 5, l₅) ∷ (ty 6, l₆) ∷ (ty 7, l₇) ∷ (ty 8, l₈) ∷ (ty 9, l₉) ∷ (ty 10, l₁₀) ∷ (ty 11, l₁₁) ∷ (ty 12, l₁₂) ∷ (ty 13, l₁₃) ∷ (ty 14, l₁₄) ∷ (ty 15, l₁₅) ∷ (ty 16, l₁₆) ∷ (ty 17, l₁₇) ∷ (ty 18, l₁₈) ∷ (ty 19, l₁₉) ∷ (ty 20, l₂₀) ∷ (ty 21, l₂₁) ∷ []
+      En =
+          (ty 0, l₀) ∷ (ty 1, l₁) ∷ (ty 2, l₂) ∷ (ty 3, l₃) ∷ (ty 4, l₄) ∷ (ty 5, l₅) ∷ (ty 6, l₆) ∷ (ty 7, l₇) ∷ (ty 8, l₈) ∷ (ty 9, l₉) ∷ (ty 10, l₁₀) ∷
+          (ty 11, l₁₁) ∷ (ty 12, l₁₂) ∷ (ty 13, l₁₃) ∷ (ty 14, l₁₄) ∷ (ty 15, l₁₅) ∷ (ty 16, l₁₆) ∷ (ty 17, l₁₇) ∷ (ty 18, l₁₈) ∷ (ty 19, l₁₉) ∷
+          (ty 20, l₂₀) ∷ (ty 21, l₂₁) ∷ []
 
       abbrev At : State → List (Item 𝓤)
-      At σ = ‵ (flft κ₀ q₀) ∷ ‵ (MutSlice (named 0) κ₀ u64 .own (img γ₀ (σ .words)) (sliceVal (b₀, o₀) (length xs) ∷ []))
-        ∷ ‵ (flft κ₁ q₁) ∷ ‵ (fobs γ₁ (codedHoleys P.the-row .code (heres P.the-row (σ .list)))) ∷ ‵ (fbor κ₁ (Held P.the-row (length (σ .list)) b₁ o₁ γ₁))
-        ∷ ‵ (flft κ₃ q₃) ∷ ‵ lent-writes ∷ ‵ (flft κ₄ q₄) ∷ ‵ lent-bytes ∷ ‵ (flft κ₂ q₂) ∷ ‵ lent-answers
-        ∷ ‵ (froom (ty 21) l₂₁ 0) ∷ ‵ (fdies (ty 21) l₂₁)
-        ∷ ‵ (froom (ty 20) l₂₀ 0) ∷ ‵ (fdies (ty 20) l₂₀)
-        ∷ ‵ (froom (ty 19) l₁₉ 0) ∷ ‵ (fdies (ty 19) l₁₉)
-        ∷ ‵ (froom (ty 18) l₁₈ 0) ∷ ‵ (fdies (ty 18) l₁₈)
-        ∷ ‵ (froom (ty 17) l₁₇ 0) ∷ ‵ (fdies (ty 17) l₁₇)
-        ∷ ‵ (froom (ty 16) l₁₆ 0) ∷ ‵ (fdies (ty 16) l₁₆)
-        ∷ ‵ (froom (ty 15) l₁₅ 0) ∷ ‵ (fdies (ty 15) l₁₅)
-        ∷ ‵ (froom (ty 14) l₁₄ 0) ∷ ‵ (fdies (ty 14) l₁₄)
-        ∷ ‵ (froom (ty 13) l₁₃ 0) ∷ ‵ (fdies (ty 13) l₁₃)
-        ∷ ‵ (fat fullShare (ty 12) l₁₂ 0 (vint w64 (length (r₂ .now)))) ∷ ‵ (fdies (ty 12) l₁₂)
-        ∷ ‵ (fat fullShare (ty 11) l₁₁ 0 (vint w64 (length ys))) ∷ ‵ (fdies (ty 11) l₁₁)
-        ∷ ‵ (froom (ty 10) l₁₀ 0) ∷ ‵ (fdies (ty 10) l₁₀)
-        ∷ ‵ (froom (ty 9) l₉ 0) ∷ ‵ (fdies (ty 9) l₉)
-        ∷ ‵ (froom (ty 8) l₈ 0) ∷ ‵ (fdies (ty 8) l₈)
-        ∷ ‵ (fat fullShare (ty 7) l₇ 0 (LL.val T.the-type T′.the-laws (σ .turns))) ∷ ‵ (fdies (ty 7) l₇)
-        ∷ ‵ (fat fullShare (ty 6) l₆ 0 (slice-val r₄)) ∷ ‵ (fdies (ty 6) l₆)
-        ∷ ‵ (fat fullShare (ty 5) l₅ 0 (slice-val r₃)) ∷ ‵ (fdies (ty 5) l₅)
-        ∷ ‵ (fat fullShare (ty 4) l₄ 0 (slice-val r₂)) ∷ ‵ (fdies (ty 4) l₄)
-        ∷ ‵ (fat fullShare (ty 3) l₃ 0 (sliceVal (b₁, o₁) (length ys))) ∷ ‵ (fdies (ty 3) l₃)
-        ∷ ‵ (fat fullShare (ty 2) l₂ 0 (LL.val S.the-type S′.the-laws s)) ∷ ‵ (fdies (ty 2) l₂)
-        ∷ ‵ (fat fullShare (ty 1) l₁ 0 (sliceVal (b₀, o₀) (length xs))) ∷ ‵ (fdies (ty 1) l₁)
-        ∷ ‵ (froom (ty 0) l₀ 0) ∷ ‵ (fdies (ty 0) l₀) ∷ []
+      At σ =
+          ‵ (flft κ₀ q₀) ∷ ‵ (MutSlice (named 0) κ₀ u64 .own (img γ₀ (σ .words)) (sliceVal (b₀, o₀) (length xs) ∷ []))
+          ∷ ‵ (flft κ₁ q₁) ∷ ‵ (fobs γ₁ (codedHoleys P.the-row .code (heres P.the-row (σ .list)))) ∷ ‵ (fbor κ₁ (Held P.the-row (length (σ .list)) b₁ o₁ γ₁))
+          ∷ ‵ (flft κ₃ q₃) ∷ ‵ lent-writes ∷ ‵ (flft κ₄ q₄) ∷ ‵ lent-bytes ∷ ‵ (flft κ₂ q₂) ∷ ‵ lent-answers ∷
+          ‵ (froom (ty 21) l₂₁ 0) ∷ ‵ (fdies (ty 21) l₂₁) ∷ ‵ (froom (ty 20) l₂₀ 0) ∷ ‵ (fdies (ty 20) l₂₀) ∷
+          ‵ (froom (ty 19) l₁₉ 0) ∷ ‵ (fdies (ty 19) l₁₉) ∷ ‵ (froom (ty 18) l₁₈ 0) ∷ ‵ (fdies (ty 18) l₁₈) ∷
+          ‵ (froom (ty 17) l₁₇ 0) ∷ ‵ (fdies (ty 17) l₁₇) ∷ ‵ (froom (ty 16) l₁₆ 0) ∷ ‵ (fdies (ty 16) l₁₆) ∷
+          ‵ (froom (ty 15) l₁₅ 0) ∷ ‵ (fdies (ty 15) l₁₅) ∷ ‵ (froom (ty 14) l₁₄ 0) ∷ ‵ (fdies (ty 14) l₁₄) ∷
+          ‵ (froom (ty 13) l₁₃ 0) ∷ ‵ (fdies (ty 13) l₁₃) ∷ ‵ (fat fullShare (ty 12) l₁₂ 0 (vint w64 (length (answers .now)))) ∷ ‵ (fdies (ty 12) l₁₂) ∷
+          ‵ (fat fullShare (ty 11) l₁₁ 0 (vint w64 (length ys))) ∷ ‵ (fdies (ty 11) l₁₁) ∷ ‵ (froom (ty 10) l₁₀ 0) ∷ ‵ (fdies (ty 10) l₁₀) ∷
+          ‵ (froom (ty 9) l₉ 0) ∷ ‵ (fdies (ty 9) l₉) ∷ ‵ (froom (ty 8) l₈ 0) ∷ ‵ (fdies (ty 8) l₈) ∷
+          ‵ (fat fullShare (ty 7) l₇ 0 (LL.val T.the-type T′.the-laws (σ .turns))) ∷ ‵ (fdies (ty 7) l₇) ∷
+          ‵ (fat fullShare (ty 6) l₆ 0 (slice-val bytes)) ∷ ‵ (fdies (ty 6) l₆) ∷ ‵ (fat fullShare (ty 5) l₅ 0 (slice-val writes)) ∷ ‵ (fdies (ty 5) l₅) ∷
+          ‵ (fat fullShare (ty 4) l₄ 0 (slice-val answers)) ∷ ‵ (fdies (ty 4) l₄) ∷
+          ‵ (fat fullShare (ty 3) l₃ 0 (sliceVal (b₁, o₁) (length ys))) ∷ ‵ (fdies (ty 3) l₃) ∷
+          ‵ (fat fullShare (ty 2) l₂ 0 (LL.val S.the-type S′.the-laws s)) ∷ ‵ (fdies (ty 2) l₂) ∷
+          ‵ (fat fullShare (ty 1) l₁ 0 (sliceVal (b₀, o₀) (length xs))) ∷ ‵ (fdies (ty 1) l₁) ∷ ‵ (froom (ty 0) l₀ 0) ∷ ‵ (fdies (ty 0) l₀) ∷ []
 
       abbrev Turned : State → Out → SProp 𝓤
       Turned σ = afterTurn 𝓤 H (Below 𝓤 H A Nearer At σ)
@@ -354,7 +416,7 @@ module _ {M : Type 1} (𝓤 : URA M) (H : Heap 𝓤) (A : Atoms 𝓤) (W : Given
           inside-list : i < length zs
           inside-list = inside (σ .stands) on
 
-          abbrev next : (r : TurnLeft) (w : Val) (vs : List ℕ) → Is L.the-row r (w ∷ []) → Turning ws t point (r₃ .now) (r₄ .now) r vs → length vs ≡ length xs → State
+          abbrev next : (r : TurnLeft) (w : Val) (vs : List ℕ) → Is L.the-row r (w ∷ []) → Turning ws t point (writes .now) (bytes .now) r vs → length vs ≡ length xs → State
           next r w vs is turned e = record {
             words = vs;
             list = set zs i (r .point);
@@ -362,81 +424,97 @@ module _ {M : Type 1} (𝓤 : URA M) (H : Heap 𝓤) (A : Atoms 𝓤) (W : Given
             as-long = e;
             listed = length-set zs i (r .point) ∙ σ .listed;
             known = left-turns r w is;
-            stands = turned xs s ys zs (length (r₂ .now)) (σ .stands) on refl .0;
+            stands = turned xs s ys zs (length (answers .now)) (σ .stands) on refl .0;
           }
 
-          nearer : (r : TurnLeft) (vs : List ℕ) → Turning ws t point (r₃ .now) (r₄ .now) r vs → turnsLeft (r .turns) < turnsLeft t
-          nearer r vs turned = turned xs s ys zs (length (r₂ .now)) (σ .stands) on refl .1
+          nearer : (r : TurnLeft) (vs : List ℕ) → Turning ws t point (writes .now) (bytes .now) r vs → turnsLeft (r .turns) < turnsLeft t
+          nearer r vs turned = turned xs s ys zs (length (answers .now)) (σ .stands) on refl .1
 
           more : Sq W (At σ) (runs C Λ En pieces.turn-1 (anyQ (Turned σ)))
           unfolding afterTurn
           more =
-              assigns ! (of-opd ! (load ! (from ! (fld ! refl (stop !))) (look-in ! 39 (sub ! 0 refl (whole !))))) (from ! (stop !)) (init ! 27 refl (tt, tt)) $
-              rewrite ! 27 (λ (y : Bool). ‵ (fat fullShare tyBool l₁₃ 0 (vbool y))) on refl $ stays ! (load ! (from ! (stop !)) (look ! 27 refl)) $
+              assigns ! (of-opd ! (load ! (from ! (fld ! refl (stop !))) (look-in ! (7 behind 11) (sub ! 0 refl (whole !))))) (from ! (stop !)) (init ! (13
+              behind 11) refl (tt, tt)) $ rewrite ! (13 behind 11) (λ (y : Bool). ‵ (fat fullShare tyBool l₁₃ 0 (vbool y))) on refl $
+              stays ! (load ! (from ! (stop !)) (look ! (13 behind 11) refl)) $
               -- the record is taken out of the list
-              assigns ! (of-opd ! (load ! (from ! (fld ! refl (stop !))) (look-in ! 39 (sub ! 1 refl (whole !))))) (from ! (stop !)) (init ! 37 refl (tt, record { fits = at-fits })) $
-              assigns ! (bin ! (load ! (from ! (stop !)) (look ! 37 refl)) sized (scaled-fits i (length zs) size inside-list (list-room .1))) (from ! (stop !)) (init ! 25 refl (tt, scaled-fits i (length zs) size inside-list (list-room .1))) $
-              assigns ! (bin ! (load ! (from ! (fld ! refl (stop !))) (look-in ! 47 (sub ! 0 refl (whole !)))) (load ! (from ! (stop !)) (look ! 25 refl)) tt) (from ! (stop !)) (init ! 23 refl (tt, tt)) $
-              rewrite ! 23 (λ (p : ℕ). ‵ (fat fullShare tyPtr l₁₅ 0 (vptr b₁ p))) (sym (place-is size o₁ i)) refl $ move ! (3 ∷ 4 ∷ 2 ∷ []) $
-              opens-slice ! tt P.the-row zs b₁ o₁ $
-              elem-out ! P.the-row (Is P.the-row) (shows 𝓤 H A P.the-row) (LL.vals P.the-type P′.the-laws) (LL.tells P.the-type P′.the-laws) fullShare zs i none b₁ o₁ inside-list (λ is-point.
-              assigns ! (of-opd ! (load ! (from ! (hop ! (look ! 26 refl) (stop !))) (look-raw ! 0 refl))) (from ! (stop !)) (init ! 24 refl (typed-point point is-point)) $
-              assigns ! (of-opd ! (load ! (from ! (stop !)) (look ! 24 refl))) (from ! (stop !)) (init ! 38 refl (typed-point point is-point)) $
+              assigns ! (of-opd ! (load ! (from ! (fld ! refl (stop !))) (look-in ! (7 behind 11) (sub ! 1 refl (whole !))))) (from ! (stop !)) (init ! (8
+              behind 11) refl (tt, record { fits = at-fits })) $ assigns ! (bin ! (load ! (from ! (stop !)) (look ! (8 behind 11) refl)) sized (scaled-fits i
+              (length zs) size inside-list (list-room .1))) (from ! (stop !)) (init ! (14 behind 11) refl (
+                tt,
+                scaled-fits i (length zs) size inside-list
+                    (list-room .1),
+              )) $ assigns ! (bin ! (load ! (from ! (fld ! refl (stop !))) (look-in ! (3 behind 11) (sub ! 0 refl (whole !)))) (load ! (from !
+              (stop !)) (look ! (14 behind 11) refl)) tt) (from ! (stop !)) (init ! (15 behind 11) refl (tt, tt)) $
+              rewrite ! (15 behind 11) (λ (p : ℕ). ‵ (fat fullShare tyPtr l₁₅ 0 (vptr b₁ p))) (sym (place-is size o₁ i)) refl $ move ! (3 ∷ 4 ∷ 2 ∷ []) $
+              opens-slice ! tt P.the-row zs b₁ o₁ $ elem-out ! P.the-row (Is P.the-row) (shows 𝓤 H A P.the-row) (LL.vals P.the-type P′.the-laws) (LL.tells
+              P.the-type P′.the-laws) fullShare zs i none b₁ o₁ inside-list (λ is-point. assigns ! (of-opd ! (load ! (from ! (hop ! (look ! (15 behind 14)
+              refl) (stop !))) (look-raw ! 0 refl))) (from ! (stop !)) (init ! (16 behind 14) refl (typed-point point is-point)) $ assigns ! (of-opd ! (load !
+              (from ! (stop !)) (look ! (16 behind 14) refl))) (from ! (stop !)) (init ! (9 behind 14) refl (typed-point point is-point)) $
               elem-back ! P.the-row fullShare zs i none (LL.vals P.the-type P′.the-laws point) b₁ o₁ inside-list $
               closes-slice ! tt P.the-row zs zs refl b₁ o₁ $
               -- the image is lent again for a lifetime of the call
-              assigns ! (addr ! (from ! (fld ! refl (hop ! (look-in ! 51 (sub ! 0 refl (whole !))) (stop !))))) (from ! (stop !)) (init ! 19 refl (tt, tt)) $
-              assigns ! (agg ! (and-then ! (load ! (from ! (stop !)) (look ! 19 refl)) (and-then ! (load ! (from ! (fld ! refl (stop !))) (look-in ! 51 (sub ! 1 refl (whole !)))) (no-more !)))) (from ! (stop !)) (init ! 17 refl (tt, (tt, (record { fits = xs-room .0 }, tt)))) $
-              rewrite ! 17 (λ (m : ℕ). ‵ (fat fullShare (ty 18) l₁₈ 0 (sliceVal (b₀, o₀) m))) (sym as-long) refl $
+              assigns ! (addr ! (from ! (fld ! refl (hop ! (look-in ! (1 behind 11) (sub ! 0 refl (whole !))) (stop !))))) (from ! (stop !)) (init ! (17
+              behind 11) refl (tt, tt)) $ assigns ! (agg ! (and-then ! (load ! (from ! (stop !)) (look ! (17 behind 11) refl)) (and-then ! (load ! (from !
+              (fld ! refl (stop !))) (look-in ! (1 behind 11) (sub ! 1 refl (whole !)))) (no-more !)))) (from ! (stop !)) (init ! (18 behind 11) refl (
+                tt,
+                (tt, (record { fits = xs-room .0 }, tt)),
+              )) $
+              rewrite ! (18 behind 11) (λ (m : ℕ). ‵ (fat fullShare (ty 18) l₁₈ 0 (sliceVal (b₀, o₀) m))) (sym as-long) refl $
               rewrite ! 4 (λ (m : ℕ). ‵ (MutSlice (named 0) κ₀ u64 .own (img γ₀ ws) (sliceVal (b₀, o₀) m ∷ []))) (sym as-long) refl $ lft-new ! tt (λ ν.
-              move ! (5 ∷ 4 ∷ []) $
-              use2 W (later (some (λ (δ : GName). ‵ (imageFor ν δ ws) ⊛ ‵ (LentAgain u64 κ₀ (ν ∷ []) q₀ γ₀ b₀ o₀ δ ws)))) (lends-again u64 κ₀ (ν ∷ []) q₀ γ₀ b₀ o₀ 𝓤 H A W (named 0) (named 0) ws) $
-              await ! tt $ pick ! (λ δ. split ! $ move ! (7 ∷ []) $
-              use1 W (‵ lent-writes ⊛ ‵ lent-writes) (shr-slice-copy 𝓤 H A W (named 3) κ₃ Pairs .twice r₃ (slice-vals r₃)) $ split ! $ move ! (10 ∷ []) $
-              use1 W (‵ lent-bytes ⊛ ‵ lent-bytes) (shr-slice-copy 𝓤 H A W (named 4) κ₄ u8 .twice r₄ (slice-vals r₄)) $ split ! $
-              move ! (6 ∷ 10 ∷ 11 ∷ 4 ∷ 2 ∷ 0 ∷ []) $
-              group ! 6 $ use1 W (raw (Turn 𝓤 H A at-mem run .pre (to-turn ν δ ws t point))) (goes-turn ν δ ws t point (within (σ .stands) on) known is-point) $
-              calls-at ! fm (Turn 𝓤 H A at-mem run) knows-turn (to-turn ν δ ws t point) (and-then ! (load ! (from ! (stop !)) (look ! 15 refl)) (and-then ! (load ! (from ! (stop !)) (look ! 37 refl)) (and-then ! (load ! (from ! (stop !)) (look ! 33 refl)) (and-then ! (load ! (from ! (stop !)) (look ! 41 refl)) (and-then ! (load ! (from ! (stop !)) (look ! 39 refl)) (no-more !)))))) (λ w.
-              use1 W (later (some (λ (r : TurnLeft). ((‵ (flft (ν ∷ []) fullShare) ⊛ (‵ (flft κ₃ q₃) ⊛ (‵ (flft κ₄ q₄) ⊛ ‵ ftrue))) ⊛ ‵ (L.the-row .own r (w ∷ []))) ⊛ some (λ (vs : TurnEnds). ‵ (lasts turn.ended (ν ∷ [], (κ₃, (κ₄, tt))) (turn-args δ ws t point) vs) ⊛ raw (fact 𝓤 (Turning ws t point (r₃ .now) (r₄ .now) r (vs .0))))))) (id⊢ 𝓤 _) $
-              await ! tt $ pick ! (λ r. split ! $ move ! (1 ∷ []) $ pick ! (λ vs. split ! $ move ! (1 ∷ []) $
-              heard ! (Turning ws t point (r₃ .now) (r₄ .now) r (vs .0)) (λ turned. fsplit ! $ fsplit ! $ move ! (1 ∷ []) $ feqL ! (λ same-long.
-              move ! (2 ∷ []) $ split ! $ move ! (1 ∷ []) $ peeks ! L.the-row (Is L.the-row) (shows 𝓤 H A L.the-row) r (w ∷ []) (λ is-left.
-              land ! (from ! (stop !)) (init ! 34 refl (LL.lawful L.the-type L′.the-laws 𝓤 H A W .typed r _ is-left .0)) $
-              rewrite ! 34 (λ (u : Val). ‵ (fat fullShare (ty 10) l₁₀ 0 u)) (ap only (LL.tells L.the-type L′.the-laws r (w ∷ []) is-left)) refl $ drop ! $
+              move ! (5 ∷ 4 ∷ []) $ use2 W (later (some (λ (δ : GName). ‵ (imageFor ν δ ws) ⊛ ‵ (LentAgain u64 κ₀ (ν ∷ []) q₀ γ₀ b₀ o₀ δ ws)))) (lends-again
+              u64 κ₀ (ν ∷ []) q₀ γ₀ b₀ o₀ 𝓤 H A W (named 0) (named 0) ws) $ await ! tt $ pick ! (λ δ. split ! $ move ! (7 ∷ []) $
+              use1 W (‵ lent-writes ⊛ ‵ lent-writes) (shr-slice-copy 𝓤 H A W (named 3) κ₃ Pairs .twice writes (slice-vals writes)) $ split ! $
+              move ! (10 ∷ []) $ use1 W (‵ lent-bytes ⊛ ‵ lent-bytes) (shr-slice-copy 𝓤 H A W (named 4) κ₄ u8 .twice bytes (slice-vals bytes)) $ split ! $
+              move ! (6 ∷ 10 ∷ 11 ∷ 4 ∷ 2 ∷ 0 ∷ []) $ group ! 6 $ use1 W (raw (Turn 𝓤 H A at-mem run .pre (to-turn ν δ ws t point))) (goes-turn ν δ ws t point
+              (within (σ .stands) on) known is-point) $ calls-at ! fm (Turn 𝓤 H A at-mem run) knows-turn (to-turn ν δ ws t point) (and-then ! (load ! (from !
+              (stop !)) (look ! (18 behind 9) refl)) (and-then ! (load ! (from ! (stop !)) (look ! (7 behind 9) refl)) (and-then ! (load ! (from ! (stop !))
+              (look ! (9 behind 9) refl)) (and-then ! (load ! (from ! (stop !)) (look ! (5 behind 9) refl)) (and-then ! (load ! (from ! (stop !)) (look ! (6
+              behind 9) refl)) (no-more !)))))) (λ w. use1 W (after-turn ν δ ws t point w) (id⊢ 𝓤 _) $ await ! tt $ pick ! (λ r. split ! $ move ! (1 ∷ []) $
+              pick ! (λ vs. split ! $ move ! (1 ∷ []) $ heard ! (Turning ws t point (writes .now) (bytes .now) r (vs .0)) (λ turned. fsplit ! $ fsplit ! $
+              move ! (1 ∷ []) $ feqL ! (λ same-long. move ! (2 ∷ []) $ split ! $ move ! (1 ∷ []) $
+              peeks ! L.the-row (Is L.the-row) (shows 𝓤 H A L.the-row) r (w ∷ []) (λ is-left.
+              land ! (from ! (stop !)) (init ! (10 behind 12) refl (LL.lawful L.the-type L′.the-laws 𝓤 H A W .typed r _ is-left .0)) $
+              rewrite ! (10 behind 12) (λ (u : Val). ‵ (fat fullShare (ty 10) l₁₀ 0 u)) (ap only (LL.tells L.the-type L′.the-laws r (w ∷ []) is-left)) refl $
+              drop ! $
               -- the lifetime is ended, and the image comes back
-              split ! $ lft-end ! tt $ move ! (1 ∷ []) $ split ! $ move ! (1 ∷ []) $ split ! $ move ! (3 ∷ 8 ∷ 4 ∷ []) $
-              use3 W (later (‵ (MutSlice (named 0) κ₀ u64 .own (img γ₀ (vs .0)) (sliceVal (b₀, o₀) (length ws) ∷ [])) ⊛ ‵ (flft κ₀ q₀))) (comes-back u64 κ₀ (ν ∷ []) q₀ γ₀ b₀ o₀ 𝓤 H A W (named 0) (named 0) ws δ (vs .0) (subst (Room u64) (sym as-long) xs-room) same-long) $
-              await ! tt $ split ! $ rewrite ! 0 (λ (m : ℕ). ‵ (MutSlice (named 0) κ₀ u64 .own (img γ₀ (vs .0)) (sliceVal (b₀, o₀) m ∷ []))) as-long refl $
+              split ! $ lft-end ! tt $ move ! (1 ∷ []) $ split ! $ move ! (1 ∷ []) $ split ! $ move ! (3 ∷ 8 ∷ 4 ∷ []) $ use3 W (later (‵ (MutSlice (named 0)
+              κ₀ u64 .own (img γ₀ (vs .0)) (sliceVal (b₀, o₀) (length ws) ∷ [])) ⊛ ‵ (flft κ₀ q₀))) (comes-back u64 κ₀ (ν ∷ []) q₀ γ₀ b₀ o₀ 𝓤 H A W (named 0)
+              (named 0) ws δ (vs .0) (subst (Room u64) (sym as-long) xs-room) same-long) $ await ! tt $ split ! $
+              rewrite ! 0 (λ (m : ℕ). ‵ (MutSlice (named 0) κ₀ u64 .own (img γ₀ (vs .0)) (sliceVal (b₀, o₀) m ∷ []))) as-long refl $
               -- the record is put back
-              assigns ! (bin ! (load ! (from ! (stop !)) (look ! 39 refl)) sized (scaled-fits i (length zs) size inside-list (list-room .1))) (from ! (stop !)) (store ! 27 refl (tt, scaled-fits i (length zs) size inside-list (list-room .1))) $
-              assigns ! (bin ! (load ! (from ! (fld ! refl (stop !))) (look-in ! 49 (sub ! 0 refl (whole !)))) (load ! (from ! (stop !)) (look ! 27 refl)) tt) (from ! (stop !)) (init ! 17 refl (tt, tt)) $
-              rewrite ! 17 (λ (p : ℕ). ‵ (fat fullShare tyPtr l₁₉ 0 (vptr b₁ p))) (sym (place-is size o₁ i)) refl $ move ! (8 ∷ 9 ∷ 10 ∷ []) $
-              opens-slice ! tt P.the-row zs b₁ o₁ $
-              elem-out ! P.the-row (Is P.the-row) (shows 𝓤 H A P.the-row) (LL.vals P.the-type P′.the-laws) (LL.tells P.the-type P′.the-laws) fullShare zs i none b₁ o₁ inside-list (λ _.
-              assigns ! (of-opd ! (load ! (from ! (fld ! refl (stop !))) (look-in ! 38 (sub ! 1 refl (whole !))))) (from ! (hop ! (look ! 20 refl) (stop !))) (store-raw ! 0 refl (typed-point (r .point) (left-point r w is-left))) $
-              move ! (1 ∷ []) $ drop ! $
-              owned ! P.the-row (Is P.the-row) ((LL.makes P.the-type P′.the-plain) 𝓤 H A) (r .point) (LL.vals P.the-type P′.the-laws (r .point)) (left-point r w is-left) $
-              move ! (1 ∷ 0 ∷ 2 ∷ []) $ elem-put ! P.the-row fullShare zs i (r .point) (LL.vals P.the-type P′.the-laws (r .point)) b₁ o₁ inside-list $
-              closes-slice ! tt P.the-row zs (set zs i (r .point)) (length-set zs i (r .point)) b₁ o₁ $
-              assigns-last ! (of-opd ! (load ! (from ! (fld ! refl (stop !))) (look-in ! 35 (sub ! 0 refl (whole !))))) (from ! (stop !)) (store ! 41 refl (typed-turns (r .turns) (left-turns r w is-left))) $
-              forget ! 39 refl $ forget ! 37 refl $ forget ! 35 refl $ forget ! 29 refl $ forget ! 27 refl $ forget ! 25 refl $ forget ! 23 refl $
-              forget ! 21 refl $ forget ! 19 refl $ forget ! 17 refl $
-              keep ! (4 ∷ 3 ∷ 2 ∷ 0 ∷ 1 ∷ 7 ∷ 10 ∷ 5 ∷ 9 ∷ 11 ∷ 12 ∷ 13 ∷ 14 ∷ 15 ∷ 16 ∷ 17 ∷ 18 ∷ 19 ∷ 20 ∷ 21 ∷ 22 ∷ 23 ∷ 24 ∷ 25 ∷ 26 ∷ 27 ∷ 28 ∷ 29 ∷ 30 ∷ 31 ∷ 32 ∷ 33 ∷ 34 ∷ 35 ∷ 36 ∷ 37 ∷ 38 ∷ 39 ∷ 40 ∷ 41 ∷ 42 ∷ 43 ∷ 44 ∷ 45 ∷ 46 ∷ 47 ∷ 48 ∷ 49 ∷ 50 ∷ 51 ∷ 52 ∷ 53 ∷ 54 ∷ 55 ∷ 56 ∷ []) $
+              assigns ! (bin ! (load ! (from ! (stop !)) (look ! (8 behind 13) refl)) sized (scaled-fits i (length zs) size inside-list (list-room .1))) (from
+              ! (stop !)) (store ! (14 behind 13) refl (tt, scaled-fits i (length zs) size inside-list (list-room .1))) $ assigns ! (bin ! (load ! (from !
+              (fld ! refl (stop !))) (look-in ! (3 behind 13) (sub ! 0 refl (whole !)))) (load ! (from ! (stop !)) (look ! (14 behind 13) refl)) tt) (from !
+              (stop !)) (init ! (19 behind 13) refl (tt, tt)) $
+              rewrite ! (19 behind 13) (λ (p : ℕ). ‵ (fat fullShare tyPtr l₁₉ 0 (vptr b₁ p))) (sym (place-is size o₁ i)) refl $ move ! (8 ∷ 9 ∷ 10 ∷ []) $
+              opens-slice ! tt P.the-row zs b₁ o₁ $ elem-out ! P.the-row (Is P.the-row) (shows 𝓤 H A P.the-row) (LL.vals P.the-type P′.the-laws) (LL.tells
+              P.the-type P′.the-laws) fullShare zs i none b₁ o₁ inside-list (λ _. assigns ! (of-opd ! (load ! (from ! (fld ! refl (stop !))) (look-in ! (10
+              behind 16) (sub ! 1 refl (whole !))))) (from ! (hop ! (look ! (19 behind 16) refl) (stop !))) (store-raw ! 0 refl (typed-point (r .point)
+              (left-point r w is-left))) $ move ! (1 ∷ []) $ drop ! $ owned ! P.the-row (Is P.the-row) ((LL.makes P.the-type P′.the-plain) 𝓤 H A) (r .point)
+              (LL.vals P.the-type P′.the-laws (r .point)) (left-point r w is-left) $ move ! (1 ∷ 0 ∷ 2 ∷ []) $
+              elem-put ! P.the-row fullShare zs i (r .point) (LL.vals P.the-type P′.the-laws (r .point)) b₁ o₁ inside-list $
+              closes-slice ! tt P.the-row zs (set zs i (r .point)) (length-set zs i (r .point)) b₁ o₁ $ assigns-last ! (of-opd ! (load ! (from ! (fld ! refl
+              (stop !))) (look-in ! (10 behind 13) (sub ! 0 refl (whole !))))) (from ! (stop !)) (store ! (7 behind 13) refl (typed-turns (r .turns)
+              (left-turns r w is-left))) $ forget ! (8 behind 13) refl $ forget ! (9 behind 13) refl $ forget ! (10 behind 13) refl $
+              forget ! (13 behind 13) refl $ forget ! (14 behind 13) refl $ forget ! (15 behind 13) refl $ forget ! (16 behind 13) refl $
+              forget ! (17 behind 13) refl $ forget ! (18 behind 13) refl $ forget ! (19 behind 13) refl $ keep ! (4 ∷ 3 ∷ 2 ∷ 0 ∷ 1 ∷ 7 ∷ 10 ∷ 5 ∷ 9 ∷ 11 ∷
+              12 ∷ 13 ∷ 14 ∷ 15 ∷ 16 ∷ 17 ∷ 18 ∷ 19 ∷ 20 ∷ 21 ∷ 22 ∷ 23 ∷ 24 ∷ 25 ∷ 26 ∷ 27 ∷ 28 ∷ 29 ∷ 30 ∷ 31 ∷ 32 ∷ 33 ∷ 34 ∷ 35 ∷ 36 ∷ 37 ∷ 38 ∷ 39 ∷ 40 ∷
+              41 ∷ 42 ∷ 43 ∷ 44 ∷ 45 ∷ 46 ∷ 47 ∷ 48 ∷ 49 ∷ 50 ∷ 51 ∷ 52 ∷ 53 ∷ 54 ∷ 55 ∷ 56 ∷ []) $
               again ! Nearer At σ (next r w (vs .0) is-left turned (same-long ∙ as-long)) (nearer r (vs .0) turned)))))))))))
 
         module _ (off : t .going ≡ false) where
-          exits : (w : Val) (r : Served) (answered : List (List ℕ)) → length answered ≡ length (r₂ .now) → Ends t (r₂ .now) r answered
+          exits : (w : Val) (r : Served) (answered : List (List ℕ)) → length answered ≡ length (answers .now) → Ends t (answers .now) r answered
               → ent 𝓤 (⋆ 𝓤 H A (‵ (flft κ₀ q₀) ∷ ‵ (flft κ₁ q₁) ∷ ‵ (flft κ₂ q₂) ∷ ‵ (flft κ₃ q₃) ∷ ‵ (flft κ₄ q₄)
               ∷ ‵ (MutSlice (named 0) κ₀ u64 .own (img γ₀ ws) (sliceVal (b₀, o₀) (length xs) ∷ []))
               ∷ ‵ (fobs γ₁ (codedHoleys P.the-row .code (heres P.the-row zs))) ∷ ‵ (fbor κ₁ (Held P.the-row (length zs) b₁ o₁ γ₁))
-              ∷ ‵ (finally Answers (r₂ .name) answered) ∷ ‵ lent-writes ∷ ‵ lent-bytes ∷ ‵ (D.the-row .own r (w ∷ [])) ∷ [])) (Post w)
+              ∷ ‵ (finally Answers (answers .name) answered) ∷ ‵ lent-writes ∷ ‵ lent-bytes ∷ ‵ (D.the-row .own r (w ∷ [])) ∷ [])) (Post w)
           exits w r answered e ended =
               qed W (‵ (flft κ₀ q₀) ∷ ‵ (flft κ₁ q₁) ∷ ‵ (flft κ₂ q₂) ∷ ‵ (flft κ₃ q₃) ∷ ‵ (flft κ₄ q₄)
               ∷ ‵ (MutSlice (named 0) κ₀ u64 .own (img γ₀ ws) (sliceVal (b₀, o₀) (length xs) ∷ []))
               ∷ ‵ (fobs γ₁ (codedHoleys P.the-row .code (heres P.the-row zs))) ∷ ‵ (fbor κ₁ (Held P.the-row (length zs) b₁ o₁ γ₁))
-              ∷ ‵ (finally Answers (r₂ .name) answered) ∷ ‵ lent-writes ∷ ‵ lent-bytes ∷ ‵ (D.the-row .own r (w ∷ [])) ∷ []) ∵
+              ∷ ‵ (finally Answers (answers .name) answered) ∷ ‵ lent-writes ∷ ‵ lent-bytes ∷ ‵ (D.the-row .own r (w ∷ [])) ∷ []) ∵
               suffices ! _ (ends-at 𝓤 H A serve.ended stayed (serve.clauses 𝓤 H A at-mem run) W bound w r (ws, (tt, (zs, (answered, (tt, (tt, tt))))))
-              (as-long, (tt, (σ .listed, (e, (tt, (tt, tt))))))) $ says ! (served xs s ys (r₂ .now) (r₃ .now) (r₄ .now) r answered ended (σ .stands) off) $
+              (as-long, (tt, (σ .listed, (e, (tt, (tt, tt))))))) $ says ! (served xs s ys (answers .now) (writes .now) (bytes .now) r answered ended (σ .stands) off) $
               nothing ! $ move ! (5 ∷ 0 ∷ []) $ join ! $ move ! (4 ∷ 0 ∷ []) $ join ! $ move ! (3 ∷ 0 ∷ []) $ join ! $ move ! (2 ∷ 0 ∷ []) $ join ! $
               move ! (1 ∷ 0 ∷ []) $ join ! $ frame ! $
               -- [the image; obs; the borrow; the answers; writes; bytes; the result]
@@ -450,29 +528,34 @@ module _ {M : Type 1} (𝓤 : URA M) (H : Heap 𝓤) (A : Atoms 𝓤) (W : Given
           stops : Sq W (At σ) (runs C Λ En pieces.turn-1 (anyQ (Turned σ)))
           unfolding afterTurn
           stops =
-              assigns ! (of-opd ! (load ! (from ! (fld ! refl (stop !))) (look-in ! 39 (sub ! 0 refl (whole !))))) (from ! (stop !)) (init ! 27 refl (tt, tt)) $
-              rewrite ! 27 (λ (y : Bool). ‵ (fat fullShare tyBool l₁₃ 0 (vbool y))) off refl $
-              leaves-loop ! (load ! (from ! (stop !)) (look ! 27 refl)) $ exec ! C Λ En pieces.t-5 (atRet En Post) $
+              assigns ! (of-opd ! (load ! (from ! (fld ! refl (stop !))) (look-in ! (7 behind 11) (sub ! 0 refl (whole !))))) (from ! (stop !)) (init ! (13
+              behind 11) refl (tt, tt)) $ rewrite ! (13 behind 11) (λ (y : Bool). ‵ (fat fullShare tyBool l₁₃ 0 (vbool y))) off refl $
+              leaves-loop ! (load ! (from ! (stop !)) (look ! (13 behind 11) refl)) $ exec ! C Λ En pieces.t-5 (atRet En Post) $
               -- the answers are lent for good
-              assigns ! (addr ! (from ! (fld ! refl (hop ! (look-in ! 45 (sub ! 0 refl (whole !))) (stop !))))) (from ! (stop !)) (init ! 13 refl (tt, tt)) $
-              assigns ! (agg ! (and-then ! (load ! (from ! (stop !)) (look ! 13 refl)) (and-then ! (load ! (from ! (fld ! refl (stop !))) (look-in ! 45 (sub ! 1 refl (whole !)))) (no-more !)))) (from ! (stop !)) (init ! 11 refl (tt, (tt, (record { fits = answers-room .0 }, tt)))) $
-              move ! (9 ∷ 10 ∷ []) $
-              group ! 2 $ use1 W (raw (Ending 𝓤 H A at-mem run .pre (to-ends t))) (goes-ends t (room-for xs s ys (r₂ .now) (r₃ .now) (r₄ .now) (σ .stands) off) known) $
-              calls-at ! fm (Ending 𝓤 H A at-mem run) knows-ends (to-ends t) (and-then ! (load ! (from ! (stop !)) (look ! 38 refl)) (and-then ! (load ! (from ! (stop !)) (look ! 10 refl)) (no-more !))) (λ w.
-              use1 W (later (some (λ (r : Served). ((‵ (flft κ₂ q₂) ⊛ ‵ ftrue) ⊛ ‵ (D.the-row .own r (w ∷ []))) ⊛ some (λ (vs : EndsEnds). ‵ (lasts ends.ended (κ₂, tt) (t, (r₂, tt)) vs) ⊛ raw (fact 𝓤 (Ends t (r₂ .now) r (vs .1 .0))))))) (id⊢ 𝓤 _) $
-              await ! tt $ pick ! (λ r. split ! $ move ! (1 ∷ []) $ pick ! (λ vs. split ! $ move ! (1 ∷ []) $
-              heard ! (Ends t (r₂ .now) r (vs .1 .0)) (λ ended. fsplit ! $ move ! (1 ∷ []) $ fsplit ! $ fsplit ! $ move ! (1 ∷ []) $ feqL ! (λ same-long.
-              move ! (3 ∷ []) $ split ! $ move ! (1 ∷ []) $ peeks ! D.the-row (Is D.the-row) (shows 𝓤 H A D.the-row) r (w ∷ []) (λ is-served.
-              land ! (from ! (stop !)) (init ! 56 refl (LL.lawful D.the-type D′.the-laws 𝓤 H A W .typed r _ is-served .0)) $ returns ! (look ! 56 refl) $
-              forget ! 56 refl $ forget ! 54 refl $ forget ! 52 refl $ forget ! 50 refl $ forget ! 48 refl $ forget ! 46 refl $ forget ! 44 refl $
-              forget ! 42 refl $ forget ! 34 refl $ forget ! 32 refl $ forget ! 30 refl $ forget ! 16 refl $ forget ! 14 refl $ move ! (56 ∷ 57 ∷ []) $
-              free1 ! $ move ! (54 ∷ 55 ∷ []) $ free1 ! $ move ! (52 ∷ 53 ∷ []) $ free1 ! $ move ! (50 ∷ 51 ∷ []) $ free1 ! $ move ! (48 ∷ 49 ∷ []) $
-              free1 ! $ move ! (46 ∷ 47 ∷ []) $ free1 ! $ move ! (44 ∷ 45 ∷ []) $ free1 ! $ move ! (42 ∷ 43 ∷ []) $ free1 ! $ move ! (40 ∷ 41 ∷ []) $
-              free1 ! $ move ! (38 ∷ 39 ∷ []) $ free1 ! $ move ! (36 ∷ 37 ∷ []) $ free1 ! $ move ! (34 ∷ 35 ∷ []) $ free1 ! $ move ! (32 ∷ 33 ∷ []) $
-              free1 ! $ move ! (30 ∷ 31 ∷ []) $ free1 ! $ move ! (28 ∷ 29 ∷ []) $ free1 ! $ move ! (26 ∷ 27 ∷ []) $ free1 ! $ move ! (24 ∷ 25 ∷ []) $
-              free1 ! $ move ! (22 ∷ 23 ∷ []) $ free1 ! $ move ! (20 ∷ 21 ∷ []) $ free1 ! $ move ! (18 ∷ 19 ∷ []) $ free1 ! $ move ! (16 ∷ 17 ∷ []) $
-              free1 ! $ move ! (14 ∷ 15 ∷ []) $ free1 ! $ free0 ! $ move ! (1 ∷ []) $ split ! $
-              keep ! (6 ∷ 8 ∷ 0 ∷ 11 ∷ 13 ∷ 7 ∷ 9 ∷ 10 ∷ 3 ∷ 12 ∷ 14 ∷ 2 ∷ []) $ by ! (exits w r (vs .1 .0) same-long ended)))))))
+              assigns ! (addr ! (from ! (fld ! refl (hop ! (look-in ! (4 behind 11) (sub ! 0 refl (whole !))) (stop !))))) (from ! (stop !)) (init ! (20
+              behind 11) refl (tt, tt)) $ assigns ! (agg ! (and-then ! (load ! (from ! (stop !)) (look ! (20 behind 11) refl)) (and-then ! (load ! (from !
+              (fld ! refl (stop !))) (look-in ! (4 behind 11) (sub ! 1 refl (whole !)))) (no-more !)))) (from ! (stop !)) (init ! (21 behind 11) refl (
+                tt,
+                (tt, (record { fits = answers-room .0 }, tt)),
+              )) $ move ! (9 ∷ 10 ∷ []) $ group ! 2 $ use1 W (raw (Ending 𝓤 H A at-mem run .pre (to-ends t)))
+              (goes-ends t (room-for xs s ys (answers .now) (writes .now) (bytes .now) (σ .stands) off) known) $ calls-at ! fm (Ending 𝓤 H A at-mem run)
+              knows-ends (to-ends t) (and-then ! (load ! (from ! (stop !)) (look ! (7 behind 10) refl)) (and-then ! (load ! (from ! (stop !)) (look ! (21
+              behind 10) refl)) (no-more !))) (λ w. use1 W (after-ends t w) (id⊢ 𝓤 _) $ await ! tt $ pick ! (λ r. split ! $ move ! (1 ∷ []) $ pick ! (λ vs.
+              split ! $ move ! (1 ∷ []) $ heard ! (Ends t (answers .now) r (vs .1 .0)) (λ ended. fsplit ! $ move ! (1 ∷ []) $ fsplit ! $ fsplit ! $
+              move ! (1 ∷ []) $ feqL ! (λ same-long. move ! (3 ∷ []) $ split ! $ move ! (1 ∷ []) $
+              peeks ! D.the-row (Is D.the-row) (shows 𝓤 H A D.the-row) r (w ∷ []) (λ is-served.
+              land ! (from ! (stop !)) (init ! (0 behind 14) refl (LL.lawful D.the-type D′.the-laws 𝓤 H A W .typed r _ is-served .0)) $
+              returns ! (look ! (0 behind 14) refl) $ forget ! (0 behind 14) refl $ forget ! (1 behind 14) refl $ forget ! (2 behind 14) refl $
+              forget ! (3 behind 14) refl $ forget ! (4 behind 14) refl $ forget ! (5 behind 14) refl $ forget ! (6 behind 14) refl $
+              forget ! (7 behind 14) refl $ forget ! (11 behind 14) refl $ forget ! (12 behind 14) refl $ forget ! (13 behind 14) refl $
+              forget ! (20 behind 14) refl $ forget ! (21 behind 14) refl $ move ! (56 ∷ 57 ∷ []) $ free1 ! $ move ! (54 ∷ 55 ∷ []) $ free1 ! $
+              move ! (52 ∷ 53 ∷ []) $ free1 ! $ move ! (50 ∷ 51 ∷ []) $ free1 ! $ move ! (48 ∷ 49 ∷ []) $ free1 ! $ move ! (46 ∷ 47 ∷ []) $ free1 ! $
+              move ! (44 ∷ 45 ∷ []) $ free1 ! $ move ! (42 ∷ 43 ∷ []) $ free1 ! $ move ! (40 ∷ 41 ∷ []) $ free1 ! $ move ! (38 ∷ 39 ∷ []) $ free1 ! $
+              move ! (36 ∷ 37 ∷ []) $ free1 ! $ move ! (34 ∷ 35 ∷ []) $ free1 ! $ move ! (32 ∷ 33 ∷ []) $ free1 ! $ move ! (30 ∷ 31 ∷ []) $ free1 ! $
+              move ! (28 ∷ 29 ∷ []) $ free1 ! $ move ! (26 ∷ 27 ∷ []) $ free1 ! $ move ! (24 ∷ 25 ∷ []) $ free1 ! $ move ! (22 ∷ 23 ∷ []) $ free1 ! $
+              move ! (20 ∷ 21 ∷ []) $ free1 ! $ move ! (18 ∷ 19 ∷ []) $ free1 ! $ move ! (16 ∷ 17 ∷ []) $ free1 ! $ move ! (14 ∷ 15 ∷ []) $ free1 ! $
+              free0 ! $ move ! (1 ∷ []) $ split ! $ keep ! (6 ∷ 8 ∷ 0 ∷ 11 ∷ 13 ∷ 7 ∷ 9 ∷ 10 ∷ 3 ∷ 12 ∷ 14 ∷ 2 ∷ []) $
+              by ! (exits w r (vs .1 .0) same-long ended)))))))
 
         turns : Sq W (At σ) (runs C Λ En pieces.turn-1 (anyQ (Turned σ)))
         turns = go (t .going) refl
@@ -482,38 +565,45 @@ module _ {M : Type 1} (𝓤 : URA M) (H : Heap 𝓤) (A : Atoms 𝓤) (W : Given
             go false e = stops e
 
     walk : ent 𝓤 (onEntry 𝓤 H A serve.signature (κ₀, (κ₁, (κ₂, (κ₃, (κ₄, tt))))) (q₀, (q₁, (q₂, (q₃, (q₄, tt))))) arg vals) (WpFn 𝓤 H C Λ code.function
-        (sliceVal (b₀, o₀) (length xs) ∷ LL.val S.the-type S′.the-laws s ∷ sliceVal (b₁, o₁) (length ys) ∷ slice-val r₂ ∷ slice-val r₃ ∷ slice-val r₄ ∷ []) Post)
+        (sliceVal (b₀, o₀) (length xs) ∷ LL.val S.the-type S′.the-laws s ∷ sliceVal (b₁, o₁) (length ys) ∷ slice-val answers ∷ slice-val writes ∷ slice-val bytes ∷ []) Post)
     walk =
         qed W ((‵ (flft κ₀ q₀) ⊛ (‵ (flft κ₁ q₁) ⊛ (‵ (flft κ₂ q₂) ⊛ (‵ (flft κ₃ q₃) ⊛ (‵ (flft κ₄ q₄) ⊛ ‵ ftrue)))))
         ∷ ‵ (owns (MutSlice (named 0) κ₀ u64 ∷ S.the-row ∷ MutSlice (named 1) κ₁ P.the-row ∷ MutSlice (named 2) κ₂ Answers ∷ ShrSlice (named 3) κ₃ Pairs
         ∷ ShrSlice (named 4) κ₄ u8 ∷ []) arg vals) ∷ []) ∵ enter ! C Λ code.function
-        (sliceVal (b₀, o₀) (length xs) ∷ LL.val S.the-type S′.the-laws s ∷ sliceVal (b₁, o₁) (length ys) ∷ slice-val r₂ ∷ slice-val r₃ ∷ slice-val r₄ ∷ []) _ $
-        alloc1 ! (λ l₀. alloc1 ! (λ l₁. alloc1 ! (λ l₂. alloc1 ! (λ l₃. alloc1 ! (λ l₄. alloc1 ! (λ l₅. alloc1 ! (λ l₆. alloc1 ! (λ l₇. alloc1 ! (λ l₈. alloc1 ! (λ l₉. alloc1 ! (λ l₁₀. alloc1 ! (λ l₁₁. alloc1 ! (λ l₁₂. alloc1 ! (λ l₁₃. alloc1 ! (λ l₁₄. alloc1 ! (λ l₁₅. alloc1 ! (λ l₁₆. alloc1 ! (λ l₁₇. alloc1 ! (λ l₁₈. alloc1 ! (λ l₁₉. alloc1 ! (λ l₂₀. alloc1 ! (λ l₂₁. alloc0 ! $ params1 ! $
-        pass1 ! (init ! 40 refl (tt, (tt, (record { fits = xs-room .0 }, tt)))) $
-        pass1 ! (init ! 38 refl (LL.lawful S.the-type S′.the-laws 𝓤 H A W .typed s _ is-shared .0)) $
-        pass1 ! (init ! 36 refl (tt, (tt, (record { fits = ys-room .0 }, tt)))) $
-        pass1 ! (init ! 34 refl (tt, (tt, (record { fits = answers-room .0 }, tt)))) $
-        pass1 ! (init ! 32 refl (tt, (tt, (record { fits = writes-room .0 }, tt)))) $
-        pass1 ! (init ! 30 refl (tt, (tt, (record { fits = bytes-room .0 }, tt)))) $ pass0 ! $
-        assigns ! (of-opd ! (load ! (from ! (fld ! refl (stop !))) (look-in ! 36 (sub ! 1 refl (whole !))))) (from ! (stop !)) (init ! 20 refl (tt, record { fits = ys-room .0 })) $
-        assigns ! (of-opd ! (load ! (from ! (fld ! refl (stop !))) (look-in ! 34 (sub ! 1 refl (whole !))))) (from ! (stop !)) (init ! 18 refl (tt, record { fits = answers-room .0 })) $
+        (sliceVal (b₀, o₀) (length xs) ∷ LL.val S.the-type S′.the-laws s ∷ sliceVal (b₁, o₁) (length ys) ∷ slice-val answers ∷ slice-val writes ∷ slice-val bytes ∷ []) _ $
+        alloc1 ! (λ l₀. alloc1 ! (λ l₁. alloc1 ! (λ l₂. alloc1 ! (λ l₃. alloc1 ! (λ l₄. alloc1 ! (λ l₅. alloc1 ! (λ l₆. alloc1 ! (λ l₇. alloc1 ! (λ l₈.
+        alloc1 ! (λ l₉. alloc1 ! (λ l₁₀. alloc1 ! (λ l₁₁. alloc1 ! (λ l₁₂. alloc1 ! (λ l₁₃. alloc1 ! (λ l₁₄. alloc1 ! (λ l₁₅. alloc1 ! (λ l₁₆.
+        alloc1 ! (λ l₁₇. alloc1 ! (λ l₁₈. alloc1 ! (λ l₁₉. alloc1 ! (λ l₂₀. alloc1 ! (λ l₂₁. alloc0 ! $ params1 ! $
+        pass1 ! (init ! (1 behind 0) refl (tt, (tt, (record { fits = xs-room .0 }, tt)))) $
+        pass1 ! (init ! (2 behind 0) refl (LL.lawful S.the-type S′.the-laws 𝓤 H A W .typed s _ is-shared .0)) $
+        pass1 ! (init ! (3 behind 0) refl (tt, (tt, (record { fits = ys-room .0 }, tt)))) $
+        pass1 ! (init ! (4 behind 0) refl (tt, (tt, (record { fits = answers-room .0 }, tt)))) $
+        pass1 ! (init ! (5 behind 0) refl (tt, (tt, (record { fits = writes-room .0 }, tt)))) $
+        pass1 ! (init ! (6 behind 0) refl (tt, (tt, (record { fits = bytes-room .0 }, tt)))) $ pass0 ! $ assigns ! (of-opd ! (load ! (from ! (fld ! refl (stop
+        !))) (look-in ! (3 behind 0) (sub ! 1 refl (whole !))))) (from ! (stop !)) (init ! (11 behind 0) refl (tt, record { fits = ys-room .0 })) $ assigns !
+        (of-opd ! (load ! (from ! (fld ! refl (stop !))) (look-in ! (4 behind 0) (sub ! 1 refl (whole !))))) (from ! (stop !)) (init ! (12 behind 0) refl (
+          tt,
+          record { fits = answers-room .0 },
+        )) $
         -- what is lent is taken apart
         move ! (45 ∷ []) $ fsplit ! $ move ! (1 ∷ []) $ fsplit ! $ drop ! $ fsplit ! $ move ! (1 ∷ []) $ fsplit ! $ move ! (1 ∷ []) $ fsplit ! $
         move ! (1 ∷ []) $ fsplit ! $ move ! (4 ∷ []) $ fsplit ! $ move ! (1 ∷ []) $ fsplit ! $ move ! (52 ∷ []) $ split ! $ move ! (1 ∷ []) $ split ! $
         move ! (1 ∷ []) $ split ! $ move ! (1 ∷ []) $ split ! $ move ! (1 ∷ []) $ split ! $ move ! (11 ∷ []) $
-        use1 W (‵ lent-writes ⊛ ‵ lent-writes) (shr-slice-copy 𝓤 H A W (named 3) κ₃ Pairs .twice r₃ (slice-vals r₃)) $ split ! $ move ! (11 ∷ []) $
-        use1 W (‵ lent-bytes ⊛ ‵ lent-bytes) (shr-slice-copy 𝓤 H A W (named 4) κ₄ u8 .twice r₄ (slice-vals r₄)) $ split ! $ move ! (6 ∷ 4 ∷ 2 ∷ 0 ∷ []) $
-        group ! 4 $ use1 W (raw (Start 𝓤 H A at-mem run .pre to-start)) goes-start $
-        calls-at ! fm (Start 𝓤 H A at-mem run) knows-start to-start (and-then ! (load ! (from ! (stop !)) (look ! 51 refl)) (and-then ! (load ! (from ! (stop !)) (look ! 33 refl)) (and-then ! (load ! (from ! (stop !)) (look ! 31 refl)) (and-then ! (load ! (from ! (stop !)) (look ! 45 refl)) (and-then ! (load ! (from ! (stop !)) (look ! 43 refl)) (no-more !)))))) (λ w.
-        use1 W (later (some (λ (t : Turns). ((‵ (flft κ₃ q₃) ⊛ (‵ (flft κ₄ q₄) ⊛ ‵ ftrue)) ⊛ ‵ (T.the-row .own t (w ∷ []))) ⊛ some (λ (vs : StartEnds). ‵ (lasts start.ended (κ₃, (κ₄, tt)) start-args vs) ⊛ raw (fact 𝓤 (Starts s (length ys) (length (r₂ .now)) (r₃ .now) (r₄ .now) t)))))) (id⊢ 𝓤 _) $
-        await ! tt $ pick ! (λ t. split ! $ move ! (1 ∷ []) $ pick ! (λ vs. split ! $ move ! (1 ∷ []) $
-        heard ! (Starts s (length ys) (length (r₂ .now)) (r₃ .now) (r₄ .now) t) (λ started. move ! (1 ∷ []) $ split ! $ move ! (1 ∷ []) $
+        use1 W (‵ lent-writes ⊛ ‵ lent-writes) (shr-slice-copy 𝓤 H A W (named 3) κ₃ Pairs .twice writes (slice-vals writes)) $ split ! $ move ! (11 ∷ []) $
+        use1 W (‵ lent-bytes ⊛ ‵ lent-bytes) (shr-slice-copy 𝓤 H A W (named 4) κ₄ u8 .twice bytes (slice-vals bytes)) $ split ! $
+        move ! (6 ∷ 4 ∷ 2 ∷ 0 ∷ []) $ group ! 4 $ use1 W (raw (Start 𝓤 H A at-mem run .pre to-start)) goes-start $ calls-at ! fm (Start 𝓤 H A at-mem run)
+        knows-start to-start (and-then ! (load ! (from ! (stop !)) (look ! (2 behind 13) refl)) (and-then ! (load ! (from ! (stop !)) (look ! (11 behind 13)
+        refl)) (and-then ! (load ! (from ! (stop !)) (look ! (12 behind 13) refl)) (and-then ! (load ! (from ! (stop !)) (look ! (5 behind 13) refl))
+        (and-then ! (load ! (from ! (stop !)) (look ! (6 behind 13) refl)) (no-more !)))))) (λ w. use1 W (after-start w) (id⊢ 𝓤 _) $ await ! tt $ pick ! (λ t.
+        split ! $ move ! (1 ∷ []) $ pick ! (λ vs. split ! $ move ! (1 ∷ []) $
+        heard ! (Starts s (length ys) (length (answers .now)) (writes .now) (bytes .now) t) (λ started. move ! (1 ∷ []) $ split ! $ move ! (1 ∷ []) $
         peeks ! T.the-row (Is T.the-row) (shows 𝓤 H A T.the-row) t (w ∷ []) (λ is-turns.
-        land ! (from ! (stop !)) (init ! 43 refl (LL.lawful T.the-type T′.the-laws 𝓤 H A W .typed t _ is-turns .0)) $
-        rewrite ! 43 (λ (u : Val). ‵ (fat fullShare (ty 7) l₇ 0 u)) (ap only (LL.tells T.the-type T′.the-laws t (w ∷ []) is-turns)) refl $
-        move ! (1 ∷ []) $ split ! $ move ! (1 ∷ []) $ split ! $
-        keep ! (10 ∷ 16 ∷ 9 ∷ 11 ∷ 12 ∷ 2 ∷ 6 ∷ 0 ∷ 5 ∷ 8 ∷ 15 ∷ 17 ∷ 18 ∷ 19 ∷ 20 ∷ 21 ∷ 22 ∷ 23 ∷ 24 ∷ 25 ∷ 26 ∷ 27 ∷ 28 ∷ 29 ∷ 30 ∷ 31 ∷ 32 ∷ 33 ∷ 34 ∷ 35 ∷ 36 ∷ 37 ∷ 38 ∷ 39 ∷ 40 ∷ 41 ∷ 42 ∷ 43 ∷ 44 ∷ 45 ∷ 46 ∷ 47 ∷ 48 ∷ 49 ∷ 50 ∷ 51 ∷ 52 ∷ 53 ∷ 54 ∷ 55 ∷ 56 ∷ 57 ∷ 58 ∷ 59 ∷ 60 ∷ []) $
-        first ! $ blocks ! $ loops ! 𝓣 Nearer Nearer-wf (At l₀ l₁ l₂ l₃ l₄ l₅ l₆ l₇ l₈ l₉ l₁₀ l₁₁ l₁₂ l₁₃ l₁₄ l₁₅ l₁₆ l₁₇ l₁₈ l₁₉ l₂₀ l₂₁) (turns l₀ l₁ l₂ l₃ l₄ l₅ l₆ l₇ l₈ l₉ l₁₀ l₁₁ l₁₂ l₁₃ l₁₄ l₁₅ l₁₆ l₁₇ l₁₈ l₁₉ l₂₀ l₂₁) (begins t w is-turns started))))))))))))))))))))))))))))
+        land ! (from ! (stop !)) (init ! (7 behind 15) refl (LL.lawful T.the-type T′.the-laws 𝓤 H A W .typed t _ is-turns .0)) $
+        rewrite ! (7 behind 15) (λ (u : Val). ‵ (fat fullShare (ty 7) l₇ 0 u)) (ap only (LL.tells T.the-type T′.the-laws t (w ∷ []) is-turns)) refl $
+        move ! (1 ∷ []) $ split ! $ move ! (1 ∷ []) $ split ! $ keep ! (10 ∷ 16 ∷ 9 ∷ 11 ∷ 12 ∷ 2 ∷ 6 ∷ 0 ∷ 5 ∷ 8 ∷ 15 ∷ 17 ∷ 18 ∷ 19 ∷ 20 ∷ 21 ∷ 22 ∷ 23 ∷ 24
+        ∷ 25 ∷ 26 ∷ 27 ∷ 28 ∷ 29 ∷ 30 ∷ 31 ∷ 32 ∷ 33 ∷ 34 ∷ 35 ∷ 36 ∷ 37 ∷ 38 ∷ 39 ∷ 40 ∷ 41 ∷ 42 ∷ 43 ∷ 44 ∷ 45 ∷ 46 ∷ 47 ∷ 48 ∷ 49 ∷ 50 ∷ 51 ∷ 52 ∷ 53 ∷ 54
+        ∷ 55 ∷ 56 ∷ 57 ∷ 58 ∷ 59 ∷ 60 ∷ []) $ first ! $ blocks ! $ loops ! 𝓣 Nearer Nearer-wf (At l₀ l₁ l₂ l₃ l₄ l₅ l₆ l₇ l₈ l₉ l₁₀ l₁₁ l₁₂ l₁₃ l₁₄ l₁₅ l₁₆
+        l₁₇ l₁₈ l₁₉ l₂₀ l₂₁) (turns l₀ l₁ l₂ l₃ l₄ l₅ l₆ l₇ l₈ l₉ l₁₀ l₁₁ l₁₂ l₁₃ l₁₄ l₁₅ l₁₆ l₁₇ l₁₈ l₁₉ l₂₀ l₂₁) (begins t w is-turns started))))))))))))))))))))))))))))
 
 module _ {M : Type 1} (𝓤 : URA M) (H : Heap 𝓤) (A : Atoms 𝓤) (W : Given 𝓤 H A) (at-mem : Memory → SProp 𝓤) (run : Routine → Fun 𝓤) where
   serve-walks : (𝓣 : Tables 𝓤 H) → FmC 𝓤 H (W .laws) (𝓣 .C) → Triple 𝓤 (𝓣 .C #start) (Start 𝓤 H A at-mem run)
@@ -522,8 +612,16 @@ module _ {M : Type 1} (𝓤 : URA M) (H : Heap 𝓤) (A : Atoms 𝓤) (W : Given
   serve-walks 𝓣 fm knows-start knows-turn knows-ends =
       walked 𝓤 H A serve.ended stayed (serve.clauses 𝓤 H A at-mem run) (WpFn 𝓤 H (𝓣 .C) (𝓣 .Λ) code.function)
       (λ κs. (slice-vals, (LL.vals S.the-type S′.the-laws, (slice-vals, (slice-vals, (slice-vals, (slice-vals, tt)))))))
-      (λ κs. (mut-slice-tells (named 0) (κs .0) u64, (LL.tells S.the-type S′.the-laws, (mut-slice-tells (named 1) (κs .1 .0) P.the-row,
-      (mut-slice-tells (named 2) (κs .1 .1 .0) Answers, (shr-slice-tells (named 3) (κs .1 .1 .1 .0) Pairs, (shr-slice-tells (named 4) (κs .1 .1 .1 .1 .0) u8, tt)))))))
+      (λ κs. (
+        mut-slice-tells (named 0) (κs .0) u64,
+        (
+          LL.tells S.the-type S′.the-laws,
+          (
+            mut-slice-tells (named 1) (κs .1 .0) P.the-row,
+            (mut-slice-tells (named 2) (κs .1 .1 .0) Answers, (shr-slice-tells (named 3) (κs .1 .1 .1 .0) Pairs, (shr-slice-tells (named 4) (κs .1 .1 .1 .1 .0) u8, tt))),
+          ),
+        ),
+      ))
       (λ κs qs bounds a g are. via 𝓤 _ (fst∗ 𝓤 _ (emp 𝓤))
       (walk 𝓤 H A W at-mem run (κs .0) (κs .1 .0) (κs .1 .1 .0) (κs .1 .1 .1 .0) (κs .1 .1 .1 .1 .0) (qs .0) (qs .1 .0) (qs .1 .1 .0) (qs .1 .1 .1 .0)
       (qs .1 .1 .1 .1 .0) (a .0 .ptr .0) (a .0 .ptr .1) (a .0 .name) (a .0 .now) (a .1 .0) (a .1 .1 .0 .ptr .0) (a .1 .1 .0 .ptr .1) (a .1 .1 .0 .name)
@@ -531,9 +629,19 @@ module _ {M : Type 1} (𝓤 : URA M) (H : Heap 𝓤) (A : Atoms 𝓤) (W : Given
       (are .1 .1 .1 .1 .0 .0 .1) (are .1 .1 .1 .1 .1 .0 .0 .1) 𝓣 fm knows-start knows-turn knows-ends))
 
   goes : AllGo 𝓤 H A W 5 (serve.signature .params) (serve.ended .kept) stayed
-  goes = (goes-slice 𝓤 H A W 5 0 tt (plain (λ _. u64)), (goes-none 𝓤 H A W 5 (λ _. S.the-row) yes (λ κs x f. refl),
-      (goes-slice 𝓤 H A W 5 1 tt (plain (λ _. P.the-row)), (goes-gave-slice 𝓤 H A W 5 2 tt Answer,
-      (goes-none-slice 𝓤 H A W 5 (3 ∷ []) tt Write yes, (goes-none-slice 𝓤 H A W 5 (4 ∷ []) tt (plain (λ _. u8)) yes, tt))))))
+  goes = (
+    goes-slice 𝓤 H A W 5 0 tt (plain (λ _. u64)),
+    (
+      goes-none 𝓤 H A W 5 (λ _. S.the-row) yes (λ κs x f. refl),
+      (
+        goes-slice 𝓤 H A W 5 1 tt (plain (λ _. P.the-row)),
+        (
+          goes-gave-slice 𝓤 H A W 5 2 tt Answer,
+          (goes-none-slice 𝓤 H A W 5 (3 ∷ []) tt Write yes, (goes-none-slice 𝓤 H A W 5 (4 ∷ []) tt (plain (λ _. u8)) yes, tt)),
+        ),
+      ),
+    ),
+  )
 
   serve-meets : (𝓣 : Tables 𝓤 H) → Triple 𝓤 (𝓣 .C #start) (Start 𝓤 H A at-mem run) → Triple 𝓤 (𝓣 .C #turn) (Turn 𝓤 H A at-mem run)
       → Triple 𝓤 (𝓣 .C #ends) (Ending 𝓤 H A at-mem run) → Meets 𝓤 H A serve.signature (WpFn 𝓤 H (𝓣 .C) (𝓣 .Λ) code.function) (serve.spec 𝓤 H A at-mem run)
