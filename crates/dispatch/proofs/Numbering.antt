@@ -17,8 +17,8 @@ use Rattle.points.specs.Serving.{Common, Listed, inTurn, beginTurn, asking, ser
 use Rattle.dispatch.specs.Dispatch.{sizesOf, requestsOf, lentForEach}
 use Rattle.dispatch.specs.declared.Turns.{Turns}
 use Rattle.dispatch.specs.declared.TurnLeft.{TurnLeft}
-use Rattle.dispatch.specs.Turns.{firstTurns, noted, turnedDown, oneOn, nextStage, MovesOn, NumberTurn, turnsLeft, behind, Each, Goes, Numbering, Beginning}
-use Rattle.dispatch.specs.Turns.{Refused, Stands, numbering, beginning-now, stepping-now, over, turned-down, Starts, none, Turning}
+use Rattle.dispatch.specs.Turns.{firstTurns, noted, turnedDown, oneOn, nextStage, MovesOn, NumberTurn, turnsLeft, behind, Each, Goes}
+use Rattle.dispatch.specs.Turns.{Numbering, Beginning, Refused, Stands, numbering, beginning-now, stepping-now, over, turned-down, Starts, none, Turning}
 use Rattle.dispatch.proofs.Numbers.{twice-here, once-more}
 use Rattle.dispatch.proofs.Lent.{requests-are}
 use Rattle.dispatch.proofs.Reasons.{numbers-are, number-at, too-few, too-many, listed-twice, no-reason, lent-each, each-lent}
@@ -94,9 +94,10 @@ module _ {xs : List ℕ} {s : Shared} {ys : List Point} {answers : ℕ} {writes 
   v-is : getD ns i 0 ≡ v
   v-is = number-at ys i (x .goes .inside)
 
-  reason-is : (b : Bool) → twice ns ≡ b → (k : ℕ) → ((1 ≤ length ns) → (length ns ≤ 32) → length (requestsOf writes bytes) ≡ length ns → serveRefusal ns (length (requestsOf writes bytes)) ≡ k)
+  -- by whether a number stands twice
+  reason-is : (k : ℕ) → (1 ≤ length ns → length ns ≤ 32 → length (requestsOf writes bytes) ≡ length ns → serveRefusal ns (length (requestsOf writes bytes)) ≡ k)
       → serveRefusal ns (length (requestsOf writes bytes)) ≡ k
-  reason-is b e k h =
+  reason-is k h =
       let a = x .goes .each in
       h (omega (arith, ns-long, a .least)) (omega (arith, ns-long, a .most)) (requests-are writes bytes ∙ a .writes-are ∙ sym ns-long)
 
@@ -115,7 +116,7 @@ module _ {xs : List ℕ} {s : Shared} {ys : List Point} {answers : ℕ} {writes 
           reason = 26;
           refused-is = refl;
           not-lent = λ e. absurd (no-true (each-lent _ _ _ _ a) e);
-          lent = λ e. reason-is true w 27 (λ p q r. listed-twice ns _ p q r w);
+          lent = λ e. reason-is 27 (λ p q r. listed-twice ns _ p q r w);
         },
         omega (arith, h, a .most),
       )
@@ -185,7 +186,7 @@ module _ {xs : List ℕ} {s : Shared} {ys : List Point} {answers : ℕ} {writes 
             };
             stage-is = ap (λ (k : ℕ). k + 1) (x .stage-is);
             rounds-are = x .rounds-are;
-            no-reason = reason-is false w 0 (λ p q r. no-reason ns _ p q r w);
+            no-reason = reason-is 0 (λ p q r. no-reason ns _ p q r w);
             done = [];
             rest = ys;
             so-far = rw (x .words-are, x .shared-is, x .start-is) refl;

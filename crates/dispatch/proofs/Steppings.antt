@@ -23,8 +23,8 @@ use Rattle.points.proofs.Turns.{turn-of, no-turn}
 use Rattle.points.proofs.Rounds.{AllOf, rounds-over}
 use Rattle.dispatch.specs.declared.Turns.{Turns}
 use Rattle.dispatch.specs.declared.TurnLeft.{TurnLeft}
-use Rattle.dispatch.specs.Turns.{kindGoesOn, told, oneOn, nextRound, MovesOn, StepTurn, turnsLeft, behind, Each, Shown, goal, whyNot, Goes, Stepping, Over}
-use Rattle.dispatch.specs.Turns.{Stands, numbering, beginning-now, stepping-now, over, turned-down, none, Turning}
+use Rattle.dispatch.specs.Turns.{kindGoesOn, told, oneOn, nextRound, MovesOn, StepTurn, turnsLeft, behind, Each, Shown, goal, whyNot, Goes}
+use Rattle.dispatch.specs.Turns.{Stepping, Over, Stands, numbering, beginning-now, stepping-now, over, turned-down, none, Turning}
 use Rattle.dispatch.proofs.Shown.{append-none}
 use Rattle.dispatch.proofs.Rows.{in-turn-next, points-append, length-points, one-longer, told-anew, told-of, by-kind, unfinished, some-more}
 

@@ -270,7 +270,8 @@ module _ (xs : List ℕ) (s : Shared) (ys : List Point) (answers : ℕ) (writes 
     pub done : List Listed
     pub rest : List Point
     pub so-far : inTurn (beginTurn one) (record { words = xs; shared = s }) (asking ys (requestsOf writes bytes))
-        ≡ behind done (inTurn (beginTurn one) (record { words = ws; shared = t .shared }) (asking rest (requestsOf (drop (t .at) writes) (drop (t .start) bytes))))
+        ≡ behind done (inTurn (beginTurn one) (record { words = ws; shared = t .shared })
+        (asking rest (requestsOf (drop (t .at) writes) (drop (t .start) bytes))))
     pub points-are : zs ≡ pointsOf done ++ rest
     pub at-is : length done ≡ t .at
     pub all-are : length done + length rest ≡ length ys

@@ -29,8 +29,8 @@ use contract.Monad.{Fun, fact}
 use contract.Running.{givenOf, tables, tablesOf}
 use types.Kit.{Given, Item, ‵, raw, some, later, mean, _⊛_, ⋆, runs, anyQ, atRet, Sq, _$_, _∵_, !, qed, by, move, keep, drop, split, join, group, rewrite}
 use types.Kit.{fsplit, fjoin, feqL, suffices, frame, done, use1, use2, use3, await, pick}
-use types.Part.{agg, whole, sub, look-in}
-use types.Run.{Below, again, loops, look, look-raw, store, store-raw, init, forget, stop, hop, fld, from, load, of-opd, bin, addr, and-then, no-more, Opd}
+use types.Part.{agg}
+use types.Run.{Below, again, loops, look, look-raw, store, store-raw, init, forget, stop, hop, from, load, of-opd, bin, and-then, no-more, Opd}
 use types.Run.{land, assigns, assigns-last, first, blocks, stays, leaves-loop, returns, enter, exec, alloc1, alloc0, params1, pass1, pass0, free1, free0}
 use types.Tokens.{lft-new, lft-end}
 use sound.WpLaws.{FmC, fmOf, WpFn-mono}
@@ -57,6 +57,7 @@ use denote.Triple.Call.{calls-at}
 use denote.Triple.Clauses.{lasts}
 use denote.Triple.Walked.{says, Stays, stay-slice, gave-slice, stay-none, stay-none-slice, walkOf, AllGo, Walks, ends-at, walked, walk-meets}
 use denote.Triple.Walked.{goes-slice, goes-gave-slice, goes-none, goes-none-slice}
+use Rattle.words.specs.Logic.{upFrom}
 use Rattle.log.specs.declared.Shared.{Shared}
 use Rattle.points.specs.declared.Point.{Point}
 use Rattle.dispatch.specs.declared.Turns.{Turns}
@@ -64,6 +65,7 @@ use Rattle.dispatch.specs.declared.TurnLeft.{TurnLeft}
 use Rattle.dispatch.specs.declared.Served.{Served}
 use Rattle.dispatch.specs.Turns.{none, turnsLeft, Within, RoomFor, Stands, Starts, Turning, Ends}
 use Rattle.dispatch.proofs.Again.{LentAgain, lends-again, comes-back}
+use Rattle.dispatch.proofs.Steps.{value, part, starts, gets, regets}
 use Rattle.dispatch.proofs.Standing.{inside, within, room-for, served}
 use Rattle.log.proofs.Shared as S
 use Rattle.log.proofs.Shared.Laws as S′
@@ -200,6 +202,11 @@ module _ {M : Type 1} (𝓤 : URA M) (H : Heap 𝓤) (A : Atoms 𝓤) (W : Given
     ),
   )
 
+  abbrev passed : List Val
+  passed =
+      sliceVal (b₀, o₀) (length xs) ∷ LL.val S.the-type S′.the-laws s ∷ sliceVal (b₁, o₁) (length ys)
+      ∷ slice-val answers ∷ slice-val writes ∷ slice-val bytes ∷ []
+
   abbrev bound : walkOf 𝓤 H A serve.ended stayed (serve.clauses 𝓤 H A at-mem run) .Ghost
   bound = (((κ₀, (κ₁, (κ₂, (κ₃, (κ₄, tt))))), (q₀, (q₁, (q₂, (q₃, (q₄, tt))))), tt, arg, vals), tt)
 
@@ -273,7 +280,8 @@ module _ {M : Type 1} (𝓤 : URA M) (H : Heap 𝓤) (A : Atoms 𝓤) (W : Given
     tt,
   )
 
-  goes-turn : (ν : ℕ) (δ : GName) (ws : List ℕ) (t : Turns) (p : Point) → Within t (writes .now) (bytes .now) → Is T.the-row t (LL.vals T.the-type T′.the-laws t)
+  goes-turn : (ν : ℕ) (δ : GName) (ws : List ℕ) (t : Turns) (p : Point) → Within t (writes .now) (bytes .now)
+      → Is T.the-row t (LL.vals T.the-type T′.the-laws t)
       → Is P.the-row p (LL.vals P.the-type P′.the-laws p)
       → ent 𝓤 (mean 𝓤 H A (‵ (flft (ν ∷ []) fullShare) ⊛ (‵ (flft κ₃ q₃) ⊛ (‵ (flft κ₄ q₄) ⊛ (‵ (imageFor ν δ ws) ⊛ (‵ lent-writes ⊛ ‵ lent-bytes))))))
       (Turn 𝓤 H A at-mem run .pre (to-turn ν δ ws t p))
@@ -416,7 +424,9 @@ module _ {M : Type 1} (𝓤 : URA M) (H : Heap 𝓤) (A : Atoms 𝓤) (W : Given
           inside-list : i < length zs
           inside-list = inside (σ .stands) on
 
-          abbrev next : (r : TurnLeft) (w : Val) (vs : List ℕ) → Is L.the-row r (w ∷ []) → Turning ws t point (writes .now) (bytes .now) r vs → length vs ≡ length xs → State
+          -- where the loop stands after it
+          abbrev next : (r : TurnLeft) (w : Val) (vs : List ℕ) → Is L.the-row r (w ∷ []) → Turning ws t point (writes .now) (bytes .now) r vs
+              → length vs ≡ length xs → State
           next r w vs is turned e = record {
             words = vs;
             list = set zs i (r .point);
@@ -433,88 +443,99 @@ module _ {M : Type 1} (𝓤 : URA M) (H : Heap 𝓤) (A : Atoms 𝓤) (W : Given
           more : Sq W (At σ) (runs C Λ En pieces.turn-1 (anyQ (Turned σ)))
           unfolding afterTurn
           more =
-              assigns ! (of-opd ! (load ! (from ! (fld ! refl (stop !))) (look-in ! (7 behind 11) (sub ! 0 refl (whole !))))) (from ! (stop !)) (init ! (13
-              behind 11) refl (tt, tt)) $ rewrite ! (13 behind 11) (λ (y : Bool). ‵ (fat fullShare tyBool l₁₃ 0 (vbool y))) on refl $
-              stays ! (load ! (from ! (stop !)) (look ! (13 behind 11) refl)) $
-              -- the record is taken out of the list
-              assigns ! (of-opd ! (load ! (from ! (fld ! refl (stop !))) (look-in ! (7 behind 11) (sub ! 1 refl (whole !))))) (from ! (stop !)) (init ! (8
-              behind 11) refl (tt, record { fits = at-fits })) $ assigns ! (bin ! (load ! (from ! (stop !)) (look ! (8 behind 11) refl)) sized (scaled-fits i
-              (length zs) size inside-list (list-room .1))) (from ! (stop !)) (init ! (14 behind 11) refl (
-                tt,
-                scaled-fits i (length zs) size inside-list
-                    (list-room .1),
-              )) $ assigns ! (bin ! (load ! (from ! (fld ! refl (stop !))) (look-in ! (3 behind 11) (sub ! 0 refl (whole !)))) (load ! (from !
-              (stop !)) (look ! (14 behind 11) refl)) tt) (from ! (stop !)) (init ! (15 behind 11) refl (tt, tt)) $
-              rewrite ! (15 behind 11) (λ (p : ℕ). ‵ (fat fullShare tyPtr l₁₅ 0 (vptr b₁ p))) (sym (place-is size o₁ i)) refl $ move ! (3 ∷ 4 ∷ 2 ∷ []) $
-              opens-slice ! tt P.the-row zs b₁ o₁ $ elem-out ! P.the-row (Is P.the-row) (shows 𝓤 H A P.the-row) (LL.vals P.the-type P′.the-laws) (LL.tells
-              P.the-type P′.the-laws) fullShare zs i none b₁ o₁ inside-list (λ is-point. assigns ! (of-opd ! (load ! (from ! (hop ! (look ! (15 behind 14)
-              refl) (stop !))) (look-raw ! 0 refl))) (from ! (stop !)) (init ! (16 behind 14) refl (typed-point point is-point)) $ assigns ! (of-opd ! (load !
-              (from ! (stop !)) (look ! (16 behind 14) refl))) (from ! (stop !)) (init ! (9 behind 14) refl (typed-point point is-point)) $
+              -- local 13 = turns.going
+              gets ! (of-opd ! (part ! (7 behind 11) 0 refl refl refl)) (13 behind 11) refl (tt, tt) $
+              rewrite ! (13 behind 11) (λ (y : Bool). ‵ (fat fullShare tyBool l₁₃ 0 (vbool y))) on refl $
+              stays ! (value ! (13 behind 11) refl) $
+              -- i = turns.at; point = points[i]: the borrow of the list is opened, and closed again
+              gets ! (of-opd ! (part ! (7 behind 11) 1 refl refl refl)) (8 behind 11) refl (tt, record { fits = at-fits }) $
+              gets ! (bin ! (value ! (8 behind 11) refl) sized (scaled-fits i (length zs) size inside-list (list-room .1))) (14 behind 11) refl
+              (tt, scaled-fits i (length zs) size inside-list (list-room .1)) $
+              gets ! (bin ! (part ! (3 behind 11) 0 refl refl refl) (value ! (14 behind 11) refl) tt) (15 behind 11) refl (tt, tt) $
+              rewrite ! (15 behind 11) (λ (p : ℕ). ‵ (fat fullShare tyPtr l₁₅ 0 (vptr b₁ p))) (sym (place-is size o₁ i)) refl $
+              move ! (3 ∷ 4 ∷ 2 ∷ []) $
+              opens-slice ! tt P.the-row zs b₁ o₁ $
+              elem-out ! P.the-row (Is P.the-row) (shows 𝓤 H A P.the-row) (LL.vals P.the-type P′.the-laws)
+              (LL.tells P.the-type P′.the-laws) fullShare zs i none b₁ o₁ inside-list (λ is-point.
+              gets ! (of-opd ! (load ! (from ! (hop ! (look ! (15 behind 14) refl) (stop !))) (look-raw ! 0 refl))) (16 behind 14) refl
+              (typed-point point is-point) $
+              gets ! (of-opd ! (value ! (16 behind 14) refl)) (9 behind 14) refl (typed-point point is-point) $
               elem-back ! P.the-row fullShare zs i none (LL.vals P.the-type P′.the-laws point) b₁ o₁ inside-list $
               closes-slice ! tt P.the-row zs zs refl b₁ o₁ $
-              -- the image is lent again for a lifetime of the call
-              assigns ! (addr ! (from ! (fld ! refl (hop ! (look-in ! (1 behind 11) (sub ! 0 refl (whole !))) (stop !))))) (from ! (stop !)) (init ! (17
-              behind 11) refl (tt, tt)) $ assigns ! (agg ! (and-then ! (load ! (from ! (stop !)) (look ! (17 behind 11) refl)) (and-then ! (load ! (from !
-              (fld ! refl (stop !))) (look-in ! (1 behind 11) (sub ! 1 refl (whole !)))) (no-more !)))) (from ! (stop !)) (init ! (18 behind 11) refl (
-                tt,
-                (tt, (record { fits = xs-room .0 }, tt)),
-              )) $
+              -- t = turn(image, turns, point, writes, bytes): the image is lent again, for a lifetime ν of the call
+              gets ! (starts ! (1 behind 11) refl refl refl refl) (17 behind 11) refl (tt, tt) $
+              gets ! (agg ! (and-then ! (value ! (17 behind 11) refl) (and-then ! (part ! (1 behind 11) 1 refl refl refl) (no-more !)))) (18 behind 11) refl
+              (tt, (tt, (record { fits = xs-room .0 }, tt))) $
               rewrite ! (18 behind 11) (λ (m : ℕ). ‵ (fat fullShare (ty 18) l₁₈ 0 (sliceVal (b₀, o₀) m))) (sym as-long) refl $
-              rewrite ! 4 (λ (m : ℕ). ‵ (MutSlice (named 0) κ₀ u64 .own (img γ₀ ws) (sliceVal (b₀, o₀) m ∷ []))) (sym as-long) refl $ lft-new ! tt (λ ν.
-              move ! (5 ∷ 4 ∷ []) $ use2 W (later (some (λ (δ : GName). ‵ (imageFor ν δ ws) ⊛ ‵ (LentAgain u64 κ₀ (ν ∷ []) q₀ γ₀ b₀ o₀ δ ws)))) (lends-again
-              u64 κ₀ (ν ∷ []) q₀ γ₀ b₀ o₀ 𝓤 H A W (named 0) (named 0) ws) $ await ! tt $ pick ! (λ δ. split ! $ move ! (7 ∷ []) $
-              use1 W (‵ lent-writes ⊛ ‵ lent-writes) (shr-slice-copy 𝓤 H A W (named 3) κ₃ Pairs .twice writes (slice-vals writes)) $ split ! $
-              move ! (10 ∷ []) $ use1 W (‵ lent-bytes ⊛ ‵ lent-bytes) (shr-slice-copy 𝓤 H A W (named 4) κ₄ u8 .twice bytes (slice-vals bytes)) $ split ! $
-              move ! (6 ∷ 10 ∷ 11 ∷ 4 ∷ 2 ∷ 0 ∷ []) $ group ! 6 $ use1 W (raw (Turn 𝓤 H A at-mem run .pre (to-turn ν δ ws t point))) (goes-turn ν δ ws t point
-              (within (σ .stands) on) known is-point) $ calls-at ! fm (Turn 𝓤 H A at-mem run) knows-turn (to-turn ν δ ws t point) (and-then ! (load ! (from !
-              (stop !)) (look ! (18 behind 9) refl)) (and-then ! (load ! (from ! (stop !)) (look ! (7 behind 9) refl)) (and-then ! (load ! (from ! (stop !))
-              (look ! (9 behind 9) refl)) (and-then ! (load ! (from ! (stop !)) (look ! (5 behind 9) refl)) (and-then ! (load ! (from ! (stop !)) (look ! (6
-              behind 9) refl)) (no-more !)))))) (λ w. use1 W (after-turn ν δ ws t point w) (id⊢ 𝓤 _) $ await ! tt $ pick ! (λ r. split ! $ move ! (1 ∷ []) $
-              pick ! (λ vs. split ! $ move ! (1 ∷ []) $ heard ! (Turning ws t point (writes .now) (bytes .now) r (vs .0)) (λ turned. fsplit ! $ fsplit ! $
-              move ! (1 ∷ []) $ feqL ! (λ same-long. move ! (2 ∷ []) $ split ! $ move ! (1 ∷ []) $
+              rewrite ! 4 (λ (m : ℕ). ‵ (MutSlice (named 0) κ₀ u64 .own (img γ₀ ws) (sliceVal (b₀, o₀) m ∷ []))) (sym as-long) refl $
+              lft-new ! tt (λ ν. move ! (5 ∷ 4 ∷ []) $
+              use2 W (later (some (λ (δ : GName). ‵ (imageFor ν δ ws) ⊛ ‵ (LentAgain u64 κ₀ (ν ∷ []) q₀ γ₀ b₀ o₀ δ ws)))) (lends-again u64 κ₀
+              (ν ∷ []) q₀ γ₀ b₀ o₀ 𝓤 H A W (named 0) (named 0) ws) $
+              await ! tt $ pick ! (λ δ. split ! $ move ! (7 ∷ []) $
+              use1 W (‵ lent-writes ⊛ ‵ lent-writes) (shr-slice-copy 𝓤 H A W (named 3) κ₃ Pairs .twice writes (slice-vals writes)) $
+              split ! $ move ! (10 ∷ []) $
+              use1 W (‵ lent-bytes ⊛ ‵ lent-bytes) (shr-slice-copy 𝓤 H A W (named 4) κ₄ u8 .twice bytes (slice-vals bytes)) $
+              split ! $ move ! (6 ∷ 10 ∷ 11 ∷ 4 ∷ 2 ∷ 0 ∷ []) $
+              group ! 6 $ use1 W (raw (Turn 𝓤 H A at-mem run .pre (to-turn ν δ ws t point))) (goes-turn ν δ ws t point (within
+              (σ .stands) on) known is-point) $
+              calls-at ! fm (Turn 𝓤 H A at-mem run) knows-turn (to-turn ν δ ws t point) (and-then ! (value ! (18 behind 9) refl) (and-then ! (value !
+              (7 behind 9) refl) (and-then ! (value ! (9 behind 9) refl) (and-then ! (value ! (5 behind 9) refl) (and-then ! (value ! (6 behind 9) refl)
+              (no-more !)))))) (λ w.
+              use1 W (after-turn ν δ ws t point w) (id⊢ 𝓤 _) $ await ! tt $ pick ! (λ r. split ! $ move ! (1 ∷ []) $ pick ! (λ vs. split ! $ move ! (1 ∷ []) $
+              heard ! (Turning ws t point (writes .now) (bytes .now) r (vs .0)) (λ turned. fsplit ! $ fsplit ! $ move ! (1 ∷ []) $ feqL ! (λ same-long.
+              move ! (2 ∷ []) $ split ! $ move ! (1 ∷ []) $
               peeks ! L.the-row (Is L.the-row) (shows 𝓤 H A L.the-row) r (w ∷ []) (λ is-left.
               land ! (from ! (stop !)) (init ! (10 behind 12) refl (LL.lawful L.the-type L′.the-laws 𝓤 H A W .typed r _ is-left .0)) $
               rewrite ! (10 behind 12) (λ (u : Val). ‵ (fat fullShare (ty 10) l₁₀ 0 u)) (ap only (LL.tells L.the-type L′.the-laws r (w ∷ []) is-left)) refl $
               drop ! $
               -- the lifetime is ended, and the image comes back
-              split ! $ lft-end ! tt $ move ! (1 ∷ []) $ split ! $ move ! (1 ∷ []) $ split ! $ move ! (3 ∷ 8 ∷ 4 ∷ []) $ use3 W (later (‵ (MutSlice (named 0)
-              κ₀ u64 .own (img γ₀ (vs .0)) (sliceVal (b₀, o₀) (length ws) ∷ [])) ⊛ ‵ (flft κ₀ q₀))) (comes-back u64 κ₀ (ν ∷ []) q₀ γ₀ b₀ o₀ 𝓤 H A W (named 0)
-              (named 0) ws δ (vs .0) (subst (Room u64) (sym as-long) xs-room) same-long) $ await ! tt $ split ! $
+              split ! $ lft-end ! tt $ move ! (1 ∷ []) $ split ! $ move ! (1 ∷ []) $ split ! $ move ! (3 ∷ 8 ∷ 4 ∷ []) $
+              use3 W (later (‵ (MutSlice (named 0) κ₀ u64 .own (img γ₀ (vs .0)) (sliceVal (b₀, o₀) (length ws) ∷ [])) ⊛ ‵ (flft κ₀ q₀))) (comes-back u64 κ₀
+              (ν ∷ []) q₀ γ₀ b₀ o₀ 𝓤 H A W (named 0) (named 0) ws δ (vs .0) (subst (Room u64) (sym as-long) xs-room) same-long) $
+              await ! tt $ split ! $
               rewrite ! 0 (λ (m : ℕ). ‵ (MutSlice (named 0) κ₀ u64 .own (img γ₀ (vs .0)) (sliceVal (b₀, o₀) m ∷ []))) as-long refl $
-              -- the record is put back
-              assigns ! (bin ! (load ! (from ! (stop !)) (look ! (8 behind 13) refl)) sized (scaled-fits i (length zs) size inside-list (list-room .1))) (from
-              ! (stop !)) (store ! (14 behind 13) refl (tt, scaled-fits i (length zs) size inside-list (list-room .1))) $ assigns ! (bin ! (load ! (from !
-              (fld ! refl (stop !))) (look-in ! (3 behind 13) (sub ! 0 refl (whole !)))) (load ! (from ! (stop !)) (look ! (14 behind 13) refl)) tt) (from !
-              (stop !)) (init ! (19 behind 13) refl (tt, tt)) $
-              rewrite ! (19 behind 13) (λ (p : ℕ). ‵ (fat fullShare tyPtr l₁₉ 0 (vptr b₁ p))) (sym (place-is size o₁ i)) refl $ move ! (8 ∷ 9 ∷ 10 ∷ []) $
-              opens-slice ! tt P.the-row zs b₁ o₁ $ elem-out ! P.the-row (Is P.the-row) (shows 𝓤 H A P.the-row) (LL.vals P.the-type P′.the-laws) (LL.tells
-              P.the-type P′.the-laws) fullShare zs i none b₁ o₁ inside-list (λ _. assigns ! (of-opd ! (load ! (from ! (fld ! refl (stop !))) (look-in ! (10
-              behind 16) (sub ! 1 refl (whole !))))) (from ! (hop ! (look ! (19 behind 16) refl) (stop !))) (store-raw ! 0 refl (typed-point (r .point)
-              (left-point r w is-left))) $ move ! (1 ∷ []) $ drop ! $ owned ! P.the-row (Is P.the-row) ((LL.makes P.the-type P′.the-plain) 𝓤 H A) (r .point)
-              (LL.vals P.the-type P′.the-laws (r .point)) (left-point r w is-left) $ move ! (1 ∷ 0 ∷ 2 ∷ []) $
+              -- points[i] = t.point; turns = t.turns
+              regets ! (bin ! (value ! (8 behind 13) refl) sized (scaled-fits i (length zs) size inside-list (list-room .1))) (14 behind 13) refl
+              (tt, scaled-fits i (length zs) size inside-list (list-room .1)) $
+              gets ! (bin ! (part ! (3 behind 13) 0 refl refl refl) (value ! (14 behind 13) refl) tt) (19 behind 13) refl (tt, tt) $
+              rewrite ! (19 behind 13) (λ (p : ℕ). ‵ (fat fullShare tyPtr l₁₉ 0 (vptr b₁ p))) (sym (place-is size o₁ i)) refl $
+              move ! (8 ∷ 9 ∷ 10 ∷ []) $
+              opens-slice ! tt P.the-row zs b₁ o₁ $
+              elem-out ! P.the-row (Is P.the-row) (shows 𝓤 H A P.the-row) (LL.vals P.the-type P′.the-laws)
+              (LL.tells P.the-type P′.the-laws) fullShare zs i none b₁ o₁ inside-list (λ _.
+              assigns ! (of-opd ! (part ! (10 behind 16) 1 refl refl refl)) (from ! (hop ! (look ! (19 behind 16) refl) (stop !))) (store-raw ! 0 refl
+              (typed-point (r .point) (left-point r w is-left))) $
+              move ! (1 ∷ []) $ drop ! $
+              owned ! P.the-row (Is P.the-row) ((LL.makes P.the-type P′.the-plain) 𝓤 H A) (r .point) (LL.vals P.the-type P′.the-laws (r .point))
+              (left-point r w is-left) $
+              move ! (1 ∷ 0 ∷ 2 ∷ []) $
               elem-put ! P.the-row fullShare zs i (r .point) (LL.vals P.the-type P′.the-laws (r .point)) b₁ o₁ inside-list $
-              closes-slice ! tt P.the-row zs (set zs i (r .point)) (length-set zs i (r .point)) b₁ o₁ $ assigns-last ! (of-opd ! (load ! (from ! (fld ! refl
-              (stop !))) (look-in ! (10 behind 13) (sub ! 0 refl (whole !))))) (from ! (stop !)) (store ! (7 behind 13) refl (typed-turns (r .turns)
-              (left-turns r w is-left))) $ forget ! (8 behind 13) refl $ forget ! (9 behind 13) refl $ forget ! (10 behind 13) refl $
-              forget ! (13 behind 13) refl $ forget ! (14 behind 13) refl $ forget ! (15 behind 13) refl $ forget ! (16 behind 13) refl $
-              forget ! (17 behind 13) refl $ forget ! (18 behind 13) refl $ forget ! (19 behind 13) refl $ keep ! (4 ∷ 3 ∷ 2 ∷ 0 ∷ 1 ∷ 7 ∷ 10 ∷ 5 ∷ 9 ∷ 11 ∷
-              12 ∷ 13 ∷ 14 ∷ 15 ∷ 16 ∷ 17 ∷ 18 ∷ 19 ∷ 20 ∷ 21 ∷ 22 ∷ 23 ∷ 24 ∷ 25 ∷ 26 ∷ 27 ∷ 28 ∷ 29 ∷ 30 ∷ 31 ∷ 32 ∷ 33 ∷ 34 ∷ 35 ∷ 36 ∷ 37 ∷ 38 ∷ 39 ∷ 40 ∷
-              41 ∷ 42 ∷ 43 ∷ 44 ∷ 45 ∷ 46 ∷ 47 ∷ 48 ∷ 49 ∷ 50 ∷ 51 ∷ 52 ∷ 53 ∷ 54 ∷ 55 ∷ 56 ∷ []) $
+              closes-slice ! tt P.the-row zs (set zs i (r .point)) (length-set zs i (r .point)) b₁ o₁ $
+              assigns-last ! (of-opd ! (part ! (10 behind 13) 0 refl refl refl)) (from ! (stop !)) (store ! (7 behind 13) refl (typed-turns (r .turns)
+              (left-turns r w is-left))) $
+              -- the locals of the turn are empty again
+              forget ! (8 behind 13) refl $ forget ! (9 behind 13) refl $ forget ! (10 behind 13) refl $ forget ! (13 behind 13) refl $
+              forget ! (14 behind 13) refl $ forget ! (15 behind 13) refl $ forget ! (16 behind 13) refl $ forget ! (17 behind 13) refl $
+              forget ! (18 behind 13) refl $ forget ! (19 behind 13) refl $
+              keep ! (4 ∷ 3 ∷ 2 ∷ 0 ∷ 1 ∷ 7 ∷ 10 ∷ 5 ∷ 9 ∷ upFrom 11 46) $
               again ! Nearer At σ (next r w (vs .0) is-left turned (same-long ∙ as-long)) (nearer r (vs .0) turned)))))))))))
 
         module _ (off : t .going ≡ false) where
+          -- what is had at the end
+          abbrev Had : Val → Served → List (List ℕ) → List (Item 𝓤)
+          Had w r answered =
+              ‵ (flft κ₀ q₀) ∷ ‵ (flft κ₁ q₁) ∷ ‵ (flft κ₂ q₂) ∷ ‵ (flft κ₃ q₃) ∷ ‵ (flft κ₄ q₄)
+              ∷ ‵ (MutSlice (named 0) κ₀ u64 .own (img γ₀ ws) (sliceVal (b₀, o₀) (length xs) ∷ []))
+              ∷ ‵ (fobs γ₁ (codedHoleys P.the-row .code (heres P.the-row zs))) ∷ ‵ (fbor κ₁ (Held P.the-row (length zs) b₁ o₁ γ₁))
+              ∷ ‵ (finally Answers (answers .name) answered) ∷ ‵ lent-writes ∷ ‵ lent-bytes ∷ ‵ (D.the-row .own r (w ∷ [])) ∷ []
+
           exits : (w : Val) (r : Served) (answered : List (List ℕ)) → length answered ≡ length (answers .now) → Ends t (answers .now) r answered
-              → ent 𝓤 (⋆ 𝓤 H A (‵ (flft κ₀ q₀) ∷ ‵ (flft κ₁ q₁) ∷ ‵ (flft κ₂ q₂) ∷ ‵ (flft κ₃ q₃) ∷ ‵ (flft κ₄ q₄)
-              ∷ ‵ (MutSlice (named 0) κ₀ u64 .own (img γ₀ ws) (sliceVal (b₀, o₀) (length xs) ∷ []))
-              ∷ ‵ (fobs γ₁ (codedHoleys P.the-row .code (heres P.the-row zs))) ∷ ‵ (fbor κ₁ (Held P.the-row (length zs) b₁ o₁ γ₁))
-              ∷ ‵ (finally Answers (answers .name) answered) ∷ ‵ lent-writes ∷ ‵ lent-bytes ∷ ‵ (D.the-row .own r (w ∷ [])) ∷ [])) (Post w)
+              → ent 𝓤 (⋆ 𝓤 H A (Had w r answered)) (Post w)
           exits w r answered e ended =
-              qed W (‵ (flft κ₀ q₀) ∷ ‵ (flft κ₁ q₁) ∷ ‵ (flft κ₂ q₂) ∷ ‵ (flft κ₃ q₃) ∷ ‵ (flft κ₄ q₄)
-              ∷ ‵ (MutSlice (named 0) κ₀ u64 .own (img γ₀ ws) (sliceVal (b₀, o₀) (length xs) ∷ []))
-              ∷ ‵ (fobs γ₁ (codedHoleys P.the-row .code (heres P.the-row zs))) ∷ ‵ (fbor κ₁ (Held P.the-row (length zs) b₁ o₁ γ₁))
-              ∷ ‵ (finally Answers (answers .name) answered) ∷ ‵ lent-writes ∷ ‵ lent-bytes ∷ ‵ (D.the-row .own r (w ∷ [])) ∷ []) ∵
+              qed W (Had w r answered) ∵
               suffices ! _ (ends-at 𝓤 H A serve.ended stayed (serve.clauses 𝓤 H A at-mem run) W bound w r (ws, (tt, (zs, (answered, (tt, (tt, tt))))))
-              (as-long, (tt, (σ .listed, (e, (tt, (tt, tt))))))) $ says ! (served xs s ys (answers .now) (writes .now) (bytes .now) r answered ended (σ .stands) off) $
+              (as-long, (tt, (σ .listed, (e, (tt, (tt, tt))))))) $
+              says ! (served xs s ys (answers .now) (writes .now) (bytes .now) r answered ended (σ .stands) off) $
               nothing ! $ move ! (5 ∷ 0 ∷ []) $ join ! $ move ! (4 ∷ 0 ∷ []) $ join ! $ move ! (3 ∷ 0 ∷ []) $ join ! $ move ! (2 ∷ 0 ∷ []) $ join ! $
               move ! (1 ∷ 0 ∷ []) $ join ! $ frame ! $
               -- [the image; obs; the borrow; the answers; writes; bytes; the result]
@@ -528,33 +549,35 @@ module _ {M : Type 1} (𝓤 : URA M) (H : Heap 𝓤) (A : Atoms 𝓤) (W : Given
           stops : Sq W (At σ) (runs C Λ En pieces.turn-1 (anyQ (Turned σ)))
           unfolding afterTurn
           stops =
-              assigns ! (of-opd ! (load ! (from ! (fld ! refl (stop !))) (look-in ! (7 behind 11) (sub ! 0 refl (whole !))))) (from ! (stop !)) (init ! (13
-              behind 11) refl (tt, tt)) $ rewrite ! (13 behind 11) (λ (y : Bool). ‵ (fat fullShare tyBool l₁₃ 0 (vbool y))) off refl $
-              leaves-loop ! (load ! (from ! (stop !)) (look ! (13 behind 11) refl)) $ exec ! C Λ En pieces.t-5 (atRet En Post) $
-              -- the answers are lent for good
-              assigns ! (addr ! (from ! (fld ! refl (hop ! (look-in ! (4 behind 11) (sub ! 0 refl (whole !))) (stop !))))) (from ! (stop !)) (init ! (20
-              behind 11) refl (tt, tt)) $ assigns ! (agg ! (and-then ! (load ! (from ! (stop !)) (look ! (20 behind 11) refl)) (and-then ! (load ! (from !
-              (fld ! refl (stop !))) (look-in ! (4 behind 11) (sub ! 1 refl (whole !)))) (no-more !)))) (from ! (stop !)) (init ! (21 behind 11) refl (
-                tt,
-                (tt, (record { fits = answers-room .0 }, tt)),
-              )) $ move ! (9 ∷ 10 ∷ []) $ group ! 2 $ use1 W (raw (Ending 𝓤 H A at-mem run .pre (to-ends t)))
-              (goes-ends t (room-for xs s ys (answers .now) (writes .now) (bytes .now) (σ .stands) off) known) $ calls-at ! fm (Ending 𝓤 H A at-mem run)
-              knows-ends (to-ends t) (and-then ! (load ! (from ! (stop !)) (look ! (7 behind 10) refl)) (and-then ! (load ! (from ! (stop !)) (look ! (21
-              behind 10) refl)) (no-more !))) (λ w. use1 W (after-ends t w) (id⊢ 𝓤 _) $ await ! tt $ pick ! (λ r. split ! $ move ! (1 ∷ []) $ pick ! (λ vs.
-              split ! $ move ! (1 ∷ []) $ heard ! (Ends t (answers .now) r (vs .1 .0)) (λ ended. fsplit ! $ move ! (1 ∷ []) $ fsplit ! $ fsplit ! $
-              move ! (1 ∷ []) $ feqL ! (λ same-long. move ! (3 ∷ []) $ split ! $ move ! (1 ∷ []) $
+              gets ! (of-opd ! (part ! (7 behind 11) 0 refl refl refl)) (13 behind 11) refl (tt, tt) $
+              rewrite ! (13 behind 11) (λ (y : Bool). ‵ (fat fullShare tyBool l₁₃ 0 (vbool y))) off refl $
+              leaves-loop ! (value ! (13 behind 11) refl) $ exec ! C Λ En pieces.t-5 (atRet En Post) $
+              -- ends(turns, answers): the answers are lent for good
+              gets ! (starts ! (4 behind 11) refl refl refl refl) (20 behind 11) refl (tt, tt) $
+              gets ! (agg ! (and-then ! (value ! (20 behind 11) refl) (and-then ! (part ! (4 behind 11) 1 refl refl refl) (no-more !)))) (21 behind 11) refl
+              (tt, (tt, (record { fits = answers-room .0 }, tt))) $
+              move ! (9 ∷ 10 ∷ []) $
+              group ! 2 $ use1 W (raw (Ending 𝓤 H A at-mem run .pre (to-ends t))) (goes-ends t (room-for xs s ys (answers .now) (writes .now) (bytes .now)
+              (σ .stands) off) known) $
+              calls-at ! fm (Ending 𝓤 H A at-mem run) knows-ends (to-ends t) (and-then ! (value ! (7 behind 10) refl) (and-then ! (value !
+              (21 behind 10) refl) (no-more !))) (λ w.
+              use1 W (after-ends t w) (id⊢ 𝓤 _) $ await ! tt $ pick ! (λ r. split ! $ move ! (1 ∷ []) $ pick ! (λ vs. split ! $ move ! (1 ∷ []) $
+              heard ! (Ends t (answers .now) r (vs .1 .0)) (λ ended. fsplit ! $ move ! (1 ∷ []) $ fsplit ! $ fsplit ! $ move ! (1 ∷ []) $ feqL ! (λ same-long.
+              move ! (3 ∷ []) $ split ! $ move ! (1 ∷ []) $
               peeks ! D.the-row (Is D.the-row) (shows 𝓤 H A D.the-row) r (w ∷ []) (λ is-served.
               land ! (from ! (stop !)) (init ! (0 behind 14) refl (LL.lawful D.the-type D′.the-laws 𝓤 H A W .typed r _ is-served .0)) $
-              returns ! (look ! (0 behind 14) refl) $ forget ! (0 behind 14) refl $ forget ! (1 behind 14) refl $ forget ! (2 behind 14) refl $
-              forget ! (3 behind 14) refl $ forget ! (4 behind 14) refl $ forget ! (5 behind 14) refl $ forget ! (6 behind 14) refl $
-              forget ! (7 behind 14) refl $ forget ! (11 behind 14) refl $ forget ! (12 behind 14) refl $ forget ! (13 behind 14) refl $
-              forget ! (20 behind 14) refl $ forget ! (21 behind 14) refl $ move ! (56 ∷ 57 ∷ []) $ free1 ! $ move ! (54 ∷ 55 ∷ []) $ free1 ! $
-              move ! (52 ∷ 53 ∷ []) $ free1 ! $ move ! (50 ∷ 51 ∷ []) $ free1 ! $ move ! (48 ∷ 49 ∷ []) $ free1 ! $ move ! (46 ∷ 47 ∷ []) $ free1 ! $
-              move ! (44 ∷ 45 ∷ []) $ free1 ! $ move ! (42 ∷ 43 ∷ []) $ free1 ! $ move ! (40 ∷ 41 ∷ []) $ free1 ! $ move ! (38 ∷ 39 ∷ []) $ free1 ! $
-              move ! (36 ∷ 37 ∷ []) $ free1 ! $ move ! (34 ∷ 35 ∷ []) $ free1 ! $ move ! (32 ∷ 33 ∷ []) $ free1 ! $ move ! (30 ∷ 31 ∷ []) $ free1 ! $
-              move ! (28 ∷ 29 ∷ []) $ free1 ! $ move ! (26 ∷ 27 ∷ []) $ free1 ! $ move ! (24 ∷ 25 ∷ []) $ free1 ! $ move ! (22 ∷ 23 ∷ []) $ free1 ! $
-              move ! (20 ∷ 21 ∷ []) $ free1 ! $ move ! (18 ∷ 19 ∷ []) $ free1 ! $ move ! (16 ∷ 17 ∷ []) $ free1 ! $ move ! (14 ∷ 15 ∷ []) $ free1 ! $
-              free0 ! $ move ! (1 ∷ []) $ split ! $ keep ! (6 ∷ 8 ∷ 0 ∷ 11 ∷ 13 ∷ 7 ∷ 9 ∷ 10 ∷ 3 ∷ 12 ∷ 14 ∷ 2 ∷ []) $
+              -- the result is returned, and the locals are freed
+              returns ! (look ! (0 behind 14) refl) $
+              forget ! (0 behind 14) refl $ forget ! (1 behind 14) refl $ forget ! (2 behind 14) refl $ forget ! (3 behind 14) refl $
+              forget ! (4 behind 14) refl $ forget ! (5 behind 14) refl $ forget ! (6 behind 14) refl $ forget ! (7 behind 14) refl $
+              forget ! (11 behind 14) refl $ forget ! (12 behind 14) refl $ forget ! (13 behind 14) refl $ forget ! (20 behind 14) refl $
+              forget ! (21 behind 14) refl $ move ! (56 ∷ 57 ∷ []) $ free1 ! $ move ! (54 ∷ 55 ∷ []) $ free1 ! $ move ! (52 ∷ 53 ∷ []) $ free1 ! $
+              move ! (50 ∷ 51 ∷ []) $ free1 ! $ move ! (48 ∷ 49 ∷ []) $ free1 ! $ move ! (46 ∷ 47 ∷ []) $ free1 ! $ move ! (44 ∷ 45 ∷ []) $ free1 ! $
+              move ! (42 ∷ 43 ∷ []) $ free1 ! $ move ! (40 ∷ 41 ∷ []) $ free1 ! $ move ! (38 ∷ 39 ∷ []) $ free1 ! $ move ! (36 ∷ 37 ∷ []) $ free1 ! $
+              move ! (34 ∷ 35 ∷ []) $ free1 ! $ move ! (32 ∷ 33 ∷ []) $ free1 ! $ move ! (30 ∷ 31 ∷ []) $ free1 ! $ move ! (28 ∷ 29 ∷ []) $ free1 ! $
+              move ! (26 ∷ 27 ∷ []) $ free1 ! $ move ! (24 ∷ 25 ∷ []) $ free1 ! $ move ! (22 ∷ 23 ∷ []) $ free1 ! $ move ! (20 ∷ 21 ∷ []) $ free1 ! $
+              move ! (18 ∷ 19 ∷ []) $ free1 ! $ move ! (16 ∷ 17 ∷ []) $ free1 ! $ move ! (14 ∷ 15 ∷ []) $ free1 ! $ free0 ! $ move ! (1 ∷ []) $ split ! $
+              keep ! (6 ∷ 8 ∷ 0 ∷ 11 ∷ 13 ∷ 7 ∷ 9 ∷ 10 ∷ 3 ∷ 12 ∷ 14 ∷ 2 ∷ []) $
               by ! (exits w r (vs .1 .0) same-long ended)))))))
 
         turns : Sq W (At σ) (runs C Λ En pieces.turn-1 (anyQ (Turned σ)))
@@ -564,13 +587,12 @@ module _ {M : Type 1} (𝓤 : URA M) (H : Heap 𝓤) (A : Atoms 𝓤) (W : Given
             go true e = more e
             go false e = stops e
 
-    walk : ent 𝓤 (onEntry 𝓤 H A serve.signature (κ₀, (κ₁, (κ₂, (κ₃, (κ₄, tt))))) (q₀, (q₁, (q₂, (q₃, (q₄, tt))))) arg vals) (WpFn 𝓤 H C Λ code.function
-        (sliceVal (b₀, o₀) (length xs) ∷ LL.val S.the-type S′.the-laws s ∷ sliceVal (b₁, o₁) (length ys) ∷ slice-val answers ∷ slice-val writes ∷ slice-val bytes ∷ []) Post)
+    walk : ent 𝓤 (onEntry 𝓤 H A serve.signature (κ₀, (κ₁, (κ₂, (κ₃, (κ₄, tt))))) (q₀, (q₁, (q₂, (q₃, (q₄, tt))))) arg vals)
+        (WpFn 𝓤 H C Λ code.function passed Post)
     walk =
         qed W ((‵ (flft κ₀ q₀) ⊛ (‵ (flft κ₁ q₁) ⊛ (‵ (flft κ₂ q₂) ⊛ (‵ (flft κ₃ q₃) ⊛ (‵ (flft κ₄ q₄) ⊛ ‵ ftrue)))))
         ∷ ‵ (owns (MutSlice (named 0) κ₀ u64 ∷ S.the-row ∷ MutSlice (named 1) κ₁ P.the-row ∷ MutSlice (named 2) κ₂ Answers ∷ ShrSlice (named 3) κ₃ Pairs
-        ∷ ShrSlice (named 4) κ₄ u8 ∷ []) arg vals) ∷ []) ∵ enter ! C Λ code.function
-        (sliceVal (b₀, o₀) (length xs) ∷ LL.val S.the-type S′.the-laws s ∷ sliceVal (b₁, o₁) (length ys) ∷ slice-val answers ∷ slice-val writes ∷ slice-val bytes ∷ []) _ $
+        ∷ ShrSlice (named 4) κ₄ u8 ∷ []) arg vals) ∷ []) ∵ enter ! C Λ code.function passed _ $
         alloc1 ! (λ l₀. alloc1 ! (λ l₁. alloc1 ! (λ l₂. alloc1 ! (λ l₃. alloc1 ! (λ l₄. alloc1 ! (λ l₅. alloc1 ! (λ l₆. alloc1 ! (λ l₇. alloc1 ! (λ l₈.
         alloc1 ! (λ l₉. alloc1 ! (λ l₁₀. alloc1 ! (λ l₁₁. alloc1 ! (λ l₁₂. alloc1 ! (λ l₁₃. alloc1 ! (λ l₁₄. alloc1 ! (λ l₁₅. alloc1 ! (λ l₁₆.
         alloc1 ! (λ l₁₇. alloc1 ! (λ l₁₈. alloc1 ! (λ l₁₉. alloc1 ! (λ l₂₀. alloc1 ! (λ l₂₁. alloc0 ! $ params1 ! $
@@ -579,31 +601,29 @@ module _ {M : Type 1} (𝓤 : URA M) (H : Heap 𝓤) (A : Atoms 𝓤) (W : Given
         pass1 ! (init ! (3 behind 0) refl (tt, (tt, (record { fits = ys-room .0 }, tt)))) $
         pass1 ! (init ! (4 behind 0) refl (tt, (tt, (record { fits = answers-room .0 }, tt)))) $
         pass1 ! (init ! (5 behind 0) refl (tt, (tt, (record { fits = writes-room .0 }, tt)))) $
-        pass1 ! (init ! (6 behind 0) refl (tt, (tt, (record { fits = bytes-room .0 }, tt)))) $ pass0 ! $ assigns ! (of-opd ! (load ! (from ! (fld ! refl (stop
-        !))) (look-in ! (3 behind 0) (sub ! 1 refl (whole !))))) (from ! (stop !)) (init ! (11 behind 0) refl (tt, record { fits = ys-room .0 })) $ assigns !
-        (of-opd ! (load ! (from ! (fld ! refl (stop !))) (look-in ! (4 behind 0) (sub ! 1 refl (whole !))))) (from ! (stop !)) (init ! (12 behind 0) refl (
-          tt,
-          record { fits = answers-room .0 },
-        )) $
-        -- what is lent is taken apart
+        pass1 ! (init ! (6 behind 0) refl (tt, (tt, (record { fits = bytes-room .0 }, tt)))) $
+        pass0 ! $
+        gets ! (of-opd ! (part ! (3 behind 0) 1 refl refl refl)) (11 behind 0) refl (tt, record { fits = ys-room .0 }) $
+        gets ! (of-opd ! (part ! (4 behind 0) 1 refl refl refl)) (12 behind 0) refl (tt, record { fits = answers-room .0 }) $
+        -- turns = start(shared, points.len(), answers.len(), writes, bytes): what is lent is taken apart
         move ! (45 ∷ []) $ fsplit ! $ move ! (1 ∷ []) $ fsplit ! $ drop ! $ fsplit ! $ move ! (1 ∷ []) $ fsplit ! $ move ! (1 ∷ []) $ fsplit ! $
         move ! (1 ∷ []) $ fsplit ! $ move ! (4 ∷ []) $ fsplit ! $ move ! (1 ∷ []) $ fsplit ! $ move ! (52 ∷ []) $ split ! $ move ! (1 ∷ []) $ split ! $
         move ! (1 ∷ []) $ split ! $ move ! (1 ∷ []) $ split ! $ move ! (1 ∷ []) $ split ! $ move ! (11 ∷ []) $
-        use1 W (‵ lent-writes ⊛ ‵ lent-writes) (shr-slice-copy 𝓤 H A W (named 3) κ₃ Pairs .twice writes (slice-vals writes)) $ split ! $ move ! (11 ∷ []) $
-        use1 W (‵ lent-bytes ⊛ ‵ lent-bytes) (shr-slice-copy 𝓤 H A W (named 4) κ₄ u8 .twice bytes (slice-vals bytes)) $ split ! $
-        move ! (6 ∷ 4 ∷ 2 ∷ 0 ∷ []) $ group ! 4 $ use1 W (raw (Start 𝓤 H A at-mem run .pre to-start)) goes-start $ calls-at ! fm (Start 𝓤 H A at-mem run)
-        knows-start to-start (and-then ! (load ! (from ! (stop !)) (look ! (2 behind 13) refl)) (and-then ! (load ! (from ! (stop !)) (look ! (11 behind 13)
-        refl)) (and-then ! (load ! (from ! (stop !)) (look ! (12 behind 13) refl)) (and-then ! (load ! (from ! (stop !)) (look ! (5 behind 13) refl))
-        (and-then ! (load ! (from ! (stop !)) (look ! (6 behind 13) refl)) (no-more !)))))) (λ w. use1 W (after-start w) (id⊢ 𝓤 _) $ await ! tt $ pick ! (λ t.
-        split ! $ move ! (1 ∷ []) $ pick ! (λ vs. split ! $ move ! (1 ∷ []) $
+        use1 W (‵ lent-writes ⊛ ‵ lent-writes) (shr-slice-copy 𝓤 H A W (named 3) κ₃ Pairs .twice writes (slice-vals writes)) $
+        split ! $ move ! (11 ∷ []) $
+        use1 W (‵ lent-bytes ⊛ ‵ lent-bytes) (shr-slice-copy 𝓤 H A W (named 4) κ₄ u8 .twice bytes (slice-vals bytes)) $
+        split ! $ move ! (6 ∷ 4 ∷ 2 ∷ 0 ∷ []) $ group ! 4 $ use1 W (raw (Start 𝓤 H A at-mem run .pre to-start)) goes-start $
+        calls-at ! fm (Start 𝓤 H A at-mem run) knows-start to-start (and-then ! (value ! (2 behind 13) refl) (and-then ! (value ! (11 behind 13) refl)
+        (and-then ! (value ! (12 behind 13) refl) (and-then ! (value ! (5 behind 13) refl) (and-then ! (value ! (6 behind 13) refl) (no-more !)))))) (λ w.
+        use1 W (after-start w) (id⊢ 𝓤 _) $ await ! tt $ pick ! (λ t. split ! $ move ! (1 ∷ []) $ pick ! (λ vs. split ! $ move ! (1 ∷ []) $
         heard ! (Starts s (length ys) (length (answers .now)) (writes .now) (bytes .now) t) (λ started. move ! (1 ∷ []) $ split ! $ move ! (1 ∷ []) $
         peeks ! T.the-row (Is T.the-row) (shows 𝓤 H A T.the-row) t (w ∷ []) (λ is-turns.
         land ! (from ! (stop !)) (init ! (7 behind 15) refl (LL.lawful T.the-type T′.the-laws 𝓤 H A W .typed t _ is-turns .0)) $
         rewrite ! (7 behind 15) (λ (u : Val). ‵ (fat fullShare (ty 7) l₇ 0 u)) (ap only (LL.tells T.the-type T′.the-laws t (w ∷ []) is-turns)) refl $
-        move ! (1 ∷ []) $ split ! $ move ! (1 ∷ []) $ split ! $ keep ! (10 ∷ 16 ∷ 9 ∷ 11 ∷ 12 ∷ 2 ∷ 6 ∷ 0 ∷ 5 ∷ 8 ∷ 15 ∷ 17 ∷ 18 ∷ 19 ∷ 20 ∷ 21 ∷ 22 ∷ 23 ∷ 24
-        ∷ 25 ∷ 26 ∷ 27 ∷ 28 ∷ 29 ∷ 30 ∷ 31 ∷ 32 ∷ 33 ∷ 34 ∷ 35 ∷ 36 ∷ 37 ∷ 38 ∷ 39 ∷ 40 ∷ 41 ∷ 42 ∷ 43 ∷ 44 ∷ 45 ∷ 46 ∷ 47 ∷ 48 ∷ 49 ∷ 50 ∷ 51 ∷ 52 ∷ 53 ∷ 54
-        ∷ 55 ∷ 56 ∷ 57 ∷ 58 ∷ 59 ∷ 60 ∷ []) $ first ! $ blocks ! $ loops ! 𝓣 Nearer Nearer-wf (At l₀ l₁ l₂ l₃ l₄ l₅ l₆ l₇ l₈ l₉ l₁₀ l₁₁ l₁₂ l₁₃ l₁₄ l₁₅ l₁₆
-        l₁₇ l₁₈ l₁₉ l₂₀ l₂₁) (turns l₀ l₁ l₂ l₃ l₄ l₅ l₆ l₇ l₈ l₉ l₁₀ l₁₁ l₁₂ l₁₃ l₁₄ l₁₅ l₁₆ l₁₇ l₁₈ l₁₉ l₂₀ l₂₁) (begins t w is-turns started))))))))))))))))))))))))))))
+        move ! (1 ∷ []) $ split ! $ move ! (1 ∷ []) $ split ! $
+        keep ! (10 ∷ 16 ∷ 9 ∷ 11 ∷ 12 ∷ 2 ∷ 6 ∷ 0 ∷ 5 ∷ 8 ∷ 15 ∷ upFrom 17 44) $
+        first ! $ blocks ! $ loops ! 𝓣 Nearer Nearer-wf (At l₀ l₁ l₂ l₃ l₄ l₅ l₆ l₇ l₈ l₉ l₁₀ l₁₁ l₁₂ l₁₃ l₁₄ l₁₅ l₁₆ l₁₇ l₁₈ l₁₉ l₂₀ l₂₁)
+        (turns l₀ l₁ l₂ l₃ l₄ l₅ l₆ l₇ l₈ l₉ l₁₀ l₁₁ l₁₂ l₁₃ l₁₄ l₁₅ l₁₆ l₁₇ l₁₈ l₁₉ l₂₀ l₂₁) (begins t w is-turns started))))))))))))))))))))))))))))
 
 module _ {M : Type 1} (𝓤 : URA M) (H : Heap 𝓤) (A : Atoms 𝓤) (W : Given 𝓤 H A) (at-mem : Memory → SProp 𝓤) (run : Routine → Fun 𝓤) where
   serve-walks : (𝓣 : Tables 𝓤 H) → FmC 𝓤 H (W .laws) (𝓣 .C) → Triple 𝓤 (𝓣 .C #start) (Start 𝓤 H A at-mem run)
@@ -612,13 +632,13 @@ module _ {M : Type 1} (𝓤 : URA M) (H : Heap 𝓤) (A : Atoms 𝓤) (W : Given
   serve-walks 𝓣 fm knows-start knows-turn knows-ends =
       walked 𝓤 H A serve.ended stayed (serve.clauses 𝓤 H A at-mem run) (WpFn 𝓤 H (𝓣 .C) (𝓣 .Λ) code.function)
       (λ κs. (slice-vals, (LL.vals S.the-type S′.the-laws, (slice-vals, (slice-vals, (slice-vals, (slice-vals, tt)))))))
-      (λ κs. (
+      (λ κs. let w = shr-slice-tells (named 3) (κs .1 .1 .1 .0) Pairs in let b = shr-slice-tells (named 4) (κs .1 .1 .1 .1 .0) u8 in (
         mut-slice-tells (named 0) (κs .0) u64,
         (
           LL.tells S.the-type S′.the-laws,
           (
             mut-slice-tells (named 1) (κs .1 .0) P.the-row,
-            (mut-slice-tells (named 2) (κs .1 .1 .0) Answers, (shr-slice-tells (named 3) (κs .1 .1 .1 .0) Pairs, (shr-slice-tells (named 4) (κs .1 .1 .1 .1 .0) u8, tt))),
+            (mut-slice-tells (named 2) (κs .1 .1 .0) Answers, (w, (b, tt))),
           ),
         ),
       ))

@@ -71,8 +71,8 @@ returns-2 c =
     let e = sym (y .before .before .before .before .before .goes-on .ensures) ∙ not-false _ (y .before .before .before .before .if1 .left) in
     let s = y .step in
     let a = y .before .before .before .before .before .before .before .before .args in
-    let made = steps (a .image .now) (a .t2) (a .point) (s .result) _ _ (c .before .tell .result) (c .move-on2 .result) (s .ensures .answers) (c .before .before .before .step-kind .ensures)
-    (c .before .before .step-value .ensures) (c .before .tell .ensures) (c .move-on2 .ensures) in
+    let made = steps (a .image .now) (a .t2) (a .point) (s .result) _ _ (c .before .tell .result) (c .move-on2 .result) (s .ensures .answers)
+    (c .before .before .before .step-kind .ensures) (c .before .before .step-value .ensures) (c .before .tell .ensures) (c .move-on2 .ensures) in
     record { finished = λ h. absurd (no-true e h); steps = λ h. (s .ensures .stored, made .0, made .1) }
 
 pub step-turn-spec : {M : Type 1} → statement M
