@@ -1,0 +1,12 @@
+pub mod Numbers
+pub mod Again
+pub mod Steps
+pub mod Lent
+pub mod Shown
+pub mod Rows
+pub mod Made
+pub mod Reasons
+pub mod Numbering
+pub mod Beginnings
+pub mod Steppings
+pub mod Standing
