@@ -1,7 +1,7 @@
 -- The calls of the code are the calls of the list: what a call leaves is what `serve` says of it, in every world that has the image and the
 -- shared record that it was lent and in which the point hands in the record that it was given. So the claims hold of the code. Opening makes the world
 -- that a list begins with; reading at once and locating, which are no calls of the list, show the book's file. The call that serves a list of points is a row
--- of them; it has no function with records, and its function with numbers cites it in c_served.
+-- of them: crate dispatch has it with records, where its contract is `serving`, which `ServeServed` is about; of the one with numbers c_served says it.
 use Prim.Native.Nat.{ℕ, _+_, _*_, _<_}
 use mathlib.Core.Path.{_≡_}
 use mathlib.Core.Bool.{true, false}
