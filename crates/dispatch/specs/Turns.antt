@@ -1,5 +1,5 @@
 -- Parts of contracts: the turns one after the other, and what holds between two of them. Not needed for belief.
-use Prim.Native.Nat.{ℕ, zero, suc, _+_, _-_, _*_, _≤_, _<_}
+use Prim.Native.Nat.{ℕ, suc, _+_, _-_, _*_, _≤_, _<_}
 use mathlib.Core.Path.{_≡_}
 use mathlib.Core.Bool.{Bool, true, false, _||_, _&&_}
 use mathlib.Core.List.{List, [], _∷_, _++_, map}
@@ -9,13 +9,12 @@ use Rattle.words.specs.Edition.{one}
 use Rattle.words.specs.Logic.{member, some-of}
 use Rattle.words.specs.Memory.{after}
 use Rattle.log.specs.declared.Shared.{Shared}
-use Rattle.log.specs.declared.Place.{Place}
 use Rattle.log.specs.Opening.{replyOf}
 use Rattle.points.specs.declared.Phase.the-variants.{Idle}
 use Rattle.points.specs.declared.Point.{Point}
 use Rattle.points.specs.Calls.{beginning}
 use Rattle.points.specs.Stepping.{stepping, stepKind, stepValue}
-use Rattle.points.specs.Serving.{Turned, inTurn, rounds, row, asking, Common, Listed, Last, begun, lastKind, lastValue, isUnfinished, beginTurn, stepTurn}
+use Rattle.points.specs.Serving.{Turned, inTurn, rounds, row, asking, Common, Listed, begun, lastKind, lastValue, isUnfinished, beginTurn, stepTurn}
 use Rattle.points.specs.Serving.{serveRounds, twice, serveRefusal, pointNumbers, pointsOf, lastsOf}
 use Rattle.dispatch.specs.Dispatch.{offsetOf, sizeOf, sizesOf, requestsOf, lentForEach}
 use Rattle.dispatch.specs.declared.Served.{Served}
