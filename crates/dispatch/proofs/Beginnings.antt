@@ -1,25 +1,23 @@
 -- The second stage: each point's write is begun.
-use mathlib.Core.Path.{_≡_, refl, sym, ap, subst, _∙_}
-use mathlib.Core.Bool.{Bool, true, false}
-use mathlib.Core.List.{List, [], _∷_, _++_, map}
-use Prim.Native.Nat.{ℕ, zero, suc, _+_, _-_, _*_, _≤_, _<_}
+use mathlib.Core.Path.{_≡_, refl, sym, ap, _∙_}
+use mathlib.Core.List.{List, [], _∷_, _++_}
+use Prim.Native.Nat.{ℕ, suc, _+_, _-_, _≤_, _<_}
 use native.Mathlib.Omega.{arith}
 use native.Mathlib.Decide.{decLt}
 use lib.ListN.{length, getD, set, take, drop, length-set}
 use lib.Seq.{getD-at, set-at, drop-cons, drop-drop, append-snoc}
 use Rattle.words.specs.Edition.{one}
-use Rattle.words.specs.Logic.{some-of}
 use Rattle.words.proofs.Tests.{no-true}
 use Rattle.log.specs.declared.Shared.{Shared}
 use Rattle.points.specs.declared.Point.{Point}
 use Rattle.points.specs.declared.Begun.{Begun}
 use Rattle.points.specs.Calls.{beginning}
-use Rattle.points.specs.Serving.{Turned, Common, Request, Asking, Listed, Last, begun, lastKind, lastValue, inTurn, rounds, row, beginTurn, stepTurn, asking}
-use Rattle.points.specs.Serving.{serveRounds, pointsOf, lastsOf}
+use Rattle.points.specs.Serving.{Turned, Common, Request, Listed, begun, lastKind, lastValue, inTurn, rounds, row, beginTurn, stepTurn, asking}
+use Rattle.points.specs.Serving.{serveRounds, pointsOf}
 use Rattle.dispatch.specs.Dispatch.{offsetOf, sizeOf, sizesOf, requestsOf}
 use Rattle.dispatch.specs.declared.Turns.{Turns}
 use Rattle.dispatch.specs.declared.TurnLeft.{TurnLeft}
-use Rattle.dispatch.specs.Turns.{toldTo, oneOn, nextStage, MovesOn, writeOf, BeginTurn, turnsLeft, behind, Each, Shown, goal, Goes, Beginning, Stepping}
+use Rattle.dispatch.specs.Turns.{toldTo, oneOn, nextStage, writeOf, BeginTurn, turnsLeft, behind, Shown, goal, Goes, Beginning}
 use Rattle.dispatch.specs.Turns.{Stands, numbering, beginning-now, stepping-now, over, turned-down, none, Turning}
 use Rattle.dispatch.proofs.Lent.{sizes-next}
 use Rattle.dispatch.proofs.Shown.{append-none}

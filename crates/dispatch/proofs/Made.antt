@@ -1,11 +1,10 @@
 -- What a turn leaves, put together from what its calls leave.
-use mathlib.Core.Path.{_≡_, refl, sym, ap, subst, _∙_}
-use mathlib.Core.List.{List, [], _∷_}
+use mathlib.Core.Path.{_≡_, ap, subst, _∙_}
+use mathlib.Core.List.{List}
 use Prim.Native.Nat.{ℕ, _+_, _-_}
 use native.Mathlib.Omega.{arith}
-use lib.ListN.{length, getD, take, drop}
+use lib.ListN.{take, drop}
 use Rattle.words.specs.Edition.{one}
-use Rattle.log.specs.declared.Shared.{Shared}
 use Rattle.points.specs.declared.Point.{Point}
 use Rattle.points.specs.declared.Begun.{Begun}
 use Rattle.points.specs.declared.Stepped.{Stepped}
@@ -15,7 +14,6 @@ use Rattle.points.specs.Stepping.{stepping, stepKind, stepValue}
 use Rattle.points.specs.Serving.{begun, lastKind, lastValue}
 use Rattle.dispatch.specs.Dispatch.{offsetOf, sizeOf}
 use Rattle.dispatch.specs.declared.Turns.{Turns}
-use Rattle.dispatch.specs.declared.TurnLeft.{TurnLeft}
 use Rattle.dispatch.specs.Turns.{told, toldTo, MovesOn, writeOf, BeginTurn}
 
 -- the next text begins there

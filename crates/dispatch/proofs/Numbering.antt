@@ -1,8 +1,8 @@
 -- The first stage: each point's number is looked at.
 use mathlib.Core.Path.{_≡_, refl, sym, ap, subst, _∙_}
 use mathlib.Core.Bool.{Bool, true, false}
-use mathlib.Core.List.{List, [], _∷_, _++_}
-use Prim.Native.Nat.{ℕ, zero, suc, _+_, _-_, _*_, _≤_, _<_}
+use mathlib.Core.List.{List, []}
+use Prim.Native.Nat.{ℕ, suc, _+_, _-_, _≤_, _<_}
 use native.Mathlib.Omega.{arith}
 use mathlib.Core.Logic.{_⊎_, inl, inr}
 use native.Mathlib.Decide.{decLt}
@@ -13,12 +13,12 @@ use Rattle.words.specs.Logic.{member}
 use Rattle.words.proofs.Tests.{no-true}
 use Rattle.log.specs.declared.Shared.{Shared}
 use Rattle.points.specs.declared.Point.{Point}
-use Rattle.points.specs.Serving.{Common, Listed, inTurn, beginTurn, asking, serveRounds, twice, serveRefusal, pointNumbers}
+use Rattle.points.specs.Serving.{serveRounds, twice, serveRefusal, pointNumbers}
 use Rattle.dispatch.specs.Dispatch.{sizesOf, requestsOf, lentForEach}
 use Rattle.dispatch.specs.declared.Turns.{Turns}
 use Rattle.dispatch.specs.declared.TurnLeft.{TurnLeft}
-use Rattle.dispatch.specs.Turns.{firstTurns, noted, turnedDown, oneOn, nextStage, MovesOn, NumberTurn, turnsLeft, behind, Each, Goes}
-use Rattle.dispatch.specs.Turns.{Numbering, Beginning, Refused, Stands, numbering, beginning-now, stepping-now, over, turned-down, Starts, none, Turning}
+use Rattle.dispatch.specs.Turns.{firstTurns, noted, turnedDown, oneOn, nextStage, MovesOn, NumberTurn, turnsLeft, Each}
+use Rattle.dispatch.specs.Turns.{Numbering, Stands, numbering, beginning-now, stepping-now, over, turned-down, Starts, none, Turning}
 use Rattle.dispatch.proofs.Numbers.{twice-here, once-more}
 use Rattle.dispatch.proofs.Lent.{requests-are}
 use Rattle.dispatch.proofs.Reasons.{numbers-are, number-at, too-few, too-many, listed-twice, no-reason, lent-each, each-lent}

@@ -2,14 +2,13 @@
 use mathlib.Core.Path.{_≡_, refl, sym, ap, _∙_}
 use mathlib.Core.Bool.{Bool, true, false, _||_}
 use mathlib.Core.List.{List, [], _∷_, _++_, map}
-use Prim.Native.Nat.{ℕ, zero, suc, _+_, _≤_, _<_}
+use Prim.Native.Nat.{ℕ, suc, _+_, _<_}
 use native.Mathlib.Omega.{arith}
 use lib.ListN.{length, length-append, getD, set, take}
 use lib.Seq.{append-snoc, take-suc-set, take-set-lt, getD-take}
 use Rattle.words.specs.Logic.{some-of}
 use Rattle.points.specs.Serving.{Turned, inTurn, Last, begun, stepped, Listed, pointsOf, lastsOf, lastKind, isUnfinished}
 use Rattle.points.specs.declared.Point.{Point}
-use Rattle.points.specs.declared.StepAnswer.{StepAnswer}
 use Rattle.points.specs.declared.StepAnswer.the-variants.{Stored, Moved, Extending, Committed, Refused, Copied, Bytes}
 use Rattle.log.specs.declared.Reply.the-variants.{Done, Refused as Stopped}
 use Rattle.dispatch.specs.Turns.{kindGoesOn, behind}

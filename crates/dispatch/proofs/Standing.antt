@@ -1,23 +1,22 @@
 -- What holds wherever the turns stand, and what the end comes to.
-use mathlib.Core.Path.{_≡_, refl, sym, ap, subst, _∙_}
+use mathlib.Core.Path.{_≡_, refl, sym, ap, _∙_}
 use mathlib.Core.Bool.{Bool, true, false}
-use mathlib.Core.List.{List, [], _∷_, _++_, map}
-use Prim.Native.Nat.{ℕ, zero, suc, _+_, _-_, _*_, _≤_, _<_}
+use mathlib.Core.List.{List, [], _++_, map}
+use Prim.Native.Nat.{ℕ, suc, _+_, _-_, _<_}
 use native.Mathlib.Omega.{arith}
-use lib.ListN.{length, getD, take, drop, length-append}
+use lib.ListN.{length, take, length-append}
 use Rattle.words.specs.Edition.{one}
 use Rattle.words.proofs.Choice.{choose-true, choose-false, chosen-zero, chosen-suc}
 use Rattle.words.proofs.Tests.{no-true}
 use Rattle.log.specs.declared.Shared.{Shared}
-use Rattle.log.specs.declared.Reply.{Reply}
 use Rattle.log.specs.declared.Reply.the-variants.{Done, Refused as Stopped}
 use Rattle.log.specs.Opening.{replyOf}
 use Rattle.points.specs.declared.Point.{Point}
-use Rattle.points.specs.Serving.{Turned, Common, Listed, Last, lastKind, lastValue, row, serveRounds, pointsOf, lastsOf, Service, serving}
-use Rattle.dispatch.specs.Dispatch.{sizesOf, requestsOf, lentForEach, lastNumbers, answersAfter, DispatchLeft, dispatchLeft, dispatched}
+use Rattle.points.specs.Serving.{Turned, Common, Listed, lastKind, lastValue, pointsOf, lastsOf, Service, serving}
+use Rattle.dispatch.specs.Dispatch.{requestsOf, lentForEach, lastNumbers, answersAfter, DispatchLeft, dispatchLeft, dispatched}
 use Rattle.dispatch.specs.declared.Turns.{Turns}
 use Rattle.dispatch.specs.declared.Served.{Served}
-use Rattle.dispatch.specs.Turns.{pairs, TextWithin, Within, RoomFor, Ends, Each, Shown, goal, whyNot, Goes, Beginning, Over, Refused}
+use Rattle.dispatch.specs.Turns.{pairs, TextWithin, Within, RoomFor, Ends, goal, whyNot, Goes, Beginning, Over, Refused}
 use Rattle.dispatch.specs.Turns.{Stands, numbering, beginning-now, stepping-now, over, turned-down}
 use Rattle.dispatch.proofs.Lent.{sizes-next}
 use Rattle.dispatch.proofs.Shown.{pairs-of}

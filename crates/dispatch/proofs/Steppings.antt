@@ -1,13 +1,13 @@
 -- The third stage: rounds, in each of which each unfinished point makes a step.
-use mathlib.Core.Path.{_≡_, refl, sym, ap, subst, _∙_}
+use mathlib.Core.Path.{_≡_, refl, sym, ap, _∙_}
 use mathlib.Core.Bool.{Bool, true, false, _||_, _&&_}
-use mathlib.Core.List.{List, [], _∷_, _++_, map}
-use Prim.Native.Nat.{ℕ, zero, suc, _+_, _-_, _*_, _≤_, _<_}
+use mathlib.Core.List.{List, [], _∷_, _++_}
+use Prim.Native.Nat.{ℕ, zero, suc, _+_, _-_, _≤_, _<_}
 use native.Mathlib.Omega.{arith}
 use native.Mathlib.Decide.{decLt}
-use lib.ListN.{length, getD, set, take, length-set, length-append}
+use lib.ListN.{length, getD, set, length-set}
 use lib.Dec.{ltb}
-use lib.Seq.{getD-at, set-at, set-getD, append-snoc}
+use lib.Seq.{getD-at, set-at, append-snoc}
 use borrow.Author.Tests.{lt-ltb}
 use Rattle.words.specs.Edition.{one}
 use Rattle.words.specs.Logic.{some-of}
@@ -18,13 +18,13 @@ use Rattle.log.specs.declared.Shared.{Shared}
 use Rattle.points.specs.declared.Point.{Point}
 use Rattle.points.specs.Plan.{Outcome}
 use Rattle.points.specs.Stepping.{stepping, stepKind, stepValue}
-use Rattle.points.specs.Serving.{Turned, Common, Listed, Last, stepped, lastKind, lastValue, isUnfinished, inTurn, rounds, stepTurn, pointsOf, lastsOf}
+use Rattle.points.specs.Serving.{Turned, Common, Listed, stepped, lastKind, lastValue, isUnfinished, inTurn, rounds, stepTurn, pointsOf}
 use Rattle.points.proofs.Turns.{turn-of, no-turn}
 use Rattle.points.proofs.Rounds.{AllOf, rounds-over}
 use Rattle.dispatch.specs.declared.Turns.{Turns}
 use Rattle.dispatch.specs.declared.TurnLeft.{TurnLeft}
-use Rattle.dispatch.specs.Turns.{kindGoesOn, told, oneOn, nextRound, MovesOn, StepTurn, turnsLeft, behind, Each, Shown, goal, whyNot, Goes}
-use Rattle.dispatch.specs.Turns.{Stepping, Over, Stands, numbering, beginning-now, stepping-now, over, turned-down, none, Turning}
+use Rattle.dispatch.specs.Turns.{kindGoesOn, told, oneOn, nextRound, MovesOn, StepTurn, turnsLeft, behind, Shown, goal, whyNot, Goes}
+use Rattle.dispatch.specs.Turns.{Stepping, Stands, numbering, beginning-now, stepping-now, over, turned-down, none, Turning}
 use Rattle.dispatch.proofs.Shown.{append-none}
 use Rattle.dispatch.proofs.Rows.{in-turn-next, points-append, length-points, one-longer, told-anew, told-of, by-kind, unfinished, some-more}
 

@@ -5,7 +5,7 @@
 --     gets         local i = …, where local i is empty
 --     regets       the same where it holds something
 -- Assumes `Given`.
-use mathlib.Core.Path.{_≡_, refl, sym, subst}
+use mathlib.Core.Path.{_≡_, sym, subst}
 use mathlib.Core.List.{List, [], _∷_}
 use mathlib.Core.Option.{some}
 use Prim.Native.Nat.{ℕ, zero, _+_}
@@ -19,7 +19,7 @@ use base.Fml.{fat, froom}
 use prog.Memory.{fieldAt}
 use prog.Wp.{Heap, Env, Calls, Loops, Spot, spotOf}
 use ghost.Atoms.{Atoms}
-use types.Kit.{Post, Goal, runs, Step, Given, Item, ‵, nth, put}
+use types.Kit.{Post, runs, Step, Given, Item, ‵, nth, put}
 use types.Part.{Part, whole, sub, look-in}
 use types.Run.{Reads, Walks, Opd, Rv, look, store, init, stop, hop, fld, from, load, addr, assigns}
 

@@ -11,7 +11,7 @@ use Rattle.log.specs.declared.Shared.{Shared}
 use Rattle.log.specs.declared.Reply.{Reply}
 use Rattle.log.specs.declared.Reply.the-variants.{Done, Refused}
 use Rattle.points.specs.declared.Point.{Point}
-use Rattle.points.specs.Serving.{Request, Last, lastKind, lastValue, Common, Service, serving}
+use Rattle.points.specs.Serving.{Request, Last, lastKind, lastValue, serving}
 
 -- a write's offset; its size
 abbrev pub offsetOf : List ℕ → ℕ

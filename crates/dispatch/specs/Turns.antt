@@ -1,5 +1,5 @@
 -- Parts of contracts: the turns one after the other, and what holds between two of them. Not needed for belief.
-use Prim.Native.Nat.{ℕ, zero, suc, _+_, _-_, _*_, _≤_, _<_}
+use Prim.Native.Nat.{ℕ, suc, _+_, _-_, _*_, _≤_, _<_}
 use mathlib.Core.Path.{_≡_}
 use mathlib.Core.Bool.{Bool, true, false, _||_, _&&_}
 use mathlib.Core.List.{List, [], _∷_, _++_, map}
@@ -9,13 +9,12 @@ use Rattle.words.specs.Edition.{one}
 use Rattle.words.specs.Logic.{member, some-of}
 use Rattle.words.specs.Memory.{after}
 use Rattle.log.specs.declared.Shared.{Shared}
-use Rattle.log.specs.declared.Place.{Place}
 use Rattle.log.specs.Opening.{replyOf}
 use Rattle.points.specs.declared.Phase.the-variants.{Idle}
 use Rattle.points.specs.declared.Point.{Point}
 use Rattle.points.specs.Calls.{beginning}
 use Rattle.points.specs.Stepping.{stepping, stepKind, stepValue}
-use Rattle.points.specs.Serving.{Turned, inTurn, rounds, row, asking, Common, Listed, Last, begun, lastKind, lastValue, isUnfinished, beginTurn, stepTurn}
+use Rattle.points.specs.Serving.{Turned, inTurn, rounds, row, asking, Common, Listed, begun, lastKind, lastValue, isUnfinished, beginTurn, stepTurn}
 use Rattle.points.specs.Serving.{serveRounds, twice, serveRefusal, pointNumbers, pointsOf, lastsOf}
 use Rattle.dispatch.specs.Dispatch.{offsetOf, sizeOf, sizesOf, requestsOf, lentForEach}
 use Rattle.dispatch.specs.declared.Served.{Served}
@@ -34,6 +33,7 @@ pairs (k ∷ ks) (v ∷ vs) = (k ∷ v ∷ []) ∷ pairs ks vs
 
 -- ---- the turns changed
 
+-- before the first turn
 abbrev pub firstTurns : Bool → ℕ → ℕ → ℕ → Shared → Turns
 firstTurns going n most refused s =
     record {
@@ -170,23 +170,27 @@ pub record MovesOn (t r : Turns) : Type 0 where
 module _ (t : Turns) where
   -- ---- a turn
 
+  -- 27 where the number was met before
   pub record NumberTurn (p : Point) (r : TurnLeft) : Type 0 where
     pub twice : member (p .head .number) (take (t .at) (t .numbers)) ≡ true → r .turns ≡ turnedDown t
     pub once : member (p .head .number) (take (t .at) (t .numbers)) ≡ false → MovesOn (noted t (p .head .number)) (r .turns)
     pub same : r .point ≡ p
 
+  -- the write of the point whose turn it is; its text lies within the bytes
   abbrev pub writeOf : List (List ℕ) → List ℕ
   writeOf writes = getD writes (t .at) []
 
   abbrev pub TextWithin : List (List ℕ) → List ℕ → Type 0
   TextWithin writes bytes = (t .at < length writes) × (t .start + sizeOf (writeOf writes) ≤ length bytes)
 
+  -- its beginning
   pub record BeginTurn (words : List ℕ) (p : Point) (writes : List (List ℕ)) (bytes : List ℕ) (r : TurnLeft) : Type 0 where
     pub begins : let w = writeOf writes in
         let b = beginning one words (t .shared) p (offsetOf w) (take (sizeOf w) (drop (t .start) bytes)) in
         (r .point ≡ b .point)
         × MovesOn (toldTo t (t .start + sizeOf w) (lastKind (begun (b .reply))) (lastValue (begun (b .reply))) (b .shared)) (r .turns)
 
+  -- its step, if it is unfinished
   pub record StepTurn (words : List ℕ) (p : Point) (r : TurnLeft) (later : List ℕ) : Type 0 where
     pub finished : kindGoesOn (getD (t .kinds) (t .at) 0) ≡ false → (later ≡ words) × (r .point ≡ p) × MovesOn t (r .turns)
     pub steps : kindGoesOn (getD (t .kinds) (t .at) 0) ≡ true → let o = stepping one words (t .shared) p in
@@ -202,13 +206,14 @@ module _ (t : Turns) where
   abbrev pub RoomFor : List (List ℕ) → Type 0
   RoomFor answers = t .refused ≡ 0 → (length answers ≤ 32) × (length (t .kinds) ≡ 32) × (length (t .values) ≡ 32)
 
+  -- the answers, unless the call is refused
   pub record Ends (before : List (List ℕ)) (r : Served) (later : List (List ℕ)) : Type 0 where
     pub reply-is : r .reply ≡ replyOf (t .refused)
     pub shared-is : r .shared ≡ t .shared
     pub kept : (t .refused ≡ 0 → ⊥) → later ≡ before
     pub shown : t .refused ≡ 0 → later ≡ pairs (take (length before) (t .kinds)) (take (length before) (t .values))
 
--- how many turns there are at most, of lists of up to 32
+-- each turn makes it less: a stage counts more than all its rounds, a round more than its turns, of which there are at most 32
 abbrev pub turnsLeft : Turns → ℕ
 turnsLeft t = 300000 * (2 - t .stage) + 33 * t .rounds + (32 - t .at)
 
@@ -233,6 +238,7 @@ pub record Shown (t : Turns) (xs : List Listed) : Type 0 where
 
 -- called with the image xs, the shared record s, the points ys, so many answers, the writes and the bytes
 module _ (xs : List ℕ) (s : Shared) (ys : List Point) (answers : ℕ) (writes : List (List ℕ)) (bytes : List ℕ) where
+  -- what the row of all beginnings and steps gives; why the call is refused, if what is lent is one write for each
   abbrev pub goal : Turned Common (List Listed)
   goal =
       row (beginTurn one) (stepTurn one) (serveRounds one (length ys)) (record { words = xs; shared = s }) (asking ys (requestsOf writes bytes))
@@ -251,6 +257,7 @@ module _ (xs : List ℕ) (s : Shared) (ys : List Point) (answers : ℕ) (writes 
     pub values-long : length (t .values) ≡ 32
     pub each : Each (length ys) answers writes bytes
 
+  -- stage 0: nothing has changed, and the numbers of the points before differ
   pub record Numbering (t : Turns) (ws : List ℕ) (zs : List Point) : Type 0 where
     pub goes : Goes t
     pub stage-is : t .stage ≡ 0
@@ -262,6 +269,7 @@ module _ (xs : List ℕ) (s : Shared) (ys : List Point) (answers : ℕ) (writes 
     pub seen : take (t .at) (t .numbers) ≡ take (t .at) (pointNumbers ys)
     pub once : twice (take (t .at) (pointNumbers ys)) ≡ false
 
+  -- stage 1: what all beginnings give is what they give from here, behind those that are done; the others' records are as they were
   pub record Beginning (t : Turns) (ws : List ℕ) (zs : List Point) : Type 0 where
     pub goes : Goes t
     pub stage-is : t .stage ≡ 1
@@ -278,6 +286,7 @@ module _ (xs : List ℕ) (s : Shared) (ys : List Point) (answers : ℕ) (writes 
     pub bytes-left : t .start + sizesOf (drop (t .at) writes) ≡ length bytes
     pub shown : Shown t done
 
+  -- stage 2: what the whole row gives is what the rest of this round and the rounds after it give from here
   pub record Stepping (t : Turns) (ws : List ℕ) (zs : List Point) : Type 0 where
     pub goes : Goes t
     pub stage-is : t .stage ≡ 2
@@ -294,6 +303,7 @@ module _ (xs : List ℕ) (s : Shared) (ys : List Point) (answers : ℕ) (writes 
     pub live-is : t .live ≡ some-of (λ x. isUnfinished (x .last)) done
     pub shown : Shown t (done ++ rest)
 
+  -- the row has come to its end
   pub record Over (t : Turns) (ws : List ℕ) (zs : List Point) : Type 0 where
     pub stopped : t .going ≡ false
     pub not-refused : t .refused ≡ 0
@@ -307,7 +317,7 @@ module _ (xs : List ℕ) (s : Shared) (ys : List Point) (answers : ℕ) (writes 
     pub all-are : length done ≡ length ys
     pub shown : Shown t done
 
-  -- 26 or 27
+  -- 26 or 27, and nothing has changed
   pub record Refused (t : Turns) (ws : List ℕ) (zs : List Point) : Type 0 where
     pub stopped : t .going ≡ false
     pub words-are : ws ≡ xs
@@ -318,6 +328,7 @@ module _ (xs : List ℕ) (s : Shared) (ys : List Point) (answers : ℕ) (writes 
     pub not-lent : lentForEach (length ys) answers writes (length bytes) ≡ false → suc reason ≡ 26
     pub lent : lentForEach (length ys) answers writes (length bytes) ≡ true → whyNot ≡ suc reason
 
+  -- one of these
   pub data Stands (t : Turns) (ws : List ℕ) (zs : List Point) : Type 0 where
     numbering : Numbering t ws zs → Stands t ws zs
     beginning-now : Beginning t ws zs → Stands t ws zs

@@ -1,11 +1,9 @@
-use mathlib.Core.Path.{_≡_, refl, sym, ap, _∙_}
-use mathlib.Core.Bool.{true, false}
-use Prim.Native.Nat.{ℕ, _+_, _-_, _≤_}
+use mathlib.Core.Path.{_≡_, refl, sym}
+use Prim.Native.Nat.{_+_, _-_, _≤_}
 use native.Mathlib.Omega.{arith}
-use lib.ListN.{length, getD, drop}
-use lib.Dec.{eqb}
+use lib.ListN.{length, drop}
 use borrow.Author.Tests.{ne-eqb}
-use Rattle.dispatch.specs.Dispatch.{sizeOf, sizesOf}
+use Rattle.dispatch.specs.Dispatch.{sizesOf}
 use Rattle.dispatch.proofs.Lent.{sizes-next, sizes-none, none-left}
 use Rattle.dispatch.proofs.adds_up.Statement.{statement}
 use Rattle.dispatch.proofs.adds_up.Tie as tie

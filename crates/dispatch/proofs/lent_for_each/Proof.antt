@@ -1,5 +1,4 @@
 use mathlib.Core.Path.{_∙_}
-use lib.ListN.{length}
 use borrow.Author.Needs.{needs}
 use Rattle.dispatch.proofs.Lent.{not-answers, not-writes, but-sizes}
 use Rattle.dispatch.proofs.lent_for_each.Statement.{statement}
