@@ -17,23 +17,23 @@ Inv-loop writes bytes left₀ i₀ i-end left i = (i-end ≡ length writes) × (
 abbrev μ-loop : tie.MeasureT-loop
 μ-loop writes bytes left₀ i₀ i-end left i = length writes - i
 
--- src/lib.rt:114:5
+-- src/lib.rt:115:5
 loop-holds : tie.Need-loop-holds Inv-loop μ-loop
 loop-holds c = (refl, omega arith, refl)
 
--- src/lib.rt:115:20
+-- src/lib.rt:116:20
 mul-size : tie.Need-mul-size Inv-loop μ-loop
 mul-size c = omega arith
 
--- src/lib.rt:115:20
+-- src/lib.rt:116:20
 index-1-size : tie.Need-index-1-size Inv-loop μ-loop
 index-1-size c = omega arith
 
--- src/lib.rt:115:20
+-- src/lib.rt:116:20
 index-2-size : tie.Need-index-2-size Inv-loop μ-loop
 index-2-size c = omega arith
 
--- src/lib.rt:117:13
+-- src/lib.rt:118:13
 returns : tie.Need-returns Inv-loop μ-loop
 returns c =
     let l = c .before .before .before .loop in
@@ -41,15 +41,15 @@ returns c =
     let e = sizes-next writes (l .i) (omega arith) in
     sym (ne-eqb (sizesOf writes) _ (omega (arith, l .inv .2, e)))
 
--- src/lib.rt:114:9
+-- src/lib.rt:115:9
 add-i : tie.Need-add-i Inv-loop μ-loop
 add-i c = omega arith
 
--- src/lib.rt:114:5
+-- src/lib.rt:115:5
 loop-less : tie.Need-loop-less Inv-loop μ-loop
 loop-less c = omega arith
 
--- src/lib.rt:114:5
+-- src/lib.rt:115:5
 loop-again : tie.Need-loop-again Inv-loop μ-loop
 loop-again c =
     let l = c .before .before .before .loop in
@@ -57,7 +57,7 @@ loop-again c =
     let e = sizes-next writes (l .i) (omega arith) in
     (l .inv .0, omega arith, omega (arith, l .inv .2, e))
 
--- src/lib.rt:110:1
+-- src/lib.rt:111:1
 returns-2 : tie.Need-returns-2 Inv-loop μ-loop
 returns-2 c =
     let l = c .before .loop in
