@@ -4,7 +4,7 @@ use native.Mathlib.Omega.{arith}
 use lib.ListN.{length, drop}
 use borrow.Author.Tests.{ne-eqb}
 use Rattle.dispatch.specs.Dispatch.{sizesOf}
-use Rattle.dispatch.proofs.Lent.{sizes-next, sizes-none, none-left}
+use Rattle.dispatch.proofs.Lent.{sizes-next, sizes-none, as-tests}
 use Rattle.dispatch.proofs.adds_up.Statement.{statement}
 use Rattle.dispatch.proofs.adds_up.Tie as tie
 use Rattle.dispatch.proofs.adds_up.Reads as reads
@@ -63,7 +63,7 @@ returns-2 c =
     let l = c .before .loop in
     let writes = c .before .before .args .writes .now in
     let e = sizes-none writes (l .i) (omega arith) in
-    none-left (l .left) (sizesOf writes) _ (omega (arith, l .inv .2, e))
+    as-tests (l .left) 0 (sizesOf writes) _ (λ z. omega (arith, l .inv .2, e, z)) (λ z. omega (arith, l .inv .2, e, z))
 
 pub adds-up-spec : {M : Type 1} → statement M
 adds-up-spec =
