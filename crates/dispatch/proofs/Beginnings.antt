@@ -1,6 +1,6 @@
 -- The second stage: each point's write is begun.
 use mathlib.Core.Path.{_≡_, refl, sym, ap, _∙_}
-use mathlib.Core.List.{List, [], _∷_, _++_}
+use mathlib.Core.List.{List, [], _∷_, _++_, append-nil}
 use Prim.Native.Nat.{ℕ, suc, _+_, _-_, _≤_, _<_}
 use native.Mathlib.Omega.{arith}
 use native.Mathlib.Decide.{decLt}
@@ -20,7 +20,6 @@ use Rattle.dispatch.specs.declared.TurnLeft.{TurnLeft}
 use Rattle.dispatch.specs.Turns.{toldTo, oneOn, nextStage, writeOf, BeginTurn, turnsLeft, behind, Shown, goal, Goes, Beginning}
 use Rattle.dispatch.specs.Turns.{Stands, numbering, beginning-now, stepping-now, over, turned-down, none, Turning}
 use Rattle.dispatch.proofs.Lent.{sizes-next}
-use Rattle.dispatch.proofs.Shown.{append-none}
 use Rattle.dispatch.proofs.Rows.{in-turn-next, points-append, length-points, one-longer, told-more}
 
 -- the writes from here on: the first, and the others
@@ -164,7 +163,7 @@ module _ {xs : List ℕ} {s : Shared} {ys : List Point} {answers : ℕ} {writes 
       let g = x .goes in
       let e = none-rest h in
       let over : inTurn (beginTurn one) (record { words = xs; shared = s }) (asking ys (requestsOf writes bytes)) ≡ record { common = c; own = done } =
-      (rw e at begun-on) ∙ ap (λ (l : List Listed). record { common = c; own = l }) (append-none done) in
+      (rw e at begun-on) ∙ ap (λ (l : List Listed). record { common = c; own = l }) (append-nil done) in
       let k : serveRounds one (length ys) ≡ suc (t .rounds - 1) = sym (x .rounds-are) ∙ some-round in
       let a : length done + 0 ≡ length ys = rw e at all-are in
       let n : 0 + length done ≡ length ys = omega (arith, a) in (
@@ -177,7 +176,7 @@ module _ {xs : List ℕ} {s : Shared} {ys : List Point} {answers : ℕ} {writes 
           left = t .rounds - 1;
           rounds-are = some-round;
           so-far = row-rounds xs s ys writes bytes c done (t .rounds - 1) over k;
-          points-are = points-are ∙ ap (λ (l : List Point). pointsOf done ++ l) e ∙ append-none (pointsOf done);
+          points-are = points-are ∙ ap (λ (l : List Point). pointsOf done ++ l) e ∙ append-nil (pointsOf done);
           at-is = refl;
           all-are = n;
           live-is = refl;

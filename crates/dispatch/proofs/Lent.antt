@@ -1,14 +1,15 @@
 -- What is lent: the sizes of the writes, their texts, and 26.
-use mathlib.Core.Path.{_≡_, refl, sym, ap, _∙_}
+use mathlib.Core.Path.{_≡_, refl, sym, ap}
 use mathlib.Core.Bool.{Bool, true, false, _&&_}
 use mathlib.Core.List.{List, [], _∷_}
-use Prim.Native.Nat.{ℕ, zero, suc, _+_, _≤_, _<_}
+use Prim.Native.Nat.{ℕ, suc, _+_, _≤_, _<_}
 use native.Mathlib.Omega.{arith}
 use lib.ListN.{length, getD, drop, drop-of-length-le}
 use lib.Dec.{eqb}
 use lib.Seq.{drop-cons}
-use borrow.Author.Tests.{eq-eqb, ne-eqb}
+use borrow.Author.Tests.{eq-eqb, ne-eqb, eqb-true}
 use Rattle.words.specs.Logic.{every}
+use Rattle.words.proofs.Logic.{agree}
 use Rattle.dispatch.specs.Dispatch.{sizeOf, sizesOf, requestsOf, lentForEach}
 
 -- one write more
@@ -20,10 +21,9 @@ sizes-next writes i h = let one : i + 1 ≡ suc i = omega arith in rw one (ap si
 pub sizes-none : (writes : List (List ℕ)) (i : ℕ) → length writes ≤ i → sizesOf (drop i writes) ≡ 0
 sizes-none writes i h = ap sizesOf (drop-of-length-le writes h)
 
--- nothing is left of so many bytes just where the texts have them all
-pub none-left : (left total bytes : ℕ) → left + total ≡ bytes → eqb left 0 ≡ eqb total bytes
-none-left zero total bytes e = sym (eq-eqb total bytes (omega arith))
-none-left (suc left) total bytes e = ne-eqb (suc left) 0 (λ x. omega arith) ∙ sym (ne-eqb total bytes (λ x. omega arith))
+-- two equations that hold together, as tests
+pub as-tests : (a b c d : ℕ) → (a ≡ b → c ≡ d) → (c ≡ d → a ≡ b) → eqb a b ≡ eqb c d
+as-tests a b c d to back = agree (eqb a b) (eqb c d) (λ e. eq-eqb c d (to (eqb-true a b e))) (λ e. eq-eqb a b (back (eqb-true c d e)))
 
 -- as many requests as writes
 pub requests-are : (writes : List (List ℕ)) (bytes : List ℕ) → length (requestsOf writes bytes) ≡ length writes

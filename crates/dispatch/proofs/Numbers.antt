@@ -21,9 +21,6 @@ or-second : (a b : Bool) → b ≡ true → a || b ≡ true
 or-second true b e = refl
 or-second false b e = e
 
-neither : (a b : Bool) → a ≡ false → b ≡ false → a || b ≡ false
-neither a b d e = rw (d, e)
-
 -- ---- in a list
 
 -- at place i of the first n
@@ -35,13 +32,17 @@ among-at x (y ∷ xs) (suc n) (suc i) h l e = or-second (eqb x y) _ (among-at x 
 
 none-both : (x : ℕ) (xs ys : List ℕ) → member x xs ≡ false → member x ys ≡ false → member x (xs ++ ys) ≡ false
 none-both x [] ys d e = e
-none-both x (y ∷ xs) ys d e = neither _ _ (or-left (eqb x y) (member x xs) d) (none-both x xs ys (or-right (eqb x y) (member x xs) d) e)
+none-both x (y ∷ xs) ys d e = rw (or-left (eqb x y) (member x xs) d) (none-both x xs ys (or-right (eqb x y) (member x xs) d) e)
+
+-- another number
+not-it : (x y : ℕ) → (y ≡ x → ⊥) → member x (y ∷ []) ≡ false
+not-it x y h = rw (ne-eqb x y (λ q. h (sym q)))
 
 -- one place more
 pub none-more : (x : ℕ) (xs : List ℕ) (i : ℕ) → i < length xs → member x (take i xs) ≡ false → (getD xs i 0 ≡ x → ⊥) → member x (take (i + 1) xs) ≡ false
 none-more x xs i l e h =
     let one : i + 1 ≡ suc i = omega arith in
-    rw (one, take-suc xs i 0 l) (none-both x (take i xs) (getD xs i 0 ∷ []) e (neither _ _ (ne-eqb x (getD xs i 0) (λ q. h (sym q))) refl))
+    rw (one, take-suc xs i 0 l) (none-both x (take i xs) (getD xs i 0 ∷ []) e (not-it x (getD xs i 0) h))
 
 -- ---- twice
 
@@ -64,5 +65,6 @@ twice-here x (y ∷ xs) ys e = go (or-split (eqb x y) (member x xs) e) (twice-he
 pub once-more : (x : ℕ) (xs : List ℕ) → twice xs ≡ false → member x xs ≡ false → twice (xs ++ (x ∷ [])) ≡ false
 once-more x [] d e = refl
 once-more x (y ∷ xs) d e =
-    neither _ _ (none-both y xs (x ∷ []) (or-left (member y xs) (twice xs) d) (neither _ _ (ne-eqb y x (member-head x y xs e)) refl))
-    (once-more x xs (or-right (member y xs) (twice xs) d) (member-tail x y xs e))
+    let m : member y (xs ++ (x ∷ [])) ≡ false =
+    none-both y xs (x ∷ []) (or-left (member y xs) (twice xs) d) (not-it y x (λ q. member-head x y xs e (sym q))) in
+    rw m (once-more x xs (or-right (member y xs) (twice xs) d) (member-tail x y xs e))

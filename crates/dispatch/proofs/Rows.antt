@@ -99,14 +99,14 @@ by-kind (stepped (Bytes n)) = refl
 abbrev pub unfinished : Listed → Bool
 unfinished x = isUnfinished (x .last)
 
+pub or-false : (b : Bool) → b || false ≡ b
+or-false true = refl
+or-false false = refl
+
 or-assoc : (a b c : Bool) → a || (b || c) ≡ (a || b) || c
 or-assoc true b c = refl
 or-assoc false b c = refl
 
 pub some-more : (xs : List Listed) (x : Listed) → some-of unfinished (xs ++ (x ∷ [])) ≡ some-of unfinished xs || unfinished x
 some-more [] x = or-false (unfinished x)
-  where
-    or-false : (b : Bool) → b || false ≡ b
-    or-false true = refl
-    or-false false = refl
 some-more (y ∷ xs) x = ap (λ (b : Bool). unfinished y || b) (some-more xs x) ∙ or-assoc (unfinished y) (some-of unfinished xs) (unfinished x)

@@ -1,6 +1,6 @@
 -- Answers, kinds and values: put into the list one after the other; and those of points that have had their turns.
 use mathlib.Core.Path.{_≡_, refl, sym, ap, _∙_}
-use mathlib.Core.List.{List, [], _∷_, _++_, map}
+use mathlib.Core.List.{List, [], _∷_, _++_, map, append-nil}
 use Prim.Native.Nat.{ℕ, suc, _+_, _≤_, _<_}
 use native.Mathlib.Omega.{arith}
 use lib.ListN.{length, getD, set, take, drop, drop-of-length-le}
@@ -8,11 +8,6 @@ use lib.Seq.{take-suc, drop-cons, length-take-le, set-at, append-snoc}
 use Rattle.points.specs.Serving.{Last, lastKind, lastValue}
 use Rattle.dispatch.specs.Dispatch.{lastNumbers}
 use Rattle.dispatch.specs.Turns.{pairs}
-
--- nothing after it
-pub append-none {ℓ} : {A : Type ℓ} (xs : List A) → xs ++ [] ≡ xs
-append-none [] = refl
-append-none (x ∷ xs) = ap (λ (l : List _). x ∷ l) (append-none xs)
 
 length-pairs : (ks vs : List ℕ) → length ks ≡ length vs → length (pairs ks vs) ≡ length ks
 length-pairs [] vs e = refl
@@ -47,7 +42,7 @@ pub shown-all : (ks vs : List ℕ) (before now : List (List ℕ)) (i : ℕ) → 
     → now ≡ pairs (take (length before) ks) (take (length before) vs)
 shown-all ks vs before now i e so =
     let h : length before ≤ i = omega arith in
-    so ∙ ap (λ (l : List (List ℕ)). pairs (take i ks) (take i vs) ++ l) (drop-of-length-le before h) ∙ append-none (pairs (take i ks) (take i vs))
+    so ∙ ap (λ (l : List (List ℕ)). pairs (take i ks) (take i vs) ++ l) (drop-of-length-le before h) ∙ append-nil (pairs (take i ks) (take i vs))
     ∙ ap (λ (n : ℕ). pairs (take n ks) (take n vs)) e
 
 -- those of some points

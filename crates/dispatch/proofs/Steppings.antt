@@ -1,7 +1,7 @@
 -- The third stage: rounds, in each of which each unfinished point makes a step.
 use mathlib.Core.Path.{_≡_, refl, sym, ap, _∙_}
 use mathlib.Core.Bool.{Bool, true, false, _||_, _&&_}
-use mathlib.Core.List.{List, [], _∷_, _++_}
+use mathlib.Core.List.{List, [], _∷_, _++_, append-nil}
 use Prim.Native.Nat.{ℕ, zero, suc, _+_, _-_, _≤_, _<_}
 use native.Mathlib.Omega.{arith}
 use native.Mathlib.Decide.{decLt}
@@ -25,8 +25,7 @@ use Rattle.dispatch.specs.declared.Turns.{Turns}
 use Rattle.dispatch.specs.declared.TurnLeft.{TurnLeft}
 use Rattle.dispatch.specs.Turns.{kindGoesOn, told, oneOn, nextRound, MovesOn, StepTurn, turnsLeft, behind, Shown, goal, whyNot, Goes}
 use Rattle.dispatch.specs.Turns.{Stepping, Stands, numbering, beginning-now, stepping-now, over, turned-down, none, Turning}
-use Rattle.dispatch.proofs.Shown.{append-none}
-use Rattle.dispatch.proofs.Rows.{in-turn-next, points-append, length-points, one-longer, told-anew, told-of, by-kind, unfinished, some-more}
+use Rattle.dispatch.proofs.Rows.{in-turn-next, points-append, length-points, one-longer, told-anew, told-of, by-kind, unfinished, or-false, some-more}
 
 -- nobody is unfinished
 all-finished : (xs : List Listed) → some-of unfinished xs ≡ false → AllOf (λ (x : Listed). isUnfinished (x .last) ≡ false) xs
@@ -101,7 +100,7 @@ module _ (xs : List ℕ) (s : Shared) (ys : List Point) (answers : ℕ) (writes 
           none-of (z ∷ l) e = absurd (omega arith)
 
       all-done : x .done ++ x .rest ≡ x .done
-      all-done = ap (λ (l : List Listed). x .done ++ l) none-rest ∙ append-none (x .done)
+      all-done = ap (λ (l : List Listed). x .done ++ l) none-rest ∙ append-nil (x .done)
 
       long : length (x .done) ≡ length ys
       long = let a : length (x .done) + 0 ≡ length ys = rw none-rest at (x .all-are) in omega (arith, a)
@@ -111,7 +110,7 @@ module _ (xs : List ℕ) (s : Shared) (ys : List Point) (answers : ℕ) (writes 
 
       over-so-far : goal xs s ys answers writes bytes ≡ rounds (x .left) (stepTurn one) c (x .done)
       unfolding inTurn
-      over-so-far = (rw none-rest at (x .so-far)) ∙ ap (λ (l : List Listed). rounds (x .left) (stepTurn one) c l) (append-none (x .done))
+      over-so-far = (rw none-rest at (x .so-far)) ∙ ap (λ (l : List Listed). rounds (x .left) (stepTurn one) c l) (append-nil (x .done))
 
       fewer : turnsLeft (nextRound t) < turnsLeft t
       fewer = let g = x .goes in omega (arith, x .rounds-are, g .inside, g .each .most)
@@ -271,10 +270,6 @@ module _ (xs : List ℕ) (s : Shared) (ys : List Point) (answers : ℕ) (writes 
       where
         still : isUnfinished (y .last) ≡ false → some-of unfinished (x .done) ≡ some-of unfinished (x .done ++ (y ∷ []))
         still f = sym (some-more (x .done) y ∙ ap (λ (b : Bool). some-of unfinished (x .done) || b) f ∙ or-false (some-of unfinished (x .done)))
-          where
-            or-false : (b : Bool) → b || false ≡ b
-            or-false true = refl
-            or-false false = refl
 
     -- one that is not
     abbrev o : Outcome

@@ -59,6 +59,7 @@ fn goes_on(kind: u32) -> bool
     (kind <= 3) | (kind == 6)
 }
 
+// A step's answer in numbers: which it is; and its value.
 fn step_kind(step: StepAnswer) -> u32
     ensures { λ r. ⌜ r ≡ stepKind step ⌝ }
 {
@@ -87,6 +88,7 @@ fn step_value(step: StepAnswer) -> u32
     }
 }
 
+// A beginning's, as a step's: 0 where it is done, else that of a refused step.
 fn begun_kind(reply: Reply) -> u32
     ensures { λ r. ⌜ r ≡ lastKind (begun reply) ⌝ }
 {

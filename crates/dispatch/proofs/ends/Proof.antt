@@ -30,7 +30,7 @@ refused (suc n) h = refl
 within : (c : lts.In-loop reads.Pre reads.Post Inv-loop μ-loop) → c .before .loop .i < 32
 within c = let r = c .before .before .before .before .before .before .before .pre (c .before .before .before .before .if1 .left) in omega (arith, r .0)
 
--- src/lib.rt:333:9
+-- src/lib.rt:346:9
 returns : tie.Need-returns Inv-loop μ-loop
 returns c =
     record {
@@ -40,43 +40,43 @@ returns c =
       shown = λ e. absurd (c .if1 .taken e);
     }
 
--- src/lib.rt:340:5
+-- src/lib.rt:353:5
 loop-holds : tie.Need-loop-holds Inv-loop μ-loop
 loop-holds c = (refl, omega arith, refl, refl)
 
--- src/lib.rt:341:23
+-- src/lib.rt:354:23
 mul-t11 : tie.Need-mul-t11 Inv-loop μ-loop
 mul-t11 c = omega (arith, within c)
 
--- src/lib.rt:341:23
+-- src/lib.rt:354:23
 array-read-t14 : tie.Need-array-read-t14 Inv-loop μ-loop
 array-read-t14 c = omega (arith, within c)
 
--- src/lib.rt:341:33
+-- src/lib.rt:354:33
 mul-t15 : tie.Need-mul-t15 Inv-loop μ-loop
 mul-t15 c = omega (arith, within c)
 
--- src/lib.rt:341:33
+-- src/lib.rt:354:33
 array-read-t18 : tie.Need-array-read-t18 Inv-loop μ-loop
 array-read-t18 c = omega (arith, within c)
 
--- src/lib.rt:341:9
+-- src/lib.rt:354:9
 mul-t20 : tie.Need-mul-t20 Inv-loop μ-loop
 mul-t20 c = omega (arith, within c)
 
--- src/lib.rt:341:9
+-- src/lib.rt:354:9
 slice-set-from-answers : tie.Need-slice-set-from-answers Inv-loop μ-loop
 slice-set-from-answers c = let l = c .before .loop in omega (arith, l .inv .0, l .inv .2)
 
--- src/lib.rt:340:9
+-- src/lib.rt:353:9
 add-i : tie.Need-add-i Inv-loop μ-loop
 add-i c = omega (arith, within c)
 
--- src/lib.rt:340:5
+-- src/lib.rt:353:5
 loop-less : tie.Need-loop-less Inv-loop μ-loop
 loop-less c = omega arith
 
--- src/lib.rt:340:5
+-- src/lib.rt:353:5
 loop-again : tie.Need-loop-again Inv-loop μ-loop
 loop-again c =
     let l = c .before .loop in
@@ -89,11 +89,11 @@ loop-again c =
       shown-next (t .kinds) (t .values) (s .args .answers .now) (l .answers) (l .i) (omega (arith, r)) (omega (arith, r)) (omega arith) (l .inv .3),
     )
 
--- src/lib.rt:327:1
+-- src/lib.rt:340:1
 same-length : tie.Need-same-length Inv-loop μ-loop
 same-length c = c .before .loop .inv .2
 
--- src/lib.rt:327:1
+-- src/lib.rt:340:1
 returns-2 : tie.Need-returns-2 Inv-loop μ-loop
 returns-2 c =
     let l = c .before .loop in

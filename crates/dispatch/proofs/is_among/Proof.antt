@@ -17,41 +17,41 @@ Inv-loop numbers n number i₀ i = (i ≤ n) × (member number (take i numbers) 
 abbrev μ-loop : tie.MeasureT-loop
 μ-loop numbers n number i₀ i = n - i
 
--- src/lib.rt:187:5
+-- src/lib.rt:188:5
 loop-holds : tie.Need-loop-holds Inv-loop μ-loop
 loop-holds c = (omega arith, refl)
 
--- src/lib.rt:188:12
+-- src/lib.rt:189:12
 mul-if1 : tie.Need-mul-if1 Inv-loop μ-loop
 mul-if1 c = omega arith
 
--- src/lib.rt:188:12
+-- src/lib.rt:189:12
 element-copy-out-if1 : tie.Need-element-copy-out-if1 Inv-loop μ-loop
 element-copy-out-if1 c = omega arith
 
--- src/lib.rt:189:13
+-- src/lib.rt:190:13
 returns : tie.Need-returns Inv-loop μ-loop
 returns c =
     let l = c .before .before .before .loop in
     let s = c .before .before .before .before in
     sym (among-at (s .args .number) (s .args .numbers .now) (s .args .n) (l .i) (omega arith) (omega (arith, s .pre)) (c .if1 .taken))
 
--- src/lib.rt:187:9
+-- src/lib.rt:188:9
 add-i : tie.Need-add-i Inv-loop μ-loop
 add-i c = omega arith
 
--- src/lib.rt:187:5
+-- src/lib.rt:188:5
 loop-less : tie.Need-loop-less Inv-loop μ-loop
 loop-less c = omega arith
 
--- src/lib.rt:187:5
+-- src/lib.rt:188:5
 loop-again : tie.Need-loop-again Inv-loop μ-loop
 loop-again c =
     let l = c .before .before .before .loop in
     let s = c .before .before .before .before in
     (omega arith, none-more (s .args .number) (s .args .numbers .now) (l .i) (omega (arith, s .pre)) (l .inv .1) (c .if1 .left))
 
--- src/lib.rt:183:1
+-- src/lib.rt:184:1
 returns-2 : tie.Need-returns-2 Inv-loop μ-loop
 returns-2 c =
     let l = c .before .loop in

@@ -11,45 +11,45 @@ use Rattle.dispatch.proofs.first_turns.Reads as first-turns-reads
 use Rattle.dispatch.proofs.lent_for_each.Reads as lent-for-each-reads
 use Rattle.dispatch.proofs.most_rounds.Reads as most-rounds-reads
 
--- src/lib.rt:171:9
+-- src/lib.rt:172:9
 first-turns-requires : tie.Need-first-turns-requires
 first-turns-requires c κs = search needs
 
--- src/lib.rt:171:9
+-- src/lib.rt:172:9
 returns : tie.Need-returns
 returns c = starts-not _ _ _ _ _ (c .first-turns .result) (c .first-turns .ensures) (inl (c .before .if1 .taken))
 
--- src/lib.rt:174:9
+-- src/lib.rt:175:9
 first-turns-requires-2 : tie.Need-first-turns-requires-2
 first-turns-requires-2 c κs = search needs
 
--- src/lib.rt:174:9
+-- src/lib.rt:175:9
 returns-2 : tie.Need-returns-2
 returns-2 c = starts-not _ _ _ _ _ (c .first-turns2 .result) (c .first-turns2 .ensures) (inr (inl (c .before .if2 .taken)))
 
--- src/lib.rt:176:9
+-- src/lib.rt:177:9
 lent-for-each-requires : tie.Need-lent-for-each-requires
 lent-for-each-requires c κs = search needs
 
--- src/lib.rt:177:9
+-- src/lib.rt:178:9
 first-turns-requires-3 : tie.Need-first-turns-requires-3
 first-turns-requires-3 c κs = search needs
 
--- src/lib.rt:177:9
+-- src/lib.rt:178:9
 returns-3 : tie.Need-returns-3
 returns-3 c =
     starts-not _ _ _ _ _ (c .first-turns3 .result) (c .first-turns3 .ensures)
     (inr (inr (sym (c .before .before .lent-for-each .ensures) ∙ not-true _ (c .before .if3 .taken))))
 
--- src/lib.rt:179:26
+-- src/lib.rt:180:26
 most-rounds-requires : tie.Need-most-rounds-requires
 most-rounds-requires c κs = search needs
 
--- src/lib.rt:179:5
+-- src/lib.rt:180:5
 first-turns-requires-4 : tie.Need-first-turns-requires-4
 first-turns-requires-4 c κs = search needs
 
--- src/lib.rt:167:1
+-- src/lib.rt:168:1
 returns-4 : tie.Need-returns-4
 returns-4 c =
     let y = c .before .before in

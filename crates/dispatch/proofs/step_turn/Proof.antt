@@ -16,55 +16,55 @@ use Rattle.dispatch.proofs.step_value.Reads as step-value-reads
 use Rattle.dispatch.proofs.tell.Reads as tell-reads
 use Rattle.points.proofs.step.step.Reads as step-reads
 
--- src/lib.rt:293:17
+-- src/lib.rt:300:17
 mul-goes-on : tie.Need-mul-goes-on
 mul-goes-on c = search needs
 
--- src/lib.rt:293:17
+-- src/lib.rt:300:17
 element-copy-out-goes-on : tie.Need-element-copy-out-goes-on
 element-copy-out-goes-on c = search needs
 
--- src/lib.rt:293:9
+-- src/lib.rt:300:9
 goes-on-requires : tie.Need-goes-on-requires
 goes-on-requires c κs = search needs
 
--- src/lib.rt:295:20
+-- src/lib.rt:302:20
 move-on-requires : tie.Need-move-on-requires
 move-on-requires c κs = search needs
 
--- src/lib.rt:294:9
+-- src/lib.rt:301:9
 returns : tie.Need-returns
 returns c =
     let e = sym (c .before .before .goes-on .ensures) ∙ not-true _ (c .before .if1 .taken) in
     record { finished = λ h. (refl, refl, c .move-on .ensures); steps = λ h. absurd (no-true h e) }
 
--- src/lib.rt:301:9
+-- src/lib.rt:308:9
 step-requires : tie.Need-step-requires
 step-requires c κs = search needs
 
--- src/lib.rt:305:25
+-- src/lib.rt:312:25
 step-kind-requires : tie.Need-step-kind-requires
 step-kind-requires c κs = search needs
 
--- src/lib.rt:305:42
+-- src/lib.rt:312:42
 step-value-requires : tie.Need-step-value-requires
 step-value-requires c κs = search needs
 
--- src/lib.rt:305:9
+-- src/lib.rt:312:9
 tell-requires : tie.Need-tell-requires
 tell-requires c κs = search needs
 
--- src/lib.rt:307:16
+-- src/lib.rt:314:16
 move-on-requires-2 : tie.Need-move-on-requires-2
 move-on-requires-2 c κs =
     let p = c .before .before .before .before .before .before .before .before .before .before .before .before .before .before .before .pre in
     subst (λ (t : Turns). (t .at < 32) × (0 < t .rounds)) (sym (c .tell .ensures)) p
 
--- src/lib.rt:288:1
+-- src/lib.rt:295:1
 same-length : tie.Need-same-length
 same-length c = search needs
 
--- src/lib.rt:288:1
+-- src/lib.rt:295:1
 returns-2 : tie.Need-returns-2
 returns-2 c =
     let y = c .before .before .before .before .before .before .before .before in
