@@ -7,7 +7,7 @@ use borrow.Author.Needs.{needs}
 use Rattle.c_lent.specs.Batch.{PlainAt, RowAt}
 use Rattle.words.proofs.Tests.{no-true}
 use Rattle.c_lent.proofs.Calls.{tests-none, tests-known}
-use Rattle.c_lent.proofs.WordsLeft.{fills-left, plain-fewer, GoesAt, words-next, row-numbers, rows-set}
+use Rattle.c_lent.proofs.WordsLeft.{GoesAt, words-next}
 use Rattle.c_lent.proofs.batch.plain_words.Statement.{statement}
 use Rattle.c_lent.proofs.batch.plain_words.Tie as tie
 use Rattle.c_lent.proofs.batch.plain_words.Reads as reads

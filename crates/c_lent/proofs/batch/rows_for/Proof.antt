@@ -4,10 +4,10 @@ use native.Mathlib.Omega.{arith}
 use mathlib.Core.List.{[]}
 use lib.ListN.{length, getD, length-set}
 use borrow.Author.Needs.{needs}
-use Rattle.c_lent.specs.Batch.{PlainAt, RowAt}
+use Rattle.c_lent.specs.Batch.{RowIs}
 use Rattle.words.proofs.Tests.{no-true}
 use Rattle.c_lent.proofs.Calls.{tests-none, tests-known}
-use Rattle.c_lent.proofs.WordsLeft.{fills-left, plain-fewer, GoesAt, words-next, row-numbers, rows-set}
+use Rattle.c_lent.proofs.WordsLeft.{rows-set}
 use Rattle.c_lent.proofs.batch.rows_for.Statement.{statement}
 use Rattle.c_lent.proofs.batch.rows_for.Tie as tie
 use Rattle.c_lent.proofs.batch.rows_for.Reads as reads
@@ -22,7 +22,7 @@ Inv-loop heads tables answers rows₀ i₀ i-end rows i =
     × (length answers ≡ length heads)
     × (length heads ≤ length rows)
     × (length rows ≡ length rows₀)
-    × ((j : ℕ) → j < i → GoesAt answers j → RowAt (getD rows j []) (getD heads j []) (getD tables j []))
+    × ((j : ℕ) → j < i → RowIs (getD (getD answers j []) 0 0) (getD rows j []) (getD heads j []) (getD tables j []))
 
 abbrev μ-loop : tie.MeasureT-loop
 μ-loop heads tables answers rows₀ i₀ i-end rows i = length heads - i
