@@ -43,7 +43,7 @@ pub none-on : (x : ListedLent) → kindGoesOn (getD (x .answer) 0 0) ≡ false �
 unfolding oneOn
 none-on x g = choose-false (kindGoesOn (getD (x .answer) 0 0)) _ _ g
 
-phase-is : (p : Phase) (n : ℕ) → phaseNumber p ≡ n → p ≡ phaseOf n
+pub phase-is : (p : Phase) (n : ℕ) → phaseNumber p ≡ n → p ≡ phaseOf n
 phase-is p n e = sym (phase-back p) ∙ ap phaseOf e
 
 -- ---- a record's own turn

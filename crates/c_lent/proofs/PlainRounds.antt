@@ -15,7 +15,7 @@ use Rattle.points.specs.declared.Point.{Point}
 use Rattle.points.specs.Serving.{Turned, inTurn, rounds}
 use Rattle.c_lent.specs.Numbers.{SharedLent, PointLent, lendPoint}
 use Rattle.c_lent.specs.Serving.{CommonLent, ListedLent, commonLent, listedLent, pointAs, turnLeft, listedAt, kindGoesOn, stepTurnFor}
-use Rattle.c_lent.specs.Batch.{ReadyAt, AllReady, Plain, oneOn, NextWords, RowsNext, Lengths, Rows}
+use Rattle.c_lent.specs.Batch.{ReadyAt, AllReady, Plain, oneOn, NextWords, Lengths}
 use Rattle.c_lent.proofs.InTurn.{Reached, reached-start, reached-next, reached-end}
 use Rattle.c_lent.proofs.Turns.{listed-same, listed-other}
 use Rattle.c_lent.proofs.ReadyAt.{good-next}
@@ -61,14 +61,6 @@ passed-next {c₀} {c} {f₀} {f} {n} {i} p l c' f' e own others =
     at j k (yes q) = subst (λ (m : ℕ). f' m ≡ oneOn (f₀ m)) (sym q) (own ∙ ap oneOn (p .later i (omega arith)))
     at j k (no q) = others j q ∙ p .done j (omega arith)
 
--- what a turn asks for
-pub passed-asks : {c₀ c : CommonLent} {f₀ f : ℕ → ListedLent} {n i : ℕ} → Passed c₀ f₀ n i c f → i < n → (rows : List (List ℕ)) → RowsNext 1 rows n f₀
-    → kindGoesOn (getD (f i .answer) 0 0) ≡ true → ReadyAt c (f i) × NextWords 1 (getD rows i []) (f i)
-passed-asks {c₀} {c} {f₀} {f} {n} {i} p l rows w g =
-    let same = p .later i (omega arith) in
-    let g' : kindGoesOn (getD (f₀ i .answer) 0 0) ≡ true = ap (λ (x : ListedLent). kindGoesOn (getD (x .answer) 0 0)) (sym same) ∙ g in
-    (p .ready i l g, subst (NextWords 1 (getD rows i [])) (sym same) (w i l g'))
-
 -- heads and answers alone are changed
 pub kept-other : (heads tables texts answers : List (List ℕ)) (h a : List ℕ) (i j : ℕ) → j ≢ i
     → listedAt (set heads i h) tables texts (set answers i a) j ≡ listedAt heads tables texts answers j
@@ -77,21 +69,6 @@ kept-other heads tables texts answers h a i j d = rw (getD-set-other heads i j h
 pub kept-same : (heads tables texts answers : List (List ℕ)) (h a : List ℕ) (i : ℕ) → i < length heads → i < length answers
     → listedAt (set heads i h) tables texts (set answers i a) i ≡ listedLent (pointAs h (getD tables i []) (getD texts i [])) a
 kept-same heads tables texts answers h a i l m = rw (getD-set-same heads i h [] l, getD-set-same answers i a [] m)
-
-pub kept-lengths : (n : ℕ) (heads tables texts answers : List (List ℕ)) (h a : List ℕ) (i : ℕ) → Lengths n heads tables texts answers
-    → Lengths n (set heads i h) tables texts (set answers i a)
-kept-lengths n heads tables texts answers h a i l = (length-set heads i h ∙ l .0, l .1, l .2, length-set answers i a ∙ l .3)
-
--- one point more has stored its word
-pub stored-next : {c₀ c : CommonLent} {f₀ : ℕ → ListedLent} {n i : ℕ} (heads tables texts answers : List (List ℕ)) (h a : List ℕ) (c' : CommonLent)
-    → Lengths n heads tables texts answers → i < n → Passed c₀ f₀ n i c (listedAt heads tables texts answers)
-    → turnLeft c' (oneOn (listedAt heads tables texts answers i)) ≡ stepTurnFor c (listedAt heads tables texts answers i)
-    → listedLent (pointAs h (getD tables i []) (getD texts i [])) a ≡ oneOn (listedAt heads tables texts answers i)
-    → Passed c₀ f₀ n (i + 1) c' (listedAt (set heads i h) tables texts (set answers i a))
-stored-next {c₀} {c} {f₀} {n} {i} heads tables texts answers h a c' k l p e own =
-    passed-next p l c' (listedAt (set heads i h) tables texts (set answers i a)) e
-    (kept-same heads tables texts answers h a i (omega arith) (omega arith) ∙ own)
-    (λ j d. kept-other heads tables texts answers h a i j d)
 
 -- all have
 pub passed-end : {c₀ c : CommonLent} {f₀ f : ℕ → ListedLent} {n i : ℕ} → Passed c₀ f₀ n i c f → n ≤ i → i ≤ n
@@ -131,41 +108,3 @@ next-one m row x l w = record { plain = go (w .plain); row-is = λ e j d. w .row
     go : Plain m x → Plain 1 x
     go (inl f) = let near = f .1 in let far = f .2 in inl (f .0, omega arith, omega arith)
     go (inr z) = let near = z .1 in inr (z .0, omega arith)
-
--- who goes on afterwards went on before
-went-on : (x : ListedLent) → kindGoesOn (getD (oneOn x .answer) 0 0) ≡ true → kindGoesOn (getD (x .answer) 0 0) ≡ true
-went-on x g = go (kindGoesOn (getD (x .answer) 0 0)) refl
-  where
-    go : (b : Bool) → kindGoesOn (getD (x .answer) 0 0) ≡ b → kindGoesOn (getD (x .answer) 0 0) ≡ true
-    go true e = e
-    go false e = ap (λ (y : ListedLent). kindGoesOn (getD (y .answer) 0 0)) (sym (none-on x e)) ∙ g
-
-pub rows-fewer : (c : CommonLent) (n m : ℕ) (rows : List (List ℕ)) (f f' : ℕ → ListedLent) → 0 < m → AllReady c n f → RowsNext m rows n f
-    → ((j : ℕ) → j < n → f' j ≡ oneOn (f j)) → RowsNext (m - 1) rows n f'
-rows-fewer c n m rows f f' l r w e i k g =
-    let g' = went-on (f i) (ap (λ (y : ListedLent). kindGoesOn (getD (y .answer) 0 0)) (sym (e i k)) ∙ g) in
-    subst (NextWords (m - 1) (getD rows i [])) (sym (e i k)) (next-fewer (r i k g') m (getD rows i []) l g' (w i k g'))
-
-pub rows-one : (n m : ℕ) (rows : List (List ℕ)) (f : ℕ → ListedLent) → 0 < m → RowsNext m rows n f → RowsNext 1 rows n f
-rows-one n m rows f l w i k g = next-one m (getD rows i []) (f i) l (w i k g)
-
-module _ {m : ℕ} {c : CommonLent} {rows heads tables texts answers : List (List ℕ)} (r : Rows m c rows heads tables texts answers) where
-  pub rows-start : 0 < m → Rows 1 c rows heads tables texts answers
-  rows-start l = record { lengths = r .lengths; enough = r .enough; ready = r .ready; next = rows-one (length heads) m rows _ l (r .next) }
-
-  -- one round fewer
-  pub rows-next : 0 < m → (c' : CommonLent) (heads' answers' : List (List ℕ)) → length heads' ≡ length heads → length answers' ≡ length answers
-      → ((j : ℕ) → j < length heads → listedAt heads' tables texts answers' j ≡ oneOn (listedAt heads tables texts answers j))
-      → AllReady c' (length heads) (listedAt heads' tables texts answers') → Rows (m - 1) c' rows heads' tables texts answers'
-  rows-next l c' heads' answers' eh ea each ready =
-      record {
-        lengths = (refl, r .lengths .1 ∙ sym eh, r .lengths .2 ∙ sym eh, ea ∙ r .lengths .3 ∙ sym eh);
-        enough = omega (arith, r .enough, eh);
-        ready = subst (λ (n : ℕ). AllReady c' n (listedAt heads' tables texts answers')) (sym eh) ready;
-        next = subst (λ (n : ℕ). RowsNext (m - 1) rows n (listedAt heads' tables texts answers')) (sym eh)
-            (rows-fewer c (length heads) m rows _ _ l (r .ready) (r .next) each);
-      }
-
-pub rows-ready : {m : ℕ} {c : CommonLent} {rows heads tables texts answers : List (List ℕ)} (n : ℕ) → length heads ≡ n
-    → Rows m c rows heads tables texts answers → AllReady c n (listedAt heads tables texts answers)
-rows-ready {m} {c} {rows} {heads} {tables} {texts} {answers} n e r = subst (λ (k : ℕ). AllReady c k (listedAt heads tables texts answers)) e (r .ready)

@@ -1,9 +1,9 @@
 -- How many words all points have left to store one by one, and their rows.
-use mathlib.Core.Path.{_≡_, sym, _∙_, subst}
-use mathlib.Core.Logic.{inl, inr}
-use mathlib.Core.Bool.{true}
+use mathlib.Core.Path.{_≡_, refl, sym, ap, _∙_, subst}
+use mathlib.Core.Logic.{_≢_, _⊎_, inl, inr}
+use mathlib.Core.Bool.{true, false}
 use mathlib.Core.List.{List, [], _∷_}
-use Prim.Native.Nat.{ℕ, _+_, _*_, _-_, _/_, _%_, _≤_, _<_}
+use Prim.Native.Nat.{ℕ, suc, _+_, _*_, _-_, _/_, _%_, _≤_, _<_}
 use native.Mathlib.Omega.{arith}
 use native.Mathlib.Decide.{ℕ-discrete}
 use lib.ListN.{length, getD, set}
@@ -11,14 +11,14 @@ use lib.Seq.{getD-set-same, getD-set-other}
 use Rattle.words.specs.Edition.{one}
 use Rattle.points.specs.declared.Head.{Head}
 use Rattle.points.specs.declared.serve.Row.{Row}
-use Rattle.points.specs.Record.{span}
+use Rattle.points.specs.Record.{span, runWords}
 use Rattle.points.specs.Lent.{TextFits}
 use Rattle.points.specs.Batch.{rowOf, Fillable}
 use Rattle.points.proofs.Ready.{ready-text}
 use Rattle.points.proofs.Rows.{row-same}
 use Rattle.c_lent.specs.Numbers.{PointLent, headFrom, isKnown}
 use Rattle.c_lent.specs.Serving.{CommonLent, ListedLent, listedAt, kindGoesOn}
-use Rattle.c_lent.specs.Batch.{ReadyAt, AllReady, PlainAt, Plain, RowAt, RowFor, Lengths, Rows}
+use Rattle.c_lent.specs.Batch.{ReadyAt, AllReady, Fills, Zeroes, PlainAt, Plain, rowFrom, RowAt, RowFor, RowOn, RowIs, Lengths}
 use Rattle.c_lent.proofs.ReadyAt.{is-ready, is-known}
 
 -- ---- words
@@ -54,21 +54,35 @@ words-next heads answers i least r before le here some j l g = go (ℕ-discrete 
 
 -- ---- rows
 
-pub row-numbers : (known : Head) (h table : List ℕ) (r : Row) → known ≡ headFrom h
-    → (Fillable known (getD h 8 0) → r ≡ rowOf one known table (getD h 8 0)) → RowAt (r .run ∷ r .from ∷ r .lead ∷ r .end ∷ []) h table
+row-numbers : (known : Head) (h table : List ℕ) (r : Row) → known ≡ headFrom h
+    → (Fillable known (getD h 8 0) → r ≡ rowOf one known table (getD h 8 0)) → RowAt (r .run ∷ r .from ∷ r .lead ∷ r .end ∷ getD h 8 0 ∷ 1 ∷ []) h table
 row-numbers known h table r e f = subst (λ (x : Head). Fillable x (getD h 8 0) → r ≡ rowOf one x table (getD h 8 0)) e f
 
+no-one : _≡_ {A = ℕ} 1 0 → ⊥
+no-one q = omega (arith, q)
+
+-- that of a log block that is zeroed, and that of a run
+pub zero-row : (h table : List ℕ) → getD h 7 0 ≡ 5 → RowOn (getD h 9 0 ∷ 0 ∷ 4096 ∷ 4096 ∷ getD h 8 0 ∷ 1 ∷ []) h table
+zero-row h table e = record { on = no-one; next = refl; zeroes = λ d. (refl, refl, refl, refl); fills = λ d. absurd (d e) }
+
+pub fill-row : (known : Head) (h table : List ℕ) (r : Row) → known ≡ headFrom h
+    → (Fillable known (getD h 8 0) → r ≡ rowOf one known table (getD h 8 0)) → (getD h 7 0 ≡ 5 → ⊥)
+    → RowOn (r .run ∷ r .from ∷ r .lead ∷ r .end ∷ getD h 8 0 ∷ 1 ∷ []) h table
+fill-row known h table r e f other = record { on = no-one; next = refl; zeroes = λ d. absurd (other d); fills = λ d. row-numbers known h table r e f }
+
 pub rows-set : (heads tables answers rows : List (List ℕ)) (row : List ℕ) (i : ℕ) → i < length rows
-    → ((j : ℕ) → j < i → GoesAt answers j → RowAt (getD rows j []) (getD heads j []) (getD tables j []))
-    → (GoesAt answers i → RowAt row (getD heads i []) (getD tables i []))
-    → (j : ℕ) → j < i + 1 → GoesAt answers j → RowAt (getD (set rows i row) j []) (getD heads j []) (getD tables j [])
-rows-set heads tables answers rows row i l before here j k g = go (ℕ-discrete j i)
+    → ((j : ℕ) → j < i → RowIs (getD (getD answers j []) 0 0) (getD rows j []) (getD heads j []) (getD tables j []))
+    → RowIs (getD (getD answers i []) 0 0) row (getD heads i []) (getD tables i [])
+    → (j : ℕ) → j < i + 1 → RowIs (getD (getD answers j []) 0 0) (getD (set rows i row) j []) (getD heads j []) (getD tables j [])
+rows-set heads tables answers rows row i l before here j k = go (ℕ-discrete j i)
   where
-    go : Dec (j ≡ i) → RowAt (getD (set rows i row) j []) (getD heads j []) (getD tables j [])
+    go : Dec (j ≡ i) → RowIs (getD (getD answers j []) 0 0) (getD (set rows i row) j []) (getD heads j []) (getD tables j [])
     go (yes q) =
-        subst (λ (m : ℕ). GoesAt answers m → RowAt (getD (set rows i row) m []) (getD heads m []) (getD tables m [])) (sym q)
-        (λ g'. subst (λ (x : List ℕ). RowAt x (getD heads i []) (getD tables i [])) (sym (getD-set-same rows i row [] l)) (here g')) g
-    go (no q) = subst (λ (x : List ℕ). RowAt x (getD heads j []) (getD tables j [])) (sym (getD-set-other rows i j row [] q)) (before j (omega arith) g)
+        subst (λ (m : ℕ). RowIs (getD (getD answers m []) 0 0) (getD (set rows i row) m []) (getD heads m []) (getD tables m [])) (sym q)
+        (subst (λ (x : List ℕ). RowIs (getD (getD answers i []) 0 0) x (getD heads i []) (getD tables i [])) (sym (getD-set-same rows i row [] l)) here)
+    go (no q) =
+        subst (λ (x : List ℕ). RowIs (getD (getD answers j []) 0 0) x (getD heads j []) (getD tables j [])) (sym (getD-set-other rows i j row [] q))
+        (before j (omega arith))
 
 -- ---- what a batch asks for
 
@@ -77,7 +91,7 @@ text-fits : {c : CommonLent} {x : ListedLent} → ReadyAt c x → TextFits (head
 text-fits r = subst (λ (y : PointLent). TextFits (headFrom (y .head) .write)) (sym (r .is)) (ready-text (is-ready r))
 
 -- the row of the next word is that of all m
-row-made : {c : CommonLent} {x : ListedLent} → ReadyAt c x → (m : ℕ) (row : List ℕ) → Plain m x → RowAt row (x .point .head) (x .point .table) → RowFor m row x
+pub row-made : {c : CommonLent} {x : ListedLent} → ReadyAt c x → (m : ℕ) (row : List ℕ) → Plain m x → RowAt row (x .point .head) (x .point .table) → RowFor m row x
 row-made {c} {x} r m row (inl f) at e j l =
     let h = x .point .head in
     let k = getD h 8 0 in
@@ -91,13 +105,3 @@ module _ (c : CommonLent) (heads tables texts answers : List (List ℕ)) (length
     (ready : AllReady c (length heads) (listedAt heads tables texts answers)) where
   pub all-known : (i : ℕ) → i < length heads → GoesAt answers i → isKnown (getD heads i []) ≡ true
   all-known i l g = is-known (ready i l g)
-
-  pub rows-made : (m : ℕ) (rows : List (List ℕ)) → length heads ≤ length rows → ((i : ℕ) → i < length heads → GoesAt answers i → PlainAt m (getD heads i []))
-      → ((i : ℕ) → i < length heads → GoesAt answers i → RowAt (getD rows i []) (getD heads i []) (getD tables i [])) → Rows m c rows heads tables texts answers
-  rows-made m rows enough plain at =
-      record {
-        lengths = lengths;
-        enough = enough;
-        ready = ready;
-        next = λ i l g. record { plain = plain i l g; row-is = row-made (ready i l g) m (getD rows i []) (plain i l g) (at i l g) };
-      }

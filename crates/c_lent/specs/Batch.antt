@@ -1,7 +1,7 @@
 -- For the contracts of the code that serves a list of points in batches: parts of contracts, nothing here is promised. `Serving` has what is.
 use Prim.Native.Nat.{ℕ, _+_, _%_, _≤_, _<_}
 use mathlib.Core.Path.{_≡_}
-use mathlib.Core.Logic.{_⊎_}
+use mathlib.Core.Logic.{_≢_, _⊎_}
 use mathlib.Core.Bool.{Bool, true, false}
 use mathlib.Core.List.{List, [], _∷_}
 use lib.ListN.{length, getD, set}
@@ -103,10 +103,6 @@ pub record NextWords (m : ℕ) (row : List ℕ) (x : ListedLent) : Type 0 where
   pub plain : Plain m x
   pub row-is : RowFor m row x
 
--- of each of n points whose write goes on
-abbrev pub RowsNext : ℕ → List (List ℕ) → ℕ → (ℕ → ListedLent) → Type 0
-RowsNext m rows n f = (i : ℕ) → i < n → kindGoesOn (getD (f i .answer) 0 0) ≡ true → NextWords m (getD rows i []) (f i)
-
 -- what the store of such a step leaves of an image
 pub record StoresNext (words row : List ℕ) (phase block k : ℕ) (text left : List ℕ) : Type 0 where
   pub zeroed : phase ≡ 5 → left ≡ put one words (record { block = block; word = k; value = 0 })
@@ -117,9 +113,22 @@ pub record StoresNext (words row : List ℕ) (phase block k : ℕ) (text left : 
 abbrev pub Lengths : ℕ → List (List ℕ) → List (List ℕ) → List (List ℕ) → List (List ℕ) → Type 0
 Lengths n heads tables texts answers = (length heads ≡ n) × (length tables ≡ n) × (length texts ≡ n) × (length answers ≡ n)
 
--- what so many rounds in which each stores a word ask for
-pub record Rows (m : ℕ) (c : CommonLent) (rows heads tables texts answers : List (List ℕ)) : Type 0 where
-  pub lengths : Lengths (length heads) heads tables texts answers
-  pub enough : length heads ≤ length rows
-  pub ready : AllReady c (length heads) (listedAt heads tables texts answers)
-  pub next : RowsNext m rows (length heads) (listedAt heads tables texts answers)
+-- the row of a point whose write goes on: its numbers, the next word, and that it stores; one that stores nothing for another
+pub record RowOn (r h table : List ℕ) : Type 0 where
+  pub on : getD r 5 0 ≢ 0
+  pub next : getD h 8 0 ≡ getD r 4 0
+  pub zeroes : getD h 7 0 ≡ 5 → (getD r 0 0 ≡ getD h 9 0) × (getD r 1 0 ≡ 0) × (getD r 2 0 ≡ 4096) × (getD r 3 0 ≡ 4096)
+  pub fills : (getD h 7 0 ≡ 5 → ⊥) → RowAt r h table
+
+pub record RowIs (kind : ℕ) (r h table : List ℕ) : Type 0 where
+  pub on : kindGoesOn kind ≡ true → RowOn r h table
+  pub off : kindGoesOn kind ≡ false → getD r 5 0 ≡ 0
+
+-- a point after m such steps
+unfoldable pub wordsOn : ℕ → ListedLent → ListedLent
+wordsOn m x =
+    let h = x .point .head in
+    elim (kindGoesOn (getD (x .answer) 0 0)) [
+      | true ↦ listedLent (pointAs (set h 8 (getD h 8 0 + m)) (x .point .table) (x .point .text)) (1 ∷ 0 ∷ [])
+      | false ↦ x
+    ]

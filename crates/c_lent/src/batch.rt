@@ -6,116 +6,10 @@ ghost use Prim.Native.Nat.{ℕ, _+_, _-_, _≤_, _<_};
 ghost use lib.ListN.{length, getD, set};
 ghost use Rattle.words.specs.Edition.{one};
 ghost use Rattle.points.specs.Batch.{filledOn, InOneBlock};
-ghost use Rattle.points.specs.Serving.{inTurn, rounds};
-ghost use Rattle.c_lent.specs.Numbers.{sharedLent, pointLent, headFrom, isKnown};
-ghost use Rattle.c_lent.specs.Serving.{kindGoesOn, stepTurnFor, listed, listedAt, commonLent, turnLeft, listedLent};
-ghost use Rattle.c_lent.specs.Batch.{ReadyAt, AllReady, FillsAlone, PlainAt, RowAt, NextWords, StoresNext};
-ghost use Rattle.c_lent.specs.Batch.{Lengths, Rows, oneOn};
-
-// The store of a step that zeroes word k of a log block, or fills word k of a run by its row.
-fn store_next(image: &mut [u64], row: &[u32; 4], phase: u32, block: u32, text: &[u8; 1024], k: u32)
-    ensures { λ _. ⌜ StoresNext (now (image .entry)) (now (row .entry)) phase block k (now (text .entry)) (now (image .exit)) ⌝ }
-{
-    if phase == 5 {
-        words::image::store(image, block, k as usize, 0);
-    } else {
-        let row = points::serve::Row {
-            run: row[0],
-            from: row[1],
-            lead: row[2],
-            end: row[3],
-        };
-        points::serve::fill_word(image, row, text, k);
-    }
-}
-
-// One point's turn where its step stores a word of its run, or zeroes one of its log block. (The shared record and the table are lent for the contract.)
-fn plain_turn(
-    image: &mut [u64],
-    shared: &[u32; 35],
-    taken: &[u64; 16],
-    row: &[u32; 4],
-    head: &mut [u32; 11],
-    table: &[u16; 256],
-    text: &[u8; 1024],
-    answer: &mut [u32; 2],
-)
-    requires { ⌜ (kindGoesOn (getD (now answer) 0 0) ≡ true
-        → ReadyAt (commonLent (now image) (sharedLent shared taken)) (listedLent (pointLent head table text) (now answer))
-        × NextWords 1 (now row) (listedLent (pointLent head table text) (now answer))) ⌝ }
-    ensures { λ _. ⌜ (let x = listedLent (pointLent (head .entry) (table .entry) (text .entry)) (now (answer .entry)) in
-        let c = commonLent (now (image .entry)) (sharedLent (shared .entry) (taken .entry)) in
-        (turnLeft (commonLent (now (image .exit)) (sharedLent (shared .entry) (taken .entry))) (oneOn x) ≡ stepTurnFor c x)
-        × (listedLent (pointLent (head .exit) (table .entry) (text .entry)) (now (answer .exit)) ≡ oneOn x)) ⌝ }
-{
-    if crate::turn::goes_on(answer[0]) {
-        let k = head[8];
-        store_next(image, row, head[7], head[9], text, k);
-        head[8] = k + 1;
-        *answer = [1, 0];
-    }
-}
-
-// A round in which each point whose write goes on stores a word.
-fn plain_round(
-    image: &mut [u64],
-    shared: &[u32; 35],
-    taken: &[u64; 16],
-    rows: &[[u32; 4]],
-    heads: &mut [[u32; 11]],
-    tables: &[[u16; 256]],
-    texts: &[[u8; 1024]],
-    answers: &mut [[u32; 2]],
-)
-    requires { ⌜ Rows 1 (commonLent (now image) (sharedLent shared taken)) (now rows) (now heads) (now tables) (now texts) (now answers) ⌝ }
-    ensures { λ _. ⌜ (let c = commonLent (now (image .exit)) (sharedLent (shared .entry) (taken .entry)) in
-        let f = listedAt (now (heads .entry)) (now (tables .entry)) (now (texts .entry)) (now (answers .entry)) in
-        let g = listedAt (now (heads .exit)) (now (tables .entry)) (now (texts .entry)) (now (answers .exit)) in
-        (turnLeft c (listed (now (heads .exit)) (now (tables .entry)) (now (texts .entry)) (now (answers .exit)))
-        ≡ inTurn stepTurnFor (commonLent (now (image .entry)) (sharedLent (shared .entry) (taken .entry)))
-        (listed (now (heads .entry)) (now (tables .entry)) (now (texts .entry)) (now (answers .entry))))
-        × ((i : ℕ) → i < length (now (heads .entry)) → g i ≡ oneOn (f i))
-        × AllReady c (length (now (heads .entry))) g) ⌝ }
-{
-    for i in 0..heads.len() {
-        plain_turn(
-            image,
-            shared,
-            taken,
-            &rows[i],
-            &mut heads[i],
-            &tables[i],
-            &texts[i],
-            &mut answers[i],
-        );
-    }
-}
-
-// So many of them.
-fn plain_rounds(
-    image: &mut [u64],
-    shared: &[u32; 35],
-    taken: &[u64; 16],
-    rows: &[[u32; 4]],
-    heads: &mut [[u32; 11]],
-    tables: &[[u16; 256]],
-    texts: &[[u8; 1024]],
-    answers: &mut [[u32; 2]],
-    m: u32,
-)
-    requires { ⌜ Rows m (commonLent (now image) (sharedLent shared taken)) (now rows) (now heads) (now tables) (now texts) (now answers) ⌝ }
-    ensures { λ _. ⌜ (let c = commonLent (now (image .exit)) (sharedLent (shared .entry) (taken .entry)) in
-        (turnLeft c (listed (now (heads .exit)) (now (tables .entry)) (now (texts .entry)) (now (answers .exit)))
-        ≡ rounds m stepTurnFor (commonLent (now (image .entry)) (sharedLent (shared .entry) (taken .entry)))
-        (listed (now (heads .entry)) (now (tables .entry)) (now (texts .entry)) (now (answers .entry))))
-        × AllReady c (length (now (heads .entry))) (listedAt (now (heads .exit)) (now (tables .entry)) (now (texts .entry)) (now (answers .exit)))) ⌝ }
-{
-    let mut left = m;
-    while 0 < left {
-        plain_round(image, shared, taken, rows, heads, tables, texts, answers);
-        left -= 1;
-    }
-}
+ghost use Rattle.points.specs.Serving.{rounds};
+ghost use Rattle.c_lent.specs.Numbers.{sharedLent, headFrom, isKnown};
+ghost use Rattle.c_lent.specs.Serving.{kindGoesOn, stepTurnFor, listed, listedAt, commonLent, turnLeft, listedLent, pointAs};
+ghost use Rattle.c_lent.specs.Batch.{AllReady, FillsAlone, PlainAt, RowIs, Lengths, wordsOn};
 
 // How many words a point has left to store, one by one, in one block: of its run, or of its log block. 0 where its next step is another.
 fn words_left(offset: u32, size: u32, phase: u32, k: u32) -> u32
@@ -167,28 +61,56 @@ fn plain_words(heads: &[[u32; 11]], answers: &[[u32; 2]]) -> u32
     least
 }
 
-// The row of a point's next word, where its write goes on.
-fn row_for(kind: u32, head: &[u32; 11], table: &[u16; 256]) -> [u32; 4]
+// The row of a point's next words, of its run or of its log block; where its write does not go on, one that stores nothing.
+fn row_for(kind: u32, head: &[u32; 11], table: &[u16; 256]) -> [u32; 6]
     requires { ⌜ (kindGoesOn kind ≡ true → isKnown (now head) ≡ true) ⌝ }
-    ensures { λ r. ⌜ (kindGoesOn kind ≡ true → RowAt r (now (head .entry)) (now (table .entry))) ⌝ }
+    ensures { λ r. ⌜ RowIs kind r (now (head .entry)) (now (table .entry)) ⌝ }
 {
     if !crate::turn::goes_on(kind) {
-        return [0, 0, 0, 0];
+        return [0, 0, 0, 0, 0, 0];
+    }
+    if head[7] == 5 {
+        return [head[9], 0, 4096, 4096, head[8], 1];
     }
     let known = crate::numbers::head(head);
     let row = points::serve::row_at(known, table, head[8]);
-    [row.run, row.from, row.lead, row.end]
+    [row.run, row.from, row.lead, row.end, head[8], 1]
 }
 
 // The rows of all.
-fn rows_for(heads: &[[u32; 11]], tables: &[[u16; 256]], answers: &[[u32; 2]], rows: &mut [[u32; 4]])
+fn rows_for(heads: &[[u32; 11]], tables: &[[u16; 256]], answers: &[[u32; 2]], rows: &mut [[u32; 6]])
     requires { ⌜ (length (now tables) ≡ length (now heads)) × (length (now answers) ≡ length (now heads)) × (length (now heads) ≤ length (now rows))
         × ((i : ℕ) → i < length (now heads) → kindGoesOn (getD (getD (now answers) i []) 0 0) ≡ true → isKnown (getD (now heads) i []) ≡ true) ⌝ }
-    ensures { λ _. ⌜ ((i : ℕ) → i < length (now (heads .entry)) → kindGoesOn (getD (getD (now (answers .entry)) i []) 0 0) ≡ true
-        → RowAt (getD (now (rows .exit)) i []) (getD (now (heads .entry)) i []) (getD (now (tables .entry)) i [])) ⌝ }
+    ensures { λ _. ⌜ ((i : ℕ) → i < length (now (heads .entry)) → RowIs (getD (getD (now (answers .entry)) i []) 0 0)
+        (getD (now (rows .exit)) i []) (getD (now (heads .entry)) i []) (getD (now (tables .entry)) i [])) ⌝ }
 {
     for i in 0..heads.len() {
         rows[i] = row_for(answers[i][0], &heads[i], &tables[i]);
+    }
+}
+
+// A point whose write goes on is m words on, and it is said.
+fn go_on(head: &mut [u32; 11], answer: &mut [u32; 2], m: u32)
+    requires { ⌜ (kindGoesOn (getD (now answer) 0 0) ≡ true → getD (now head) 8 0 + m ≤ 192) ⌝ }
+    ensures { λ _. ⌜ ((table text : List ℕ) → listedLent (pointAs (now (head .exit)) table text) (now (answer .exit))
+        ≡ wordsOn m (listedLent (pointAs (now (head .entry)) table text) (now (answer .entry)))) ⌝ }
+{
+    if crate::turn::goes_on(answer[0]) {
+        let k = head[8];
+        head[8] = k + m;
+        *answer = [1, 0];
+    }
+}
+
+// So are all.
+fn all_go_on(heads: &mut [[u32; 11]], answers: &mut [[u32; 2]], m: u32)
+    requires { ⌜ (length (now answers) ≡ length (now heads)) × ((i : ℕ) → i < length (now heads)
+        → kindGoesOn (getD (getD (now answers) i []) 0 0) ≡ true → getD (getD (now heads) i []) 8 0 + m ≤ 192) ⌝ }
+    ensures { λ _. ⌜ ((tables texts : List (List ℕ)) (i : ℕ) → i < length (now (heads .entry))
+        → listedAt (now (heads .exit)) tables texts (now (answers .exit)) i ≡ wordsOn m (listedAt (now (heads .entry)) tables texts (now (answers .entry)) i)) ⌝ }
+{
+    for i in 0..heads.len() {
+        go_on(&mut heads[i], &mut answers[i], m);
     }
 }
 
@@ -203,7 +125,7 @@ fn by_rows(
     answers: &mut [[u32; 2]],
     m: u32,
 )
-    requires { ⌜ Lengths (length (now heads)) (now heads) (now tables) (now texts) (now answers) × (length (now heads) ≤ 32)
+    requires { ⌜ Lengths (length (now heads)) (now heads) (now tables) (now texts) (now answers) × (length (now heads) ≤ 32) × (0 < m)
         × AllReady (commonLent (now image) (sharedLent shared taken)) (length (now heads)) (listedAt (now heads) (now tables) (now texts) (now answers))
         × ((i : ℕ) → i < length (now heads) → kindGoesOn (getD (getD (now answers) i []) 0 0) ≡ true → PlainAt m (getD (now heads) i [])) ⌝ }
     ensures { λ _. ⌜ (let c = commonLent (now (image .exit)) (sharedLent (shared .entry) (taken .entry)) in
@@ -212,19 +134,10 @@ fn by_rows(
         (listed (now (heads .entry)) (now (tables .entry)) (now (texts .entry)) (now (answers .entry))))
         × AllReady c (length (now (heads .entry))) (listedAt (now (heads .exit)) (now (tables .entry)) (now (texts .entry)) (now (answers .exit)))) ⌝ }
 {
-    let mut rows = [[0u32; 4]; 32];
+    let mut rows = [[0u32; 6]; 32];
     rows_for(heads, tables, answers, &mut rows);
-    plain_rounds(
-        image,
-        shared,
-        taken,
-        &rows,
-        heads,
-        tables,
-        texts,
-        answers,
-        m,
-    );
+    points::serve::fill_rounds(image, &rows, texts, m);
+    all_go_on(heads, answers, m);
 }
 
 // Whether it is one point alone, and its write is being filled.

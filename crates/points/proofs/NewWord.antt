@@ -150,12 +150,12 @@ mapped-word m (suc b) i j ne h =
 -- ---- the word of the definition
 
 -- two lists of bytes that agree byte by byte make one word
-same-bytes : (i j n : ℕ) (f g : ℕ → ℕ) → ((k : ℕ) → k < n → f (i + k) ≡ g (j + k))
+pub same-bytes : (i j n : ℕ) (f g : ℕ → ℕ) → ((k : ℕ) → k < n → f (i + k) ≡ g (j + k))
     → fromBytes (listFrom i n f) ≡ fromBytes (listFrom j n g)
 same-bytes i j n f g h = bytes-view i n f (λ k. g (j + k)) h ∙ sym (bytes-view j n g (λ k. g (j + k)) (λ k l. refl))
 
 -- a word is its bytes
-word-bytes : (w n : ℕ) → w < 2 ^ (8 * n) → fromBytes (listFrom 0 n (byteOf w)) ≡ w
+pub word-bytes : (w n : ℕ) → w < 2 ^ (8 * n) → fromBytes (listFrom 0 n (byteOf w)) ≡ w
 word-bytes w zero h = omega arith
 word-bytes w (suc n) h =
     let up : 8 * suc n ≡ 8 * n + 8 = omega arith in

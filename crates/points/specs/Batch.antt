@@ -1,13 +1,16 @@
 -- For the contracts of the code that serves a list of points in batches: parts of contracts, nothing here is promised. `Serving` has what is.
-use Prim.Native.Nat.{ℕ, zero, suc, _+_, _/_, _%_, _≤_, _<_}
+use Prim.Native.Nat.{ℕ, zero, suc, _+_, _*_, _/_, _%_, _≤_, _<_}
 use mathlib.Core.Path.{_≡_}
 use mathlib.Core.Logic.{_≢_, _⊎_}
 use mathlib.Core.Bool.{true, false}
 use mathlib.Core.List.{List, [], _∷_}
 use mathlib.Core.Option.{none, some}
-use lib.ListN.{getD}
+use lib.ListN.{length, getD}
+use lib.Dec.{eqb}
 use Rattle.words.specs.Edition.{Edition, one, blockBytes, blocksMax}
-use Rattle.words.specs.Memory.{Memory, Store, memory, wordAt, after}
+use Rattle.words.specs.Logic.{listFrom}
+use Rattle.words.specs.Word.{fromBytes}
+use Rattle.words.specs.Memory.{Memory, Store, memory, wordAt, put, after}
 use Rattle.log.specs.declared.Shared.{Shared}
 use Rattle.log.specs.declared.Place.{Place}
 use Rattle.log.specs.Entry.{entryV, entryN, legal}
@@ -25,7 +28,7 @@ use Rattle.points.specs.Fill.{newWord}
 use Rattle.points.specs.Plan.{Outcome, wordFrom}
 use Rattle.points.specs.Stepping.{turned, refill, nextSlot, entryFor, stepRefusal, stepping}
 use Rattle.points.specs.Serving.{Last, stepped, isUnfinished, Listed}
-use Rattle.points.specs.Lent.{TextFits}
+use Rattle.points.specs.Lent.{TextFits, mixedByte}
 
 -- ---- words of a run
 
@@ -62,6 +65,54 @@ InRow r k = (r .end ≤ r .lead + 1024) × (k < 192)
 -- m words from word k on lie in one block of the run
 abbrev pub InOneBlock : Head → ℕ → ℕ → Type 0
 InOneBlock h k m = TextFits (h .write) × (k % one .blockWords + m ≤ one .blockWords) × (k + m ≤ runWords one (h .write))
+
+-- ---- rounds by rows
+
+-- word i of a block, 0 for block 0
+unfoldable pub copiedWord : List ℕ → ℕ → ℕ → ℕ
+copiedWord words zero i = 0
+copiedWord words (suc b) i = wordAt (memory one words) (suc b) i
+
+-- word k of a run from the word copied there, and from the image
+unfoldable pub mixedWord : ℕ → Row → List ℕ → ℕ → ℕ
+mixedWord copied row text k = fromBytes (listFrom (8 * k) 8 (mixedByte copied text (row .lead) (row .end) (8 * k)))
+
+abbrev pub rowWord : List ℕ → Row → List ℕ → ℕ → ℕ
+rowWord words row text k = mixedWord (copiedWord words (row .from) (k % one .blockWords)) row text k
+
+-- the image with it stored
+abbrev pub rowPut : Row → List ℕ → ℕ → List ℕ → List ℕ
+rowPut row text k words = put one words (record { block = row .run; word = k; value = rowWord words row text k })
+
+-- a row in numbers; behind these stand the next word, and 0 where nothing is stored
+abbrev pub rowFrom : List ℕ → Row
+rowFrom r = record { run = getD r 0 0; from = getD r 1 0; lead = getD r 2 0; end = getD r 3 0 }
+
+-- word r after the next one is stored
+unfoldable pub rowStored : ℕ → List ℕ → List ℕ → List ℕ → List ℕ
+rowStored r row text words = elim (eqb (getD row 5 0) 0) [ true ↦ words | false ↦ rowPut (rowFrom row) text (getD row 4 0 + r) words ]
+
+-- by the first i rows in round r; by the first n in each of the first r rounds
+unfoldable pub roundStored : ℕ → ℕ → List (List ℕ) → List (List ℕ) → List ℕ → List ℕ
+roundStored r zero rows texts words = words
+roundStored r (suc i) rows texts words = rowStored r (getD rows i []) (getD texts i []) (roundStored r i rows texts words)
+
+unfoldable pub roundsStored : ℕ → ℕ → List (List ℕ) → List (List ℕ) → List ℕ → List ℕ
+roundsStored zero n rows texts words = words
+roundsStored (suc r) n rows texts words = roundStored r n rows texts (roundsStored r n rows texts words)
+
+-- word k may be stored by a row in an image of so many words; so may m words from word k on; where the row stores; by each row, of which each text has one
+abbrev pub RowIn : ℕ → Row → ℕ → Type 0
+RowIn size r k = InRow r k × (64 * r .run ≤ size) × (64 * r .from + 64 ≤ size)
+
+abbrev pub RowHolds : ℕ → ℕ → ℕ → ℕ → ℕ → ℕ → ℕ → Type 0
+RowHolds size run from lead end k m = (end ≤ lead + 1024) × (k + m ≤ 192) × (64 * run ≤ size) × (64 * from + 64 ≤ size)
+
+abbrev pub RowFits : ℕ → ℕ → List ℕ → Type 0
+RowFits size m row = getD row 5 0 ≢ 0 → RowHolds size (getD row 0 0) (getD row 1 0) (getD row 2 0) (getD row 3 0) (getD row 4 0) m
+
+abbrev pub RowsFit : ℕ → ℕ → List (List ℕ) → List (List ℕ) → Type 0
+RowsFit size m rows texts = (length texts ≤ length rows) × ((i : ℕ) → i < length texts → RowFits size m (getD rows i []))
 
 -- ---- moving on by one entry
 

@@ -2,7 +2,7 @@
 ghost use mathlib.Core.Path.{_≡_};
 ghost use mathlib.Core.Bool.{true, false};
 ghost use mathlib.Core.List.{List};
-ghost use lib.ListN.{getD};
+ghost use lib.ListN.{length, getD};
 ghost use Prim.Native.Nat.{ℕ, _+_, _*_, _≤_, _<_, min};
 ghost use lib.Dec.{leb};
 ghost use Rattle.words.specs.Edition.{one};
@@ -15,6 +15,7 @@ ghost use Rattle.points.specs.declared.Head.{Head};
 ghost use Rattle.points.specs.Record.{textMax, runWords};
 ghost use Rattle.points.specs.Fill.{newWord};
 ghost use Rattle.points.specs.Batch.{filledAt, filledOn, zeroedOn, rowOf, Fillable, Prepared, InRow, InOneBlock};
+ghost use Rattle.points.specs.Batch.{copiedWord, mixedWord, rowWord, rowPut, rowStored, roundStored, roundsStored, RowIn, RowHolds, RowFits, RowsFit};
 ghost use Rattle.points.specs.Batch.{Filled, Alone, Aside, Passes, passing, MovesByOne, Enterable, Commits, CommitsByHead};
 use crate::Head;
 use crate::Phase;
@@ -85,16 +86,14 @@ fn word_of(image: &[u64], b: u32, i: usize) -> u64
     words::image::word(words::image::block(image, b as usize), i)
 }
 
-// Word k of the run, where not all of its bytes are the text's.
-fn mixed_word<'a>(image: &'a [u64], row: Row, text: &'a [u8; 1024], k: u32) -> u64
+// Word k of the run from the word copied there, where not all of its bytes are the text's.
+fn mixed_word(copied: u64, row: Row, text: &[u8; 1024], k: u32) -> u64
     requires { ⌜ InRow row k ⌝ }
-    ensures { λ r. ⌜ ((h : Head) (table : List ℕ) → Prepared row h table k
-        → r ≡ newWord one (memory one (now (image .entry))) h table (now (text .entry)) k) ⌝ }
+    ensures { λ r. ⌜ r ≡ mixedWord copied row (now (text .entry)) k ⌝ }
 {
     let at = 8 * k as usize;
     let lead = row.lead as usize;
     let end = row.end as usize;
-    let copied = word_of(image, row.from, words::offset::word(at));
     if at + 8 <= lead {
         return copied;
     }
@@ -117,7 +116,8 @@ fn row_word<'a>(image: &'a [u64], row: Row, text: &'a [u8; 1024], k: u32) -> u64
             return crate::fill::text_word(text, at - lead);
         }
     }
-    mixed_word(image, row, text, k)
+    let copied = word_of(image, row.from, words::offset::word(at));
+    mixed_word(copied, row, text, k)
 }
 
 // Word k of the run is stored: one store, behind a branch of the word's own, so that stores stay single.
@@ -189,6 +189,126 @@ pub fn zero_words(image: &mut [u64], block: u32, k: u32, m: u32)
         words::image::store(image, block, i as usize, 0);
         i += 1;
         left -= 1;
+    }
+}
+
+// Word i of a block that lies inside, 0 for block 0.
+fn copied_word(image: &[u64], b: u32, i: usize) -> u64
+    requires { ⌜ (64 * b + 64 ≤ length (now image)) × (i < 64) ⌝ }
+    ensures { λ r. ⌜ r ≡ copiedWord (now (image .entry)) b i ⌝ }
+{
+    if b == 0 {
+        return 0;
+    }
+    image[64 * b as usize + i]
+}
+
+// Word k that a row stores.
+fn next_word<'a>(image: &'a [u64], row: Row, text: &'a [u8; 1024], k: u32) -> u64
+    requires { ⌜ RowIn (length (now image)) row k ⌝ }
+    ensures { λ r. ⌜ r ≡ rowWord (now (image .entry)) row (now (text .entry)) k ⌝ }
+{
+    let at = 8 * k as usize;
+    let lead = row.lead as usize;
+    if lead <= at {
+        if at + 8 <= row.end as usize {
+            return crate::fill::text_word(text, at - lead);
+        }
+    }
+    let copied = copied_word(image, row.from, words::offset::word(at));
+    mixed_word(copied, row, text, k)
+}
+
+// It is stored: the part from the run's first block on is lent on.
+fn put_next(image: &mut [u64], row: Row, text: &[u8; 1024], k: u32)
+    requires { ⌜ RowIn (length (now image)) row k ⌝ }
+    ensures { λ _. ⌜ now (image .exit) ≡ rowPut row (now (text .entry)) k (now (image .entry)) ⌝ }
+{
+    let word = next_word(image, row, text, k);
+    let at = 64 * row.run as usize;
+    words::image::put_word(&mut image[at..], k as usize, word);
+}
+
+// A point's turn in round r: one store, behind branches of the word's own, so that stores stay single.
+fn fill_turn(image: &mut [u64], row: &[u32; 6], text: &[u8; 1024], r: u32, m: u32)
+    requires { ⌜ RowFits (length (now image)) m (now row) × (r < m) ⌝ }
+    ensures { λ _. ⌜ now (image .exit) ≡ rowStored r (now (row .entry)) (now (text .entry)) (now (image .entry)) ⌝ }
+{
+    if row[5] != 0 {
+        let k = row[4] + r;
+        let row = Row {
+            run: row[0],
+            from: row[1],
+            lead: row[2],
+            end: row[3],
+        };
+        put_next(image, row, text, k);
+    }
+}
+
+// Round r.
+fn fill_round(image: &mut [u64], rows: &[[u32; 6]], texts: &[[u8; 1024]], r: u32, m: u32)
+    requires { ⌜ RowsFit (length (now image)) m (now rows) (now texts) × (r < m) ⌝ }
+    ensures { λ _. ⌜ now (image .exit) ≡ roundStored r (length (now (texts .entry))) (now (rows .entry)) (now (texts .entry)) (now (image .entry)) ⌝ }
+{
+    for i in 0..texts.len() {
+        fill_turn(image, &rows[i], &texts[i], r, m);
+    }
+}
+
+// Whether so many words may be stored by a row.
+fn row_fits(size: usize, run: u32, from: u32, lead: u32, end: u32, k: u32, m: u32) -> bool
+    ensures { λ r. ⌜ (r ≡ true → RowHolds size run from lead end k m) × (RowHolds size run from lead end k m → r ≡ true) ⌝ }
+{
+    if lead as u64 + 1024 < end as u64 {
+        return false;
+    }
+    if 192 < k as u64 + m as u64 {
+        return false;
+    }
+    if size < 64 * run as usize {
+        return false;
+    }
+    64 * from as usize + 64 <= size
+}
+
+// Whether they may where the row stores.
+fn fits(size: usize, row: &[u32; 6], m: u32) -> bool
+    ensures { λ r. ⌜ (r ≡ true → RowFits size m (now (row .entry))) × (RowFits size m (now (row .entry)) → r ≡ true) ⌝ }
+{
+    if row[5] == 0 {
+        return true;
+    }
+    row_fits(size, row[0], row[1], row[2], row[3], row[4], m)
+}
+
+// Whether they may by every row, and there is a row for each text.
+fn rows_fit(size: usize, rows: &[[u32; 6]], texts: &[[u8; 1024]], m: u32) -> bool
+    ensures { λ r. ⌜ (r ≡ true → RowsFit size m (now (rows .entry)) (now (texts .entry)))
+        × (RowsFit size m (now (rows .entry)) (now (texts .entry)) → r ≡ true) ⌝ }
+{
+    if rows.len() < texts.len() {
+        return false;
+    }
+    for i in 0..texts.len() {
+        if !fits(size, &rows[i], m) {
+            return false;
+        }
+    }
+    true
+}
+
+// m rounds in each of which every row stores its next word, in order; a row's numbers are `run`, `from`, `lead` and `end`, the next word, and 0 where it
+// stores nothing. Each row is tested once; where one does not fit nothing is stored.
+pub fn fill_rounds(image: &mut [u64], rows: &[[u32; 6]], texts: &[[u8; 1024]], m: u32)
+    ensures { λ _. ⌜ (RowsFit (length (now (image .entry))) m (now (rows .entry)) (now (texts .entry))
+        → now (image .exit) ≡ roundsStored m (length (now (texts .entry))) (now (rows .entry)) (now (texts .entry)) (now (image .entry))) ⌝ }
+{
+    if !rows_fit(image.len(), rows, texts, m) {
+        return;
+    }
+    for r in 0..m {
+        fill_round(image, rows, texts, r, m);
     }
 }
 

@@ -1,10 +1,12 @@
+-- `c_lent::batch::by_rows`: the rows fit, and what they leave is what rounds of steps leave.
 use Prim.Native.Nat.{_≤_}
 use native.Mathlib.Omega.{arith}
 use lib.ListN.{length}
+use borrow.Author.Needs.{needs}
 use Rattle.c_lent.specs.Numbers.{sharedLent}
 use Rattle.c_lent.specs.Serving.{commonLent}
-use Rattle.c_lent.proofs.WordsLeft.{all-known, rows-made}
-use borrow.Author.Needs.{needs}
+use Rattle.c_lent.proofs.WordsLeft.{all-known}
+use Rattle.c_lent.proofs.ByRows.{rows-fit, words-few, rounds-made}
 use Rattle.c_lent.proofs.batch.by_rows.Statement.{statement}
 use Rattle.c_lent.proofs.batch.by_rows.Tie as tie
 
@@ -16,20 +18,25 @@ rows-for-requires c κs =
     let s = c .before .before .before .before in
     let a = s .args in
     let p = s .pre in
-    (p .0 .1, p .0 .3, p .1, all-known (commonLent (a .image .now) (sharedLent (a .shared) (a .taken))) (a .heads .now) (a .tables .now) (a .texts .now) (a .answers .now) (p .0) (p .2))
+    let shared = sharedLent (a .shared) (a .taken) in
+    (p .0 .1, p .0 .3, p .1, all-known (commonLent (a .image .now) shared) (a .heads .now) (a .tables .now) (a .texts .now) (a .answers .now) (p .0) (p .3))
 
-slice-aggregate-plain-rounds : tie.Need-slice-aggregate-plain-rounds
-slice-aggregate-plain-rounds c = search needs
+slice-aggregate-fill-rounds : tie.Need-slice-aggregate-fill-rounds
+slice-aggregate-fill-rounds c = search needs
 
-plain-rounds-requires : tie.Need-plain-rounds-requires
-plain-rounds-requires c κs =
-    let s = c .before .before .before .before .before .before .before .before .before .before in
+fill-rounds-requires : tie.Need-fill-rounds-requires
+fill-rounds-requires c κs = search needs
+
+all-go-on-requires : tie.Need-all-go-on-requires
+all-go-on-requires c κs =
+    let y = c .before .before .before .before .before .before .before .before in
+    let s = y .before .before .before .before .before in
     let a = s .args in
-    let p = s .pre in
-    let r = c .before .before .before .before .before .rows-for in
-    let enough : length (a .heads .now) ≤ length (r .last .1 .1 .1 .0) = omega (arith, p .1) in
-    rows-made (commonLent (a .image .now) (sharedLent (a .shared) (a .taken))) (a .heads .now) (a .tables .now) (a .texts .now) (a .answers .now) (p .0) (p .2)
-    (a .m) (r .last .1 .1 .1 .0) enough (p .3) (r .ensures)
+    let p = s .pre in (
+      p .0 .3,
+      words-few (a .image .now) (sharedLent (a .shared) (a .taken)) (y .rows-for .last .1 .1 .1 .0) (a .heads .now) (a .tables .now) (a .texts .now)
+          (a .answers .now) (a .m) (p .0) (p .2) (p .3) (p .4) (y .rows-for .ensures),
+    )
 
 same-length : tie.Need-same-length
 same-length c = search needs
@@ -41,7 +48,21 @@ same-length-3 : tie.Need-same-length-3
 same-length-3 c = search needs
 
 returns : tie.Need-returns
-returns c = search needs
+returns c =
+    let on = c .before .before .all-go-on in
+    let f = c .before .before .before .before .before .before .before in
+    let y = f .before .before .before .before in
+    let s = y .before .before .before .before .before in
+    let a = s .args in
+    let p = s .pre in
+    let shared = sharedLent (a .shared) (a .taken) in
+    let rows = y .rows-for .last .1 .1 .1 .0 in
+    let enough : length (a .heads .now) ≤ length (y .rows-for .last .1 .1 .1 .0) = omega (arith, p .1) in
+    let fit = rows-fit (a .image .now) shared rows (a .heads .now) (a .tables .now) (a .texts .now) (a .answers .now) (a .m) (p .0) (p .2) (p .3) (p .4)
+    (y .rows-for .ensures) enough in
+    rounds-made (a .image .now) shared rows (a .heads .now) (a .tables .now) (a .texts .now) (a .answers .now) (a .m) (p .0) (p .2) (p .3) (p .4)
+    (y .rows-for .ensures) (f .fill-rounds .last .0) (on .last .0) (on .last .1 .0) (c .before .heads .given) (f .fill-rounds .ensures fit)
+    (on .ensures (a .tables .now) (a .texts .now))
 
 pub by-rows-spec : {M : Type 1} → statement M
 by-rows-spec =
@@ -49,8 +70,9 @@ by-rows-spec =
     (tie.spec
     slice-aggregate-rows-for
     rows-for-requires
-    slice-aggregate-plain-rounds
-    plain-rounds-requires
+    slice-aggregate-fill-rounds
+    fill-rounds-requires
+    all-go-on-requires
     same-length
     same-length-2
     same-length-3

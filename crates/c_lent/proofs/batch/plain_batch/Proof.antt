@@ -44,7 +44,7 @@ fill-alone-requires c κs =
     )
 
 by-rows-requires : tie.Need-by-rows-requires
-by-rows-requires c κs = let p = c .before .before .before .before .before .before .before .before .pre in (p .0, p .1, p .3, p .4)
+by-rows-requires c κs = c .before .before .before .before .before .before .before .before .pre
 
 same-length : tie.Need-same-length
 same-length c = search needs
