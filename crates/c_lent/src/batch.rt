@@ -107,7 +107,8 @@ fn all_go_on(heads: &mut [[u32; 11]], answers: &mut [[u32; 2]], m: u32)
     requires { ⌜ (length (now answers) ≡ length (now heads)) × ((i : ℕ) → i < length (now heads)
         → kindGoesOn (getD (getD (now answers) i []) 0 0) ≡ true → getD (getD (now heads) i []) 8 0 + m ≤ 192) ⌝ }
     ensures { λ _. ⌜ ((tables texts : List (List ℕ)) (i : ℕ) → i < length (now (heads .entry))
-        → listedAt (now (heads .exit)) tables texts (now (answers .exit)) i ≡ wordsOn m (listedAt (now (heads .entry)) tables texts (now (answers .entry)) i)) ⌝ }
+        → listedAt (now (heads .exit)) tables texts (now (answers .exit)) i
+        ≡ wordsOn m (listedAt (now (heads .entry)) tables texts (now (answers .entry)) i)) ⌝ }
 {
     for i in 0..heads.len() {
         go_on(&mut heads[i], &mut answers[i], m);

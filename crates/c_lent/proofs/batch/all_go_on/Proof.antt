@@ -42,8 +42,8 @@ go-on-requires c κs =
     let e = l .inv .4 .later [] [] (l .i) (omega arith) in
     let h : getD (getD (l .heads) (l .i) []) 8 0 ≡ getD (getD (s .args .heads .now) (l .i) []) 8 0 = ap (λ (x : ListedLent). getD (x .point .head) 8 0) e in
     λ g.
-        let few = s .pre .1 (l .i) (omega arith) (ap (λ (x : ListedLent). kindGoesOn (getD (x .answer) 0 0)) (sym e) ∙ g) in
-        omega (arith, few, h)
+    let few = s .pre .1 (l .i) (omega arith) (ap (λ (x : ListedLent). kindGoesOn (getD (x .answer) 0 0)) (sym e) ∙ g) in
+    omega (arith, few, h)
 
 add-i : tie.Need-add-i Inv-loop μ-loop
 add-i c = omega arith
