@@ -25,7 +25,7 @@ use Rattle.points.specs.Record.{runFirst, runBlocks, runWords, textMax, 
 use Rattle.points.specs.Fill.{newWord}
 use Rattle.points.specs.Stepping.{turned}
 use Rattle.points.specs.Lent.{TextFits, mixedByte}
-use Rattle.points.specs.Batch.{filledAt, filledOn, zeroedOn, rowOf, Fillable, Prepared, InRow, InOneBlock}
+use Rattle.points.specs.Batch.{filledAt, filledOn, rowOf, Fillable, Prepared, InRow, InOneBlock}
 use Rattle.points.specs.Batch.{copiedWord, mixedWord, rowWord, rowPut, rowFrom, rowStored, roundStored, roundsStored, RowFits}
 use Rattle.points.proofs.Spans.{lies}
 use Rattle.points.proofs.Planned.{word-from-put}
@@ -121,19 +121,6 @@ unfolding filledOn newWord
 filled-same E h table text k zero words phase position zeroing retries = refl
 filled-same E h table text k (suc m) words phase position zeroing retries =
     filled-same E h table text (suc k) m (filledAt E h table text k words) phase position zeroing retries
-
--- words that become 0 in a row
-pub zeroed-none : (E : Edition) (b k m : ℕ) (words : List ℕ) → m ≤ 0 → zeroedOn E b k m words ≡ words
-unfolding zeroedOn
-zeroed-none E b k zero words l = refl
-zeroed-none E b k (suc m) words l = absurd (omega arith)
-
-pub zeroed-next :
-    (E : Edition) (b k m : ℕ) (words left : List ℕ) → 0 < m → left ≡ put E words (record { block = b; word = k; value = 0 })
-    → zeroedOn E b k m words ≡ zeroedOn E b (k + 1) (m - 1) left
-unfolding zeroedOn after
-zeroed-next E b k zero words left l p = absurd (omega arith)
-zeroed-next E b k (suc m) words left l p = let e : suc m - 1 ≡ m = omega arith in rw (p, add-one, e)
 
 -- ---- words that rows store
 

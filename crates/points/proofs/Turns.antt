@@ -1,10 +1,9 @@
 -- The plain steps of a ready record: where words are left, a step stores the next one, the position goes on by one, and nothing else changes; the record
 -- is ready then for its next step. Assumes nothing.
-use Prim.Native.Nat.{ℕ, zero, suc, _+_, _≤_, _<_}
-use native.Mathlib.Omega.{arith}
+use Prim.Native.Nat.{ℕ, suc, _<_}
 use mathlib.Core.Path.{_≡_, refl, sym, ap, subst, _∙_}
 use mathlib.Core.Bool.{true, false}
-use mathlib.Core.List.{List, [], _∷_}
+use mathlib.Core.List.{List, []}
 use mathlib.Core.Option.{some}
 use borrow.Author.Tests.{lt-ltb}
 use Rattle.words.specs.Edition.{Edition}
@@ -19,13 +18,11 @@ use Rattle.points.specs.Record.{isZeroing, runWords, withHead, writing}
 use Rattle.points.specs.Fill.{newWord}
 use Rattle.points.specs.Plan.{Outcome, carriedOut, wordFrom}
 use Rattle.points.specs.Stepping.{turned, filled, stepping}
-use Rattle.points.specs.Serving.{Common, Last, Listed, stepped, stepGoesOn, isUnfinished, inTurn, rounds, stepTurn}
-use Rattle.points.specs.Batch.{filledAt, filledOn, movedOn, lastOn}
+use Rattle.points.specs.Serving.{Common, Last, Listed, stepped, stepGoesOn, isUnfinished, stepTurn}
 use Rattle.points.proofs.StepCases.{on-zeroing, on-filling, zero-on}
 use Rattle.points.proofs.StepFacts.{fills}
 use Rattle.points.proofs.NextWord.{next-filling}
 use Rattle.points.proofs.CarriedOut.{afterFill, fill-leaves, afterZero, zero-leaves}
-use Rattle.points.proofs.Rows.{filled-same}
 use Rattle.points.proofs.Ready.{Ready}
 use Rattle.points.proofs.ReadyOn.{ready-step, step-ready}
 
@@ -98,35 +95,3 @@ turn-of E words s p last u = choose-true (isUnfinished last) _ _ u
 pub no-turn : (E : Edition) (c : Common) (x : Listed) → isUnfinished (x .last) ≡ false → stepTurn E c x ≡ record { common = c; own = x }
 unfolding stepTurn
 no-turn E c x u = choose-false (isUnfinished (x .last)) _ _ u
-
-last-on : (m : ℕ) → lastOn m (stepped Stored) ≡ stepped Stored
-last-on zero = refl
-last-on (suc m) = refl
-
--- m rounds of a list of one, which is ready and has m words left to fill
-pub fill-turns :
-    (m : ℕ) (E : Edition) (words : List ℕ) (s : Shared) (p : Point) (last : Last) → Ready E words s p → p .head .write .phase ≡ Filling
-    → m + p .head .write .position ≤ runWords E (p .head .write) → isUnfinished last ≡ true
-    → rounds m (stepTurn E) (record { words = words; shared = s }) (record { point = p; last = last } ∷ [])
-    ≡ record {
-      common = record { words = filledOn E (p .head) (p .table) (p .text) (p .head .write .position) m words; shared = s };
-      own = record { point = movedOn m p; last = lastOn m last } ∷ [];
-    }
-unfolding rounds inTurn filledOn
-fill-turns zero E words s p last r f l u = let z : 0 + p .head .write .position ≡ p .head .write .position = omega arith in rw z
-fill-turns (suc n) E words s p last r f l u =
-    let w = p .head .write in
-    let few : w .position < runWords E w = omega arith in
-    let q = withHead p (writing (p .head) (filled w (w .position))) in
-    let image = filledAt E (p .head) (p .table) (p .text) (w .position) words in
-    let turn : stepTurn E (record { words = words; shared = s }) (record { point = p; last = last })
-    ≡ record { common = record { words = image; shared = s }; own = record { point = q; last = stepped Stored } } =
-    turn-of E words s p last u ∙ rw (fill-turn r f few) in
-    let far : n + suc (w .position) ≡ suc n + w .position = omega arith in
-    rw turn
-    (fill-turns n E image s q (stepped Stored) (fill-ready r f few) f (omega arith) refl
-    ∙ rw (
-      far,
-      filled-same E (p .head) (p .table) (p .text) (suc (w .position)) n image (w .phase) (suc (w .position)) (w .zeroing) (w .retries),
-      last-on n,
-    ))

@@ -3,7 +3,7 @@ use Prim.Native.Nat.{ℕ, zero, suc, _+_, _*_, _/_, _%_, _≤_, _<_}
 use mathlib.Core.Path.{_≡_}
 use mathlib.Core.Logic.{_≢_, _⊎_}
 use mathlib.Core.Bool.{true, false}
-use mathlib.Core.List.{List, [], _∷_}
+use mathlib.Core.List.{List, []}
 use mathlib.Core.Option.{none, some}
 use lib.ListN.{length, getD}
 use lib.Dec.{eqb}
@@ -18,7 +18,7 @@ use Rattle.points.specs.declared.Phase.the-variants.{Filling}
 use Rattle.points.specs.declared.Write.{Write}
 use Rattle.points.specs.declared.Head.{Head}
 use Rattle.points.specs.declared.Point.{Point}
-use Rattle.points.specs.declared.StepAnswer.the-variants.{Stored, Moved, Committed}
+use Rattle.points.specs.declared.StepAnswer.the-variants.{Moved, Committed}
 use Rattle.points.specs.declared.serve.Row.{Row}
 use Rattle.points.specs.declared.serve.MovedByOne.{MovedByOne}
 use Rattle.points.specs.declared.serve.CommittedByHead.{CommittedByHead}
@@ -27,7 +27,6 @@ use Rattle.points.specs.Search.{withTaken, reportingPlace}
 use Rattle.points.specs.Fill.{newWord}
 use Rattle.points.specs.Plan.{Outcome, wordFrom}
 use Rattle.points.specs.Stepping.{turned, refill, nextSlot, entryFor, stepRefusal, stepping}
-use Rattle.points.specs.Serving.{Last, stepped, isUnfinished, Listed}
 use Rattle.points.specs.Lent.{TextFits, mixedByte}
 
 -- ---- words of a run
@@ -188,44 +187,6 @@ pub record CommitsByHead (words taken : List ℕ) (h : Head) (table text : List 
   pub stored : r .done ≡ true → words′ ≡ after one words (some (entryStore one h))
   pub stayed : r .done ≡ false → (r .head ≡ h) × (words′ ≡ words) × (taken′ ≡ taken) × (table′ ≡ table) × (text′ ≡ text)
 
--- ---- rounds of a list in which every unfinished point stores its next word
-
--- word r after the next one of a run, and of a log block that is zeroed; the point r words on
-abbrev pub fillsNext : Edition → ℕ → Point → List ℕ → List ℕ
-fillsNext E r p words = filledAt E (p .head) (p .table) (p .text) (r + p .head .write .position) words
-
-abbrev pub zeroesNext : Edition → ℕ → Point → List ℕ → List ℕ
-zeroesNext E r p words = let w = p .head .write in after E words (some (record { block = w .zeroing; word = r + w .position; value = 0 }))
-
+-- the point r words on
 abbrev pub movedOn : ℕ → Point → Point
 movedOn r p = let w = p .head .write in withHead p (writing (p .head) (turned w (w .phase) (r + w .position) (w .zeroing) (w .retries)))
-
--- a point of the list after r rounds: what is unfinished has stored words, and went on
-abbrev pub lastOn : ℕ → Last → Last
-lastOn zero last = last
-lastOn (suc r) last = stepped Stored
-
-abbrev pub listedOn : ℕ → Listed → Listed
-listedOn r x = elim (isUnfinished (x .last)) [ true ↦ record { point = movedOn r (x .point); last = lastOn r (x .last) } | false ↦ x ]
-
-abbrev pub allOn : ℕ → List Listed → List Listed
-allOn r [] = []
-allOn r (x ∷ xs) = listedOn r x ∷ allOn r xs
-
--- round r of a batch that begins with these points: each unfinished one stores a word, in list order; m rounds from round r on
-module _ (next : ℕ → Point → List ℕ → List ℕ) where
-  abbrev pub storedIn : ℕ → Listed → List ℕ → List ℕ
-  storedIn r x words = elim (isUnfinished (x .last)) [ true ↦ next r (x .point) words | false ↦ words ]
-
-  unfoldable pub storedRound : ℕ → List Listed → List ℕ → List ℕ
-  storedRound r [] words = words
-  storedRound r (x ∷ xs) words = storedRound r xs (storedIn r x words)
-
-  unfoldable pub storedRounds : ℕ → ℕ → List Listed → List ℕ → List ℕ
-  storedRounds r zero xs words = words
-  storedRounds r (suc m) xs words = storedRounds (suc r) m xs (storedRound r xs words)
-
--- m words of a block become 0, one after the other
-unfoldable pub zeroedOn : Edition → ℕ → ℕ → ℕ → List ℕ → List ℕ
-zeroedOn E b k zero words = words
-zeroedOn E b k (suc m) words = zeroedOn E b (suc k) m (after E words (some (record { block = b; word = k; value = 0 })))

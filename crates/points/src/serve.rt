@@ -4,7 +4,6 @@ ghost use mathlib.Core.Bool.{true, false};
 ghost use mathlib.Core.List.{List};
 ghost use lib.ListN.{length, getD};
 ghost use Prim.Native.Nat.{ℕ, _+_, _*_, _≤_, _<_, min};
-ghost use lib.Dec.{leb};
 ghost use Rattle.words.specs.Edition.{one};
 ghost use Rattle.words.specs.Word.{byteOf};
 ghost use Rattle.words.specs.Memory.{memory, wordAt};
@@ -14,7 +13,7 @@ ghost use Rattle.points.specs.declared.Phase.the-variants.{Filling};
 ghost use Rattle.points.specs.declared.Head.{Head};
 ghost use Rattle.points.specs.Record.{textMax, runWords};
 ghost use Rattle.points.specs.Fill.{newWord};
-ghost use Rattle.points.specs.Batch.{filledAt, filledOn, zeroedOn, rowOf, Fillable, Prepared, InRow, InOneBlock};
+ghost use Rattle.points.specs.Batch.{filledAt, filledOn, rowOf, Fillable, Prepared, InRow, InOneBlock};
 ghost use Rattle.points.specs.Batch.{copiedWord, mixedWord, rowWord, rowPut, rowStored, roundStored, roundsStored, RowIn, RowHolds, RowFits, RowsFit};
 ghost use Rattle.points.specs.Batch.{Filled, Alone, Aside, Passes, passing, MovesByOne, Enterable, Commits, CommitsByHead};
 use crate::Head;
@@ -130,27 +129,6 @@ fn put_row_word(image: &mut [u64], row: Row, text: &[u8; 1024], k: u32)
     words::image::store(image, row.run, k as usize, word);
 }
 
-// Whether a row may be that of a write that fits: no more bytes are the text's than a text has.
-fn is_row(row: Row) -> bool
-    ensures { λ r. ⌜ r ≡ leb (row .end) (row .lead + textMax) ⌝ }
-{
-    row.end as u64 <= row.lead as u64 + 1024
-}
-
-// Word k of the run is stored, where the row is that of its block.
-pub fn fill_word(image: &mut [u64], row: Row, text: &[u8; 1024], k: u32)
-    ensures { λ _. ⌜ ((h : Head) (table : List ℕ) → Prepared row h table k
-        → now (image .exit) ≡ filledAt one h table (now (text .entry)) k (now (image .entry))) ⌝ }
-{
-    if 191 < k {
-        return;
-    }
-    if !is_row(row) {
-        return;
-    }
-    put_row_word(image, row, text, k);
-}
-
 // m words of the run from word k on, all in one block, are stored: each is found in the image as it is then.
 pub fn fill_words(
     image: &mut [u64],
@@ -171,22 +149,6 @@ pub fn fill_words(
     let mut left = m;
     while 0 < left {
         put_row_word(image, row, text, i);
-        i += 1;
-        left -= 1;
-    }
-}
-
-// m words of a block from word k on become 0, as many as a block has at most: single stores too.
-pub fn zero_words(image: &mut [u64], block: u32, k: u32, m: u32)
-    ensures { λ _. ⌜ (k + m ≤ 64 → now (image .exit) ≡ zeroedOn one block k m (now (image .entry))) ⌝ }
-{
-    if 64 < k as u64 + m as u64 {
-        return;
-    }
-    let mut i = k;
-    let mut left = m;
-    while 0 < left {
-        words::image::store(image, block, i as usize, 0);
         i += 1;
         left -= 1;
     }
