@@ -1,4 +1,5 @@
 // The log: laying out, opening, and the entries. The definitions are in specs/.
+#![tactic(auto)]
 ghost use Rattle.std.specs.Prelude.{◌≡◌, ◌+◌, ◌<◌, length};
 ghost use Rattle.words.specs.Edition.{one};
 ghost use Rattle.block_log.specs.Chain.{entries_from};

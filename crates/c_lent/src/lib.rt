@@ -1,6 +1,7 @@
 // The calls with records and answers in numbers, and each record lent in parts, arrays all of them: `shared` is blocks, joined points, chain length and
 // the 32 reports, `taken` the map; `head` the eleven numbers of a point's record, beside `table` and `text`. Crate `c_api` exports them to C, on whole
 // records.
+#![tactic(auto)]
 ghost use Rattle.std.specs.Prelude.{◌≡◌};
 ghost use Rattle.c_lent.specs.Numbers.{shared_lent, point_lent, textless};
 ghost use Rattle.c_lent.specs.Calls.{OpensFor, left, step_left, shared_left, read_left};

@@ -1,5 +1,6 @@
 // Prints what is in an image from standard input: header, map of the blocks, log, table; and where opening refuses it, the first fault.
 // What is printed comes from `words::bytes::words_of` and `inspection::inspect`, whose contracts say what it is; here it is only printed.
+#![tactic(auto)]
 mod say;
 mod show;
 

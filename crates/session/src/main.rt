@@ -1,4 +1,5 @@
 // A bench for the store: does the commands of a script from standard input, and writes what each leaves.
+#![tactic(auto)]
 ghost use Rattle.std.specs.Prelude.{◌≤◌, ◌<◌, length};
 
 mod alter;

@@ -1,6 +1,7 @@
 // Prints every legal small log, one a line: each entry as 16 hexadecimal digits, a blank between two; the empty log is an empty line.
 // Which logs these are, and an entry's digits, the contracts of `small::every_log` and `small::digits_of` say; here they are only printed.
 
+#![tactic(auto)]
 fn print_entry(e: u64) {
     let text = small::digits_of(e);
     io::write_all(1, &text);

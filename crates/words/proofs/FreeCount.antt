@@ -78,6 +78,7 @@ count-more i (suc n) p =
 free_one : (d : ℕ) → Digit d → one_if (not (eqb d 1)) + d ≡ 1
 free_one zero off = refl
 free_one (suc zero) on = refl
+free_one (suc (suc _)) x4 = elim x4 [ ]
 
 -- the free blocks and the taken ones are all
 free-taken : (map : List ℕ) (n : ℕ) → free_count map n + taken_below map n ≡ n

@@ -68,11 +68,13 @@ with_bit-same true w j = go (bits w j 1) (bit-digit w j) refl
     go : (d : ℕ) → Digit d → bits w j 1 ≡ d → bit (with_bit true w j) j ≡ true
     go zero off e = rw (e, one-mul) (ap (λ (n : ℕ). eqb n 1) (set_same w j e))
     go (suc zero) on e = rw (e, zero-mul, add-zero, e)
+    go (suc (suc _)) x6 e = elim x6 [ ]
 with_bit-same false w j = go (bits w j 1) (bit-digit w j) refl
   where
     go : (d : ℕ) → Digit d → bits w j 1 ≡ d → bit (with_bit false w j) j ≡ false
     go zero off e = rw (e, zero-mul, sub-zero, e)
     go (suc zero) on e = rw (e, one-mul) (ap (λ (n : ℕ). eqb n 1) (clear-same w j e))
+    go (suc (suc _)) x6 e = elim x6 [ ]
 
 pub with_bit-other : (x : Bool) (w j k : ℕ) → k ≢ j → bit (with_bit x w j) k ≡ bit w k
 unfolding with_bit
@@ -81,11 +83,13 @@ with_bit-other true w j k ne = go (bits w j 1) (bit-digit w j) refl
     go : (d : ℕ) → Digit d → bits w j 1 ≡ d → bit (with_bit true w j) k ≡ bit w k
     go zero off e = rw (e, one-mul) (ap (λ (n : ℕ). eqb n 1) (set_other w j k e ne))
     go (suc zero) on e = rw (e, zero-mul, add-zero)
+    go (suc (suc _)) x7 e = elim x7 [ ]
 with_bit-other false w j k ne = go (bits w j 1) (bit-digit w j) refl
   where
     go : (d : ℕ) → Digit d → bits w j 1 ≡ d → bit (with_bit false w j) k ≡ bit w k
     go zero off e = rw (e, zero-mul, sub-zero)
     go (suc zero) on e = rw (e, one-mul) (ap (λ (n : ℕ). eqb n 1) (clear-other w j k e ne))
+    go (suc (suc _)) x7 e = elim x7 [ ]
 
 -- as a function of the bit
 pub bit-view : (x : Bool) (w n k : ℕ) → bit (with_bit x w n) k ≡ upd (bit w) n x k
@@ -108,6 +112,7 @@ bit-is-set W w j f = bit-set W j w f ∙ go (bits w j 1) (bit-digit w j) refl
     go : (d : ℕ) → Digit d → bits w j 1 ≡ d → with_field 1 j w 1 ≡ with_bit true w j
     go zero off e = let p = rw e at (parts w j) in rw e (omega arith)
     go (suc zero) on e = let p = rw e at (parts w j) in rw e (omega arith)
+    go (suc (suc _)) x5 e = elim x5 [ ]
 
 pub bit-is-cleared : (W w j : ℕ) → j < W → w < 2 ^ W → bit_and w (2 ^ W - 1 - 1 * 2 ^ j % 2 ^ W) ≡ with_bit false w j
 unfolding with_bit
@@ -116,6 +121,7 @@ bit-is-cleared W w j f l = cleared-in W 1 j w (omega arith) l ∙ go (bits w j 1
     go : (d : ℕ) → Digit d → bits w j 1 ≡ d → w / 2 ^ (1 + j) * 2 ^ (1 + j) + w % 2 ^ j ≡ with_bit false w j
     go zero off e = let p = rw e at (parts w j) in rw e (omega arith)
     go (suc zero) on e = let p = rw e at (parts w j) in rw e (omega arith)
+    go (suc (suc _)) x5 e = elim x5 [ ]
 
 pub with_bit-lt : (w j : ℕ) → w < 2 ^ 64 → j < 64 → with_bit true w j < 2 ^ 64
 with_bit-lt w j h l = rw (← bit-is-set 64 w j l) (or_lt 64 w (1 * 2 ^ j % 2 ^ 64) h (mod-lt (1 * 2 ^ j) (omega arith)))
