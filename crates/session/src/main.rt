@@ -20,7 +20,7 @@ use order::Order;
 use records::Places;
 
 // What lasts from line to line beside the image's words and the record places: how many words the image has, and the shared record.
-#[derive(Drop)]
+#[derive(Clone, Copy)]
 struct Bench {
     words: usize,
     shared: Shared,

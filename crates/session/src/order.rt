@@ -71,14 +71,14 @@ pub const MAP: u32 = 45;
 pub const REPORT: u32 = 46;
 
 // A command, and how many words follow its name: of `serve`, the two that say how many more.
-#[derive(Drop)]
+#[derive(Clone, Copy)]
 struct Verb {
     command: u32,
     words: u32,
 }
 
 // A command and its numbers, in the line's order, 0 where it has fewer. The name of a field stands as the field's number.
-#[derive(Drop)]
+#[derive(Clone, Copy)]
 pub struct Order {
     pub command: u32,
     pub a: u64,

@@ -8,7 +8,7 @@ use crate::{calls, print, records, scan, steps};
 use block_log::Shared;
 
 // What the call answers, and the shared record after it.
-#[derive(Drop)]
+#[derive(Clone, Copy)]
 struct Served {
     refused: u32,
     shared: Shared,

@@ -21,7 +21,7 @@ const COPIED: u32 = 6;
 const BYTES: u32 = 7;
 
 // An answer as numbers: its kind; the retry count of Committed, the reason of a refusal or how many bytes a read answers; and their digest.
-#[derive(Drop)]
+#[derive(Clone, Copy)]
 pub struct Told {
     kind: u32,
     value: u32,
@@ -29,7 +29,7 @@ pub struct Told {
 }
 
 // The records after some steps.
-#[derive(Drop)]
+#[derive(Clone, Copy)]
 pub struct Walked {
     pub shared: Shared,
     pub point: Point,
