@@ -1,5 +1,5 @@
 -- One turn of `look`: what it has gathered and the walk from here on give what the walk from the start shows. A law for each way on and out.
-use mathlib.Core.Path.{◌≡◌, ◌∙◌, sym, refl, ap}
+use mathlib.Core.Path.{◌≡◌, ◌∙◌, sym, ap}
 use mathlib.Core.Logic.{◌≢◌}
 use mathlib.Core.List.{List, [], ◌∷◌, ◌++◌}
 use mathlib.Core.Bool.{true, false, Bool, not, ◌||◌, or_assoc, or-false}

@@ -8,7 +8,7 @@ use native.Mathlib.Omega.{arith}
 use lib.ListN.{length, drop, replicate, length-replicate, length-append}
 use lib.Seq.{drop_at}
 use borrow.Author.Tests.{ltb-false}
-use Rattle.words.specs.BlockMap.{taken, map_of, free_count}
+use Rattle.words.specs.BlockMap.{map_of, free_count}
 use Rattle.words.specs.Edition.{Edition, one, file_end}
 use Rattle.words.specs.Logic.{list_from}
 use Rattle.words.specs.Memory.{memory, block_count}

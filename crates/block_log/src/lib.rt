@@ -1,5 +1,6 @@
 // The log: laying out, opening, and the entries. The definitions are in specs/.
 #![tactic(auto)]
+
 ghost use Rattle.std.specs.Prelude.{◌≡◌, ◌+◌, ◌<◌, length};
 ghost use Rattle.words.specs.Edition.{one};
 ghost use Rattle.block_log.specs.Chain.{entries_from};
@@ -39,7 +40,7 @@ pub const LOG_BROKEN: u32 = 18;
 
 // The shared record: what opening hands back, and each later call takes and returns. `chain` is how many log blocks are chained, `reports` has for each
 // point the log block of its log place, 0 when it is not joined.
-#[derive(Drop)]
+#[derive(Clone, Copy)]
 pub struct Shared {
     pub blocks: u32,
     pub taken: [u64; 16],
@@ -49,14 +50,14 @@ pub struct Shared {
 }
 
 // A call that is done, or the number of the reason why it is turned down.
-#[derive(Drop)]
+#[derive(Clone, Copy)]
 pub enum Reply {
     Done,
     Refused(u32),
 }
 
 // What opening answers.
-#[derive(Drop)]
+#[derive(Clone, Copy)]
 pub struct Opened {
     pub reply: Reply,
     pub length: u32,
@@ -66,7 +67,7 @@ pub struct Opened {
 }
 
 // Where a point stands in the log: the log block and the slot (2 to 64).
-#[derive(Drop)]
+#[derive(Clone, Copy)]
 pub struct Place {
     pub block: u32,
     pub slot: u32,
@@ -74,7 +75,7 @@ pub struct Place {
 
 // What a walk from a log place to the tail saw: where it ended, how many log blocks it entered, whether it is broken (18), and whether an entry passed
 // covers each of two virtual blocks.
-#[derive(Drop)]
+#[derive(Clone, Copy)]
 pub struct Lookahead {
     pub place: Place,
     pub entered: u32,

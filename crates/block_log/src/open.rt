@@ -100,7 +100,7 @@ fn take_live(table: &[u16; 256], map: &mut [u64]) -> bool
 }
 
 // The map of taken blocks, and whether a live block was met twice or is a log block (reason 8).
-#[derive(Drop)]
+#[derive(Clone, Copy)]
 struct Taken {
     map: [u64; 16],
     met: bool,

@@ -13,7 +13,7 @@ use c_lent::{Answer, Count, Opened};
 
 // The shared record: blocks, joined points, chain length and the 32 reports, and the map. In C the numbers have names.
 #[repr(C)]
-#[derive(Drop)]
+#[derive(Clone, Copy)]
 pub struct SharedRecord {
     pub numbers: [u32; 35],
     pub taken: [u64; 16],
@@ -21,7 +21,7 @@ pub struct SharedRecord {
 
 // A point's record: its eleven numbers, its table and its text.
 #[repr(C)]
-#[derive(Drop)]
+#[derive(Clone, Copy)]
 pub struct PointRecord {
     pub head: [u32; 11],
     pub table: [u16; 256],

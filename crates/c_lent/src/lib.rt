@@ -11,7 +11,7 @@ use points::StepAnswer;
 
 // What opening answers: the refusal's number, 0 for none, length and counts.
 #[repr(C)]
-#[derive(Drop)]
+#[derive(Clone, Copy)]
 pub struct Opened {
     pub refused: u32,
     pub length: u32,
@@ -21,7 +21,7 @@ pub struct Opened {
 
 // Which answer of a step it is, its value, and which word of the image was stored, 0 for none.
 #[repr(C)]
-#[derive(Drop)]
+#[derive(Clone, Copy)]
 pub struct Answer {
     pub kind: u32,
     pub value: u32,
@@ -30,7 +30,7 @@ pub struct Answer {
 
 // What reading and locating answer.
 #[repr(C)]
-#[derive(Drop)]
+#[derive(Clone, Copy)]
 pub struct Count {
     pub refused: u32,
     pub count: u32,

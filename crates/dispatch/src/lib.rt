@@ -14,14 +14,14 @@ use block_log::{Reply, Shared};
 use points::{Point, StepAnswer};
 
 // What serving answers, and the shared record that it leaves.
-#[derive(Drop)]
+#[derive(Clone, Copy)]
 pub struct Served {
     pub reply: Reply,
     pub shared: Shared,
 }
 
 // Where the turns stand. In stage 0 the points' numbers are looked at, in stage 1 the writes are begun, in stage 2 the unfinished ones make a step.
-#[derive(Drop)]
+#[derive(Clone, Copy)]
 struct Turns {
     // whether there is a further turn, and whose
     going: bool,
@@ -45,7 +45,7 @@ struct Turns {
 }
 
 // What a turn leaves.
-#[derive(Drop)]
+#[derive(Clone, Copy)]
 struct TurnLeft {
     turns: Turns,
     point: Point,

@@ -11,7 +11,7 @@ use block_log::Reply;
 
 // A rule that an image breaks: opening's number, 0 for none; which of that number's rules, from 1 on; the place, a block and a word in it, and what it
 // holds; and for 8 the virtual block, for 9 the byte in the block.
-#[derive(Drop)]
+#[derive(Clone, Copy)]
 pub struct Fault {
     pub number: u32,
     pub rule: u32,
@@ -22,7 +22,7 @@ pub struct Fault {
 }
 
 // What was read, in numbers: log blocks, entries, the length of the file that the entries give, free blocks, and the longest free stretch.
-#[derive(Drop)]
+#[derive(Clone, Copy)]
 pub struct Found {
     pub chained: u32,
     pub entries: u32,
@@ -33,7 +33,7 @@ pub struct Found {
 
 // The fault, and what can be read: the log blocks in chain order, the entries in log order, for each entry which of its blocks are overruled, bit i for
 // its block i, the table, and the use of each block: 0 superblock, 1 log, 2 live, 3 free. Zeros stand behind the last log block and entry.
-#[derive(Drop)]
+#[derive(Clone, Copy)]
 pub struct Inspected {
     pub fault: Fault,
     pub found: Found,

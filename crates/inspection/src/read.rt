@@ -9,7 +9,7 @@ ghost use Rattle.inspection.specs.Reading.{overruled_all, longest_free};
 ghost use Rattle.inspection.specs.Parts.{Front, stops_in, ReadsChain, Inside, PartRead, LogRead, AllLegal, use_in};
 
 // The log blocks read: how many, and the map of them.
-#[derive(Drop)]
+#[derive(Clone, Copy)]
 pub struct Chained {
     pub count: usize,
     pub map: [u64; 16],

@@ -11,7 +11,7 @@ use crate::{Begun, Head, LentBegun, Numbers, Phase, Point, Write};
 use block_log::{Place, Reply, Shared};
 
 // What is settled before a beginning changes anything: the reason to refuse, 0 for none; the log place at the tail; the run's first block.
-#[derive(Drop)]
+#[derive(Clone, Copy)]
 struct Start {
     reason: u32,
     place: Place,

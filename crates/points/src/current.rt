@@ -9,7 +9,7 @@ use crate::{Count, Head, Numbers};
 use block_log::{Place, Reply};
 
 // Why the file is not read, 0 where it is; and whether it is the file as the record has it, nothing being ahead.
-#[derive(Drop)]
+#[derive(Clone, Copy)]
 pub(crate) struct Current {
     pub reason: u32,
     pub tail: bool,

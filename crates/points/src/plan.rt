@@ -9,7 +9,7 @@ use crate::{Head, Phase, StepAnswer, Write};
 use block_log::Place;
 
 // What the record takes in: nothing, the entry that the plan stores, all entries ahead.
-#[derive(Drop)]
+#[derive(Clone, Copy)]
 pub enum Reads {
     NoEntry,
     OwnEntry,
@@ -17,7 +17,7 @@ pub enum Reads {
 }
 
 // What becomes free: nothing, what the write holds, the blocks that the write replaces, the log block that was zeroed.
-#[derive(Drop)]
+#[derive(Clone, Copy)]
 pub enum Frees {
     NoBlock,
     Held,
@@ -26,7 +26,7 @@ pub enum Frees {
 }
 
 // What is reported: nothing, the log block where the point stands then, that and one log block more in the chain.
-#[derive(Drop)]
+#[derive(Clone, Copy)]
 pub enum Reports {
     NoReport,
     Standing,
@@ -34,7 +34,7 @@ pub enum Reports {
 }
 
 // What is stored: nothing, a word of the run, a zero, an entry, a next index.
-#[derive(Drop)]
+#[derive(Clone, Copy)]
 pub enum Kind {
     NoStore,
     Fill,
@@ -45,7 +45,7 @@ pub enum Kind {
 
 // The answer; the log place and the write that the point has then; what is read in, freed and taken, 0 for no block; whether the text is cleared; what is
 // reported; and the store: word `word` from the first word of block `block` on gets `value`.
-#[derive(Drop)]
+#[derive(Clone, Copy)]
 pub struct Plan {
     pub step: StepAnswer,
     pub place: Place,

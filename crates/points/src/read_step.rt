@@ -63,7 +63,7 @@ fn copied_on(write: Write) -> Write
 }
 
 // What the walk from the log place to the tail shows to a read: whether it is broken, whether an entry covers a block of the range, and where it ends.
-#[derive(Drop)]
+#[derive(Clone, Copy)]
 pub(crate) struct Ahead {
     pub broken: bool,
     pub covered: bool,

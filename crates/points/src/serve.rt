@@ -18,7 +18,7 @@ use block_log::Place;
 
 // What the words of one block of a run need, found once: the run's first block, the block that is mapped there, 0 for none, and the bytes of the run that
 // are the text's, from `lead` to `end`.
-#[derive(Drop)]
+#[derive(Clone, Copy)]
 pub struct Row {
     pub run: u32,
     pub from: u32,
@@ -27,14 +27,14 @@ pub struct Row {
 }
 
 // What moving on by one entry leaves: whether it is done, and the point's numbers then.
-#[derive(Drop)]
+#[derive(Clone, Copy)]
 pub struct MovedByOne {
     pub done: bool,
     pub head: Head,
 }
 
 // What committing by the head leaves: whether it is done, and the point's numbers then.
-#[derive(Drop)]
+#[derive(Clone, Copy)]
 pub struct CommittedByHead {
     pub done: bool,
     pub head: Head,

@@ -1,0 +1,28 @@
+-- The live blocks, block 0 and the chain are marked one after the other.
+use mathlib.Core.Path.{◌∙◌}
+use native.Mathlib.Omega.{arith}
+use lib.ListN.{length-set}
+use Rattle.words.specs.Edition.{one}
+use Rattle.words.specs.Memory.{memory}
+use Rattle.block_log.specs.Chain.{chain}
+use Rattle.block_log.proofs.Chain.{outside_below}
+use Rattle.block_log.proofs.Scratch.{scratch-marked}
+use Rattle.block_log.proofs.Taken.{table_below}
+use Rattle.block_log.proofs.open.mark_scratch.Goals as goal
+
+pub mark_chain-requires : goal.mark_chain-requires
+mark_chain-requires c = let p = c.requires in
+    (p.known.chained, omega (arith, length-set c.mark_live.new.scratch 0 65535, c.mark_live.auto.scratch, p.long))
+
+pub shape_of-scratch : goal.shape_of-scratch
+shape_of-scratch c = let l = c.mark_live in
+    c.mark_chain.auto.scratch ∙ length-set l.new.scratch 0 65535 ∙ l.auto.scratch
+
+pub returns : goal.returns
+returns c = let l = c.mark_live in
+    let a = c.args in
+    let p = c.requires in
+    let cs = chain (memory one a.image.now) in
+    scratch-marked a.table.now cs a.scratch.now a.scratch.now l.new.scratch c.mark_chain.new.scratch
+    (table_below a.table.now p.known.fits.inside) (outside_below cs p.known.chained) p.long p.clear l.auto.scratch l.ensures
+    (c.mark_chain.auto.scratch ∙ length-set l.new.scratch 0 65535) c.mark_chain.ensures
