@@ -1,5 +1,4 @@
 -- `recovery::code::begin` meets its contract: what the call of `points` answers is what its definition says (Served). Assumes nothing.
-use borrow.Author.Rules.{rules}
 use Rattle.recovery.proofs.Served.{begin-served}
 use Rattle.recovery.proofs.code.begin.Goals as goal
 

@@ -1,5 +1,4 @@
 -- `recovery::code::begin_read` meets its contract: what the call of `points` answers is what its definition says (Served). Assumes nothing.
-use borrow.Author.Rules.{rules}
 use Rattle.recovery.proofs.Served.{begin-read-served}
 use Rattle.recovery.proofs.code.begin_read.Goals as goal
 

@@ -1,5 +1,4 @@
 -- `recovery::code::join` meets its contract: what the call of `points` answers is what its definition says (Served). Assumes nothing.
-use borrow.Author.Rules.{rules}
 use Rattle.recovery.proofs.Served.{join-served}
 use Rattle.recovery.proofs.code.join.Goals as goal
 

@@ -1,5 +1,4 @@
 -- `recovery::code::locate` meets its contract: the block that the call of `points` answers holds the book's file (Served). Assumes nothing.
-use borrow.Author.Rules.{rules}
 use Rattle.recovery.proofs.Served.{locate-served}
 use Rattle.recovery.proofs.code.locate.Goals as goal
 

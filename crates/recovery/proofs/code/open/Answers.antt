@@ -1,5 +1,4 @@
 -- `recovery::code::open` meets its contract: what opening answers is the world that a list begins with (Served). Assumes nothing.
-use borrow.Author.Rules.{rules}
 use Rattle.recovery.proofs.Served.{open-served}
 use Rattle.recovery.proofs.code.open.Goals as goal
 

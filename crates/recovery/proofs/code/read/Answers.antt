@@ -1,5 +1,4 @@
 -- `recovery::code::read` meets its contract: what the call of `points` answers and leaves shows the book's file (Served). Assumes nothing.
-use borrow.Author.Rules.{rules}
 use Rattle.recovery.proofs.Served.{read-served}
 use Rattle.recovery.proofs.code.read.Goals as goal
 
