@@ -1,5 +1,6 @@
 // Inspecting an image: what can be read of it, and, where opening refuses it, which rule is broken and where. The definitions are in specs/.
 #![tactic(auto)]
+
 ghost use Rattle.std.specs.Prelude.{◌≡◌, false, replicate};
 ghost use Rattle.words.specs.Edition.{one};
 ghost use Rattle.words.specs.Memory.{memory, block_count, wrong_size};

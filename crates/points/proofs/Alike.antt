@@ -32,7 +32,7 @@ module _ {S T : Type 0} (R : S → T → Type 0) where
   in-turn-alike P Q turn other alike s t [] [] r p = record { common = r; own = tt }
   in-turn-alike P Q turn other alike s t (x ∷ xs) (y ∷ ys) r p =
       let here = alike s t x y r p.0 in
-      let rest = in-turn-alike P Q turn other alike _ _ xs ys here.common p.1 in
+      let rest = in-turn-alike P Q turn other alike (turn s x).common (other t y).common xs ys here.common p.1 in
       record { common = rest.common; own = (here.own, rest.own) }
   in-turn-alike P Q turn other alike s t [] (y ∷ ys) r p = absurd p
   in-turn-alike P Q turn other alike s t (x ∷ xs) [] r p = absurd p

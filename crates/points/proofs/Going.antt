@@ -21,7 +21,7 @@ use Rattle.points.specs.declared.Head.{Head}
 use Rattle.points.specs.declared.Point.{Point}
 use Rattle.points.specs.declared.plan.Plan.{Plan}
 use Rattle.points.specs.Record.{is_zeroing, is_writing, run_words, write_fits}
-use Rattle.points.specs.Record.{file_at, inside, writing}
+use Rattle.points.specs.Record.{file_at}
 use Rattle.points.specs.Search.{search}
 use Rattle.points.specs.Fill.{next_word}
 use Rattle.points.specs.Plan.{read_in}

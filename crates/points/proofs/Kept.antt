@@ -19,7 +19,7 @@ use Rattle.block_log.specs.declared.Place.{Place}
 use Rattle.block_log.specs.Entry.{entry_v, entry_b, entry_n, legal, covers}
 use Rattle.block_log.specs.Opening.{bad_entry}
 use Rattle.block_log.specs.Replay.{Mapped, map_run, apply, replay_on}
-use Rattle.block_log.specs.CatchUp.{Walk, walk, ahead, place_after}
+use Rattle.block_log.specs.CatchUp.{Walk, ahead, place_after}
 use Rattle.block_log.proofs.Entry.{Valid, legal-valid}
 use Rattle.block_log.proofs.Walk.{Ways, by-turns, here, tail-le, block-short}
 use Rattle.points.specs.declared.Phase.{Phase}

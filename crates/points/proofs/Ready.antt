@@ -8,16 +8,13 @@ use mathlib.Core.List.{List}
 use lib.ListN.{length}
 use borrow.Author.Tests.{not-false, le-leb}
 use Rattle.words.specs.Edition.{Edition, one, chain_max, file_end}
-use Rattle.words.specs.Memory.{after}
 use Rattle.words.proofs.Logic.{all-every}
 use Rattle.words.proofs.Choice.{choose-false}
 use Rattle.block_log.specs.declared.Shared.{Shared}
 use Rattle.points.specs.declared.Phase.{Phase}
 use Rattle.points.specs.declared.Point.{Point}
 use Rattle.points.specs.Record.{is_zeroing, run_words, is_idle, is_reading, is_writing, write_fits}
-use Rattle.points.specs.Record.{range_fits, head_fits, all_below, fits, is_joined, unfit, file_at, writing}
-use Rattle.points.specs.Plan.{reported}
-use Rattle.points.specs.Stepping.{refused}
+use Rattle.points.specs.Record.{range_fits, head_fits, all_below, fits, is_joined, unfit, file_at}
 use Rattle.points.specs.Lent.{TextFits}
 use Rattle.points.specs.Stepping.{step_refusal}
 use Rattle.points.proofs.Phases.{is-writing, writing-busy, writing-apart}

@@ -29,7 +29,6 @@ use Rattle.points.specs.Record.{fits, file_at, span, inside, point_of, writing, 
 use Rattle.points.specs.Search.{search, with_taken, reporting_place}
 use Rattle.points.specs.Calls.{new_write, text_of, begin_refusal, begin_read_refusal, beginning}
 use Rattle.points.specs.Plan.{Outcome, reported, carried_out}
-use Rattle.points.specs.Stepping.{refused}
 use Rattle.points.specs.Stepping.{write_on, stepping}
 use Rattle.points.specs.Serving.{step_goes_on}
 use Rattle.points.specs.Lent.{Lengthens}

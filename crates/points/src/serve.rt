@@ -368,7 +368,12 @@ fn take_in(e: u64, table: &mut [u16; 256], length: u32) -> u32
 {
     let v = block_log::first_virtual(e);
     let n = block_log::count(e);
-    map_run(table, v as usize, block_log::first_block(e) as u16, n as usize);
+    map_run(
+        table,
+        v as usize,
+        block_log::first_block(e) as u16,
+        n as usize,
+    );
     let end = (512 * (v + n - 1) + block_log::used(e)) as u32;
     if length < end { end } else { length }
 }

@@ -1,5 +1,6 @@
 // Every small log (document 02, K9): all logs of at most two entries of one kind that opening accepts; and an entry's digits. The definitions are in specs/.
 #![tactic(auto)]
+
 ghost use Rattle.std.specs.Prelude.{◌≡◌, List, [], ◌∷◌, ◌++◌, ℕ, ◌<◌};
 ghost use Rattle.small.specs.SmallLogs.{image_with, AllLegal, Fills, hex_digit, digits_of};
 ghost use Rattle.small.specs.Tried.{entry_count, legal_entry, one_more, pairs, accepts, legal_logs};

@@ -1,0 +1,8 @@
+-- A block other than 0 is looked up.
+use mathlib.Core.Path.{◌≡◌, refl, sym, ap, ◌∙◌}
+use Rattle.inspection.proofs.Searches.{some_block}
+use borrow.Author.Rules.{rules}
+use Rattle.inspection.proofs.faults.clashes.Goals as goal
+
+pub returns : goal.returns
+returns c = c.is_taken.ensures ∙ sym (some_block _ _ c.if-b-eq0.false)

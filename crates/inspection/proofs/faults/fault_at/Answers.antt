@@ -1,0 +1,6 @@
+-- The word of the block is the value.
+use borrow.Author.Rules.{rules}
+use Rattle.inspection.proofs.faults.fault_at.Goals as goal
+
+pub returns : goal.returns
+returns c = rw (c.word-value.ensures, c.block.ensures)

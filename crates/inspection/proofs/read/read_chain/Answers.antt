@@ -1,0 +1,28 @@
+use mathlib.Core.Path.{sym}
+use Prim.Native.Nat.{◌-◌}
+use native.Mathlib.Omega.{arith}
+use borrow.Author.Rules.{rules}
+use Rattle.inspection.proofs.ReadOn.{Read, read-begin, read_again, ends-full, ends-stopped, index-inside, map-sized}
+use Rattle.inspection.proofs.read.read_chain.Goals as goal
+
+pub loop-count-init : goal.loop-count-init
+loop-count-init c = let a = c.args in
+    read-begin a.image.now a.blocks a.chain.now c.first_index-b.result c.sized_indexes-arg-2-1.given.0 c.first_index-b.ensures
+
+pub returns-then-stops_at : goal.returns-then-stops_at
+returns-then-stops_at c = ends-stopped c.loop-count.invariant c.stops_at.ensures c.if-stops_at.true
+
+pub overflow_cast-chain : goal.overflow_cast-chain
+overflow_cast-chain c = let l = c.loop-count in
+    omega (arith, (index-inside l.invariant c.stops_at.ensures c.if-stops_at.false).1)
+
+pub slice_bounds-take_block-end : goal.slice_bounds-take_block-end
+slice_bounds-take_block-end c = let l = c.loop-count in sym (map-sized l.invariant)
+
+pub loop-count-preserved : goal.loop-count-preserved
+loop-count-preserved c = let l = c.loop-count in
+    read_again l.invariant c.stops_at.ensures c.requires c.loop-count-test.true c.if-stops_at.false _ _ c.take_block.ensures
+    c.next_index-b.ensures
+
+pub returns : goal.returns
+returns c = ends-full c.loop-count.invariant c.loop-count-test.false

@@ -1,0 +1,23 @@
+-- `points::fill::copied_word`: nothing is mapped, and every byte is 0; or the bytes are those of the mapped block.
+use Prim.Native.Nat.{ℕ, ◌+◌, ◌*◌}
+use mathlib.Core.Path.{◌≡◌, sym, ap, ◌∙◌}
+use mathlib.Core.List.{List}
+use lib.ListN.{get_or}
+use Rattle.words.specs.Edition.{one}
+use Rattle.words.specs.Memory.{memory, word_at}
+use Rattle.points.proofs.NewWord.{mapped-none, mapped-word}
+use Rattle.points.proofs.fill.copied_word.Goals as goal
+
+pub returns-then-b-eq0 : goal.returns-then-b-eq0
+returns-then-b-eq0 c j l = let a = c.args in
+    let z : get_or a.table.now a.v 0 ≡ 0 = sym c.index-b.ensures ∙ c.if-b-eq0.true in
+    rw z (mapped-none (memory one a.image.now) (8 * a.i + j) j)
+
+pub returns : goal.returns
+returns c j l = let index = c.index-b in
+    let if1 = c.if-b-eq0 in
+    let a = c.args in
+    let b = index.result in
+    let e : c.word.result ≡ word_at (memory one a.image.now) b a.i =
+    c.word.ensures ∙ ap (λ (part : List ℕ). get_or part a.i 0) c.block.ensures in
+    rw (e, ← index.ensures) (mapped-word (memory one a.image.now) b a.i j if1.false l)

@@ -1,0 +1,12 @@
+-- `points::serve::row_at`: the row of the definition, where word k is one of the run's.
+use native.Mathlib.Omega.{arith}
+use Rattle.points.proofs.Rows.{row_is}
+use Rattle.points.proofs.serve.row_at.Goals as goal
+
+pub returns : goal.returns
+returns c = let a = c.args in (
+  row_is a.head a.table.now a.k c.mapped.result c.lead-lead.result c.at_most_text-size.result c.run_first.result
+      c.block.result c.lead-lead.ensures c.at_most_text-size.ensures c.run_first.ensures c.block.ensures
+      c.mapped.ensures,
+  omega arith,
+)
