@@ -15,7 +15,7 @@ begin-read-requires c κs = search rules
 returns : tie.Need-returns
 returns c =
     let a = (start c.before.before.before).args in
-    begin-read-for a.image.now (shared_lent a.shared a.taken) (point_lent a.head a.table a.text) a.offset a.size
+    begin-read-for a.image.now (shared_lent a.shared.now a.taken.now) (point_lent a.head.now a.table.now a.text.now) a.offset a.size
     _ c.begin-read.ensures
 
 pub begin-read-spec : {M : Type 1} → statement M

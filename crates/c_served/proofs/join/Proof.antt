@@ -15,7 +15,7 @@ join-requires c κs = search rules
 returns : tie.Need-returns
 returns c =
     let a = (start c.before.before.before).args in
-    join-for a.image.now (shared_lent a.shared a.taken) a.number _ c.join.ensures
+    join-for a.image.now (shared_lent a.shared.now a.taken.now) a.number _ c.join.ensures
 
 pub join-spec : {M : Type 1} → statement M
 join-spec = tie.close (tie.spec join-requires returns)

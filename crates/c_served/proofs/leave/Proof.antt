@@ -11,7 +11,7 @@ leave-requires c κs = search rules
 returns : tie.Need-returns
 returns c =
     let a = c.before.before.before.before.args in
-    leave-for a.image.now (shared_lent a.shared a.taken) (textless a.head a.table) _ c.leave.ensures
+    leave-for a.image.now (shared_lent a.shared.now a.taken.now) (textless a.head.now a.table.now) _ c.leave.ensures
 
 pub leave_spec : {M : Type 1} → statement M
 leave_spec = tie.close (tie.spec leave-requires returns)

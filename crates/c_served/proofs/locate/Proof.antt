@@ -11,7 +11,7 @@ locate-requires c κs = search rules
 returns : tie.Need-returns
 returns c =
     let a = c.before.before.args in
-    locate-for a.image.now (shared_lent a.shared a.taken) (textless a.head a.table) a.block _ c.locate.ensures
+    locate-for a.image.now (shared_lent a.shared.now a.taken.now) (textless a.head.now a.table.now) a.block _ c.locate.ensures
 
 pub locate-spec : {M : Type 1} → statement M
 locate-spec = tie.close (tie.spec locate-requires returns)

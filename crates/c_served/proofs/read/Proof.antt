@@ -14,7 +14,7 @@ same_length c = search rules
 returns : tie.Need-returns
 returns c =
     let a = c.before.before.before.before.before.before.args in
-    read-for a.image.now (shared_lent a.shared a.taken) (textless a.head a.table) a.offset a.buffer.now
+    read-for a.image.now (shared_lent a.shared.now a.taken.now) (textless a.head.now a.table.now) a.offset a.buffer.now
     _ c.before.before.read.ensures
 
 pub read_spec : {M : Type 1} → statement M

@@ -39,7 +39,7 @@ returns c =
     let s = served c in
     let a = (start (lent s)).args in
     serve-for a.heads.now a.tables.now a.texts.now a.answers.now a.writes.now a.bytes.now
-    (common_lent a.image.now (shared_lent a.shared a.taken)) _ s.serve.ensures
+    (common_lent a.image.now (shared_lent a.shared.now a.taken.now)) _ s.serve.ensures
 
 pub serve-spec : {M : Type 1} → statement M
 serve-spec = tie.close (tie.spec serve-requires same_length same-length-2 same-length-3 same-length-4 same-length-5 returns)

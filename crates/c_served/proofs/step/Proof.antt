@@ -22,7 +22,7 @@ returns : tie.Need-returns
 returns c =
     let s = c.before.before in
     let a = (start (lent s)).args in
-    step-for a.image.now (shared_lent a.shared a.taken) (point_lent a.head a.table a.text) a.bytes.now
+    step-for a.image.now (shared_lent a.shared.now a.taken.now) (point_lent a.head.now a.table.now a.text.now) a.bytes.now
     _ s.step.ensures
 
 pub step_spec : {M : Type 1} → statement M
