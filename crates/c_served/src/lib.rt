@@ -1,6 +1,7 @@
 // The calls for C, each with what it leaves in a list of calls as its contract: the claims of `recovery` hold of what C calls. Opening, reading and locating
 // are beside them, as in recovery/src/code.rt; serving a list of points is a row of them. Nothing here runs.
 #![tactic(auto)]
+
 ghost use Rattle.c_lent.specs.Numbers.{shared_lent, point_lent, textless};
 ghost use Rattle.c_lent.specs.Calls.{left, step_left, shared_left, read_left};
 ghost use Rattle.c_lent.specs.Serving.{common_lent, serve_left};
