@@ -1,5 +1,6 @@
 // The calls for C, as include/store.h declares them. Both records are lent whole, each a struct of the arrays that `c_lent` takes; their parts are lent on.
 #![tactic(auto)]
+
 ghost use Rattle.std.specs.Prelude.{◌≡◌};
 ghost use Rattle.words.specs.Edition.{one};
 ghost use Rattle.block_log.specs.Opening.{layout_refusal, layout};
