@@ -13,11 +13,11 @@ fn link_library() {
     run(Command::new("ar").args(["crs", &archive, &object]));
     let root = Path::new("..").canonicalize().unwrap();
     println!("cargo::rustc-link-search=native={folder}");
-    println!("cargo::rustc-link-search=native={}/target/staticlib", root.display());
     println!("cargo::rustc-link-lib=static=bench_c");
     for name in ["c_api", "c_serve"] {
+        println!("cargo::rustc-link-search=native={}/crates/{name}/out", root.display());
         println!("cargo::rustc-link-lib=static={name}");
-        println!("cargo::rerun-if-changed=../target/staticlib/lib{name}.a");
+        println!("cargo::rerun-if-changed=../crates/{name}/out/lib{name}.a");
     }
     for file in ["src/library.c", "../include/store.h"] {
         println!("cargo::rerun-if-changed={file}");

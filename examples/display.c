@@ -3,7 +3,7 @@
    In each turn every stall takes one step of its write, and the display one step of its read. A read has the file as of its last step: where a stall has
    committed into its range meanwhile, that step answers STORE_MOVED and the read begins again by itself.
    Build it, once `include/build` has made the library:
-     cc -std=c99 -O2 -Iinclude examples/display.c target/staticlib/libc_api.a -o display */
+     cc -std=c99 -O2 -Iinclude examples/display.c crates/c_api/out/libc_api.a -o display */
 
 #include <stdio.h>
 #include <stdlib.h>

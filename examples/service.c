@@ -3,7 +3,7 @@
    Two stalls write. A display reads in steps, slowly; a scale has joined and does nothing; a vet's terminal comes and goes. The screen needs no call: the
    shared record reports the log blocks, and store_behind of the header follows the chain from there.
    Build it, once `include/build` has made the library:
-     cc -std=c99 -O2 -Iinclude examples/service.c target/staticlib/libc_api.a -o service */
+     cc -std=c99 -O2 -Iinclude examples/service.c crates/c_api/out/libc_api.a -o service */
 
 #include <stdio.h>
 #include <stdlib.h>

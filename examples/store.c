@@ -1,7 +1,7 @@
 /* The controller of a milking parlour keeps the readings of three stalls in one file: a session with a loss of power in it.
 
    Build it, once `include/build` has made the library:
-     cc -std=c99 -O2 -Iinclude examples/store.c target/staticlib/libc_api.a -o store */
+     cc -std=c99 -O2 -Iinclude examples/store.c crates/c_api/out/libc_api.a -o store */
 
 #include <stdio.h>
 #include <stdlib.h>

@@ -1,7 +1,7 @@
 /* A session file for up to 32 points, in memory that survives loss of power eight bytes at a time.
 
-   For C and C++ on x86-64. `include/build` makes the library to link with, target/staticlib/libc_api.a, and libc_serve.a beside it, for
-   store_serve alone. docs/GUIDE.md shows how firmware uses it; docs/RULES.md says of each call, to the last number, what it answers and
+   For C and C++ on x86-64. `include/build` makes the library to link with, crates/c_api/out/libc_api.a, and
+   crates/c_serve/out/libc_serve.a for store_serve alone. docs/GUIDE.md shows how firmware uses it; docs/RULES.md says of each call, to the last number, what it answers and
    leaves; docs/FORMAT.md what an image holds.
 
    What is lent. Each call is lent memory of the caller: the image, and the records beside it. It keeps no pointer, allocates

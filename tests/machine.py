@@ -5,7 +5,7 @@ import shutil
 import subprocess
 
 ROOT = pathlib.Path(__file__).resolve().parent.parent
-ARCHIVES = [ROOT / "target/staticlib" / f"lib{crate}.a" for crate in ("c_api", "c_serve")]
+ARCHIVES = [ROOT / "crates" / crate / "out" / f"lib{crate}.a" for crate in ("c_api", "c_serve")]
 OUTSIDE = {"memcpy", "memset"}  # the C library's
 
 

@@ -1,6 +1,10 @@
 # Sourced by tests/run and tests/today, in the repository's root: parts of a test run, and the second implementation, built.
 set -eu
 
+# The programs, for the second implementation's `compare`.
+programs=()
+for program in session listing smalllogs; do programs+=("--$program" "crates/$program/out/$program"); done
+
 # A part: what it is, then its command. Each ends with a line `N passed, M failed`; tests/counted counts these lines by part. A part that fails does not keep
 # the others from being tried: the run ends with `exit $status`.
 status=0

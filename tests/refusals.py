@@ -3,8 +3,8 @@ import os
 import re
 
 ERROR = re.compile(r"^(\S+?):(\d+):\d+: (?:error: `([^`]+)`|`([^`]+)` is not admitted)", re.M)
-UNPROVED = re.compile(r"^fn \w+::(?:(\w+(?:::\w+)*)::)?(\w+): no proof: .*; `search` does not close", re.M)
-FIRST = re.compile(r"^(?!.*was not admitted)\S.*(?:: error: |: it is not proved that ).*(?:\n\s.*)*(?:\nnote: what antt said.*(?:\n\s.*)*)?", re.M)
+UNPROVED = re.compile(r"^fn (\S+): no proof: expected answers in (\S+?); `search` did not prove (.*)$", re.M)
+FIRST = re.compile(r"^(?!.*was not admitted)\S.*(?:: error: |: it is not proved that |; `search` did not prove ).*(?:\n\s.*)*(?:\nnote: what antt said.*(?:\n\s.*)*)?", re.M)
 
 
 def refusals(text, base):
@@ -13,15 +13,15 @@ def refusals(text, base):
     found = []
     for m in ERROR.finditer(text):
         line = text[m.start() : text.find("\n", m.start())]
-        one = (os.path.relpath(m.group(1), base), m.group(3) or m.group(4), int(m.group(2)))
+        one = (os.path.relpath(os.path.join(base, m.group(1)), base), m.group(3) or m.group(4), int(m.group(2)))
         if "was not admitted" not in line and one not in found:
             found.append(one)
     return found
 
 
 def unproved(text):
-    """The functions without a proof file for which the prover finds no proof itself: the file as seen from the crate, the name."""
-    return [("src/{}.rt".format((m.group(1) or "lib").replace("::", "/")), m.group(2)) for m in UNPROVED.finditer(text)]
+    """The goals that have no answer and that the prover does not prove itself: the file where their answers would stand, as seen from the crate, the name."""
+    return [(os.path.normpath(m.group(2)), goal) for m in UNPROVED.finditer(text) for goal in re.findall(r"`([^`]+)`", m.group(3).partition(":")[0])]
 
 
 def first_words(text):

@@ -17,7 +17,7 @@ def table(name):
     subprocess.run([ROOT / "include/build"], check=True)
     program = ROOT / "target/c" / name
     program.parent.mkdir(parents=True, exist_ok=True)
-    library = ROOT / "target/staticlib/libc_api.a"
+    library = ROOT / "crates/c_api/out/libc_api.a"
     subprocess.run(["cc", *STRICT, f"-I{ROOT}/include", ROOT / f"tests/tables/{name}.c", library, "-o", program], check=True)
     printed = subprocess.run([program], check=True, capture_output=True, text=True).stdout
     settle(ROOT / "docs/GUIDE.md", f"tests/{name}", re.sub(r"\d{4,}", lambda n: f"{int(n[0]):,}", printed))

@@ -16,13 +16,13 @@ fn main() {
     let paths = ["-I../../include", "-c", "src/shim.c", "-o", &object];
     run(Command::new("cc").args(["-std=c11", "-O2"]).args(warnings).args(paths));
     run(Command::new("ar").args(["crs", &archive, &object]));
-    let library = Path::new("../../target/staticlib");
     println!("cargo::rustc-link-search=native={folder}");
-    println!("cargo::rustc-link-search=native={}", library.canonicalize().unwrap().display());
     println!("cargo::rustc-link-lib=static=shim");
     for name in ["c_api", "c_serve"] {
+        let library = format!("../../crates/{name}/out");
+        println!("cargo::rustc-link-search=native={}", Path::new(&library).canonicalize().unwrap().display());
         println!("cargo::rustc-link-lib=static={name}");
-        println!("cargo::rerun-if-changed={}/lib{name}.a", library.display());
+        println!("cargo::rerun-if-changed={library}/lib{name}.a");
     }
     for file in ["build.rs", "src/shim.c", "../../include/store.h"] {
         println!("cargo::rerun-if-changed={file}");

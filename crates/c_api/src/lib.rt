@@ -1,6 +1,6 @@
 // The calls for C, as include/store.h declares them. Both records are lent whole, each a struct of the arrays that `c_lent` takes; their parts are lent on.
-// The borrow checker covers no reference to a struct, so each function that takes one has its proof by hand: a walk (proofs/Walk says how it goes).
 #![tactic(auto)]
+
 ghost use Rattle.std.specs.Prelude.{◌≡◌};
 ghost use Rattle.words.specs.Edition.{one};
 ghost use Rattle.block_log.specs.Opening.{layout_refusal, layout};

@@ -1,32 +1,28 @@
 -- Plain steps: where words are left, a point's step stores the next one, and of the point only the position changes.
-use mathlib.Core.Path.{◌≡◌, refl, sym, ap, ◌∙◌, subst}
-use mathlib.Core.Logic.{◌⊎◌, inl, inr}
-use mathlib.Core.Bool.{Bool, true, false}
+use mathlib.Core.Path.{◌≡◌, sym, ap, ◌∙◌, subst}
+use mathlib.Core.Logic.{inl, inr}
+use mathlib.Core.Bool.{true, false}
 use mathlib.Core.List.{List, [], ◌∷◌}
-use mathlib.Core.Option.{some}
-use Prim.Native.Nat.{ℕ, zero, suc, ◌+◌, ◌≤◌, ◌<◌}
+use Prim.Native.Nat.{ℕ, ◌+◌, ◌≤◌, ◌<◌}
 use native.Mathlib.Omega.{arith}
 use native.Mathlib.Numerals.{add-one}
 use lib.ListN.{length, get_or, set}
 use Rattle.words.specs.Edition.{one}
-use Rattle.words.specs.Memory.{put, after}
+use Rattle.words.specs.Memory.{after}
 use Rattle.words.proofs.Choice.{choose-true, choose-false}
-use Rattle.block_log.specs.declared.Shared.{Shared}
 use Rattle.points.specs.declared.Phase.{Phase}
 use Rattle.points.specs.declared.Phase.TheVariants.{Filling, Zeroing}
-use Rattle.points.specs.declared.Head.{Head}
 use Rattle.points.specs.declared.Point.{Point}
 use Rattle.points.specs.Record.{phase_number, phase_of, run_words}
-use Rattle.points.specs.Plan.{Outcome}
 use Rattle.points.specs.Stepping.{stepping}
-use Rattle.points.specs.Batch.{filled_at, row_of, Prepared}
+use Rattle.points.specs.Batch.{filled_at, row_of}
 use Rattle.points.specs.Serving.{Turned}
 use Rattle.points.proofs.Ready.{Ready, ready-text}
-use Rattle.points.proofs.Turns.{stored_turn, fill-turn, zero_turn}
+use Rattle.points.proofs.Turns.{fill-turn, zero_turn}
 use Rattle.points.proofs.Rows.{few_words}
 use Rattle.c_lent.specs.Numbers.{SharedLent, PointLent, shared_in, lend_shared, lend_point, shared_as}
 use Rattle.c_lent.specs.Serving.{CommonLent, ListedLent, common_lent, listed_lent, point_as, turn_left, kind_goes_on, step_turn_for}
-use Rattle.c_lent.specs.Batch.{ReadyAt, Fills, Zeroes, Plain, one_on, row_from, RowFor, NextWords, StoresNext}
+use Rattle.c_lent.specs.Batch.{ReadyAt, Plain, one_on, row_from, NextWords, StoresNext}
 use Rattle.c_lent.proofs.Heads.{phase-back}
 use Rattle.c_lent.proofs.Shared.{numbers-same}
 use Rattle.c_lent.proofs.Turns.{turn-off}

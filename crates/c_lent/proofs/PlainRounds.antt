@@ -1,25 +1,23 @@
 -- Rounds in which each point stores its next word: those before i have, the others are as they were.
 use mathlib.Core.Path.{◌≡◌, refl, sym, ap, ◌∙◌, subst}
-use mathlib.Core.Logic.{◌≢◌, ◌⊎◌, inl, inr}
-use mathlib.Core.Bool.{Bool, true, false}
+use mathlib.Core.Logic.{◌≢◌, inl, inr}
+use mathlib.Core.Bool.{true}
 use mathlib.Core.List.{List, [], ◌∷◌}
-use Prim.Native.Nat.{ℕ, zero, suc, ◌+◌, ◌-◌, ◌≤◌, ◌<◌}
+use Prim.Native.Nat.{ℕ, suc, ◌+◌, ◌-◌, ◌≤◌, ◌<◌}
 use native.Mathlib.Omega.{arith}
 use native.Mathlib.Decide.{ℕ_discrete}
-use lib.ListN.{length, get_or, set, length-set}
+use lib.ListN.{length, get_or, set}
 use lib.Seq.{get_or-set_same, get_or-set_other}
-use Rattle.words.specs.Edition.{one}
 use Rattle.words.specs.Logic.{list_from}
-use Rattle.words.proofs.Tests.{no_true}
 use Rattle.points.specs.declared.Point.{Point}
-use Rattle.points.specs.Serving.{Turned, in_turn, rounds}
-use Rattle.c_lent.specs.Numbers.{SharedLent, PointLent, lend_point}
-use Rattle.c_lent.specs.Serving.{CommonLent, ListedLent, common_lent, listed_lent, point_as, turn_left, listed_at, kind_goes_on, step_turn_for}
+use Rattle.points.specs.Serving.{Turned, in_turn}
+use Rattle.c_lent.specs.Numbers.{PointLent, lend_point}
+use Rattle.c_lent.specs.Serving.{CommonLent, ListedLent, listed_lent, point_as, turn_left, listed_at, kind_goes_on, step_turn_for}
 use Rattle.c_lent.specs.Batch.{ReadyAt, AllReady, Plain, one_on, NextWords, Lengths}
 use Rattle.c_lent.proofs.InTurn.{Reached, reached-start, reached-next, reached-end}
 use Rattle.c_lent.proofs.Turns.{listed_same, listed-other}
 use Rattle.c_lent.proofs.ReadyAt.{good-next}
-use Rattle.c_lent.proofs.Plain.{one_on_lem, none-on}
+use Rattle.c_lent.proofs.Plain.{one_on_lem}
 
 -- ---- a round of any kind
 

@@ -1,9 +1,9 @@
 -- How many words all points have left to store one by one, and their rows.
-use mathlib.Core.Path.{◌≡◌, refl, sym, ap, ◌∙◌, subst}
-use mathlib.Core.Logic.{◌≢◌, ◌⊎◌, inl, inr}
-use mathlib.Core.Bool.{true, false}
+use mathlib.Core.Path.{◌≡◌, refl, sym, ◌∙◌, subst}
+use mathlib.Core.Logic.{inl, inr}
+use mathlib.Core.Bool.{true}
 use mathlib.Core.List.{List, [], ◌∷◌}
-use Prim.Native.Nat.{ℕ, suc, ◌+◌, ◌*◌, ◌-◌, ◌/◌, ◌%◌, ◌≤◌, ◌<◌}
+use Prim.Native.Nat.{ℕ, ◌+◌, ◌*◌, ◌-◌, ◌/◌, ◌%◌, ◌≤◌, ◌<◌}
 use native.Mathlib.Omega.{arith}
 use native.Mathlib.Decide.{ℕ_discrete}
 use lib.ListN.{length, get_or, set}
@@ -11,14 +11,14 @@ use lib.Seq.{get_or-set_same, get_or-set_other}
 use Rattle.words.specs.Edition.{one}
 use Rattle.points.specs.declared.Head.{Head}
 use Rattle.points.specs.declared.serve.Row.{Row}
-use Rattle.points.specs.Record.{span, run_words}
+use Rattle.points.specs.Record.{span}
 use Rattle.points.specs.Lent.{TextFits}
 use Rattle.points.specs.Batch.{row_of, Fillable}
 use Rattle.points.proofs.Ready.{ready-text}
 use Rattle.points.proofs.Rows.{row_same}
 use Rattle.c_lent.specs.Numbers.{PointLent, head_from, is_known}
 use Rattle.c_lent.specs.Serving.{CommonLent, ListedLent, listed_at, kind_goes_on}
-use Rattle.c_lent.specs.Batch.{ReadyAt, AllReady, Fills, Zeroes, PlainAt, Plain, row_from, RowAt, RowFor, RowOn, RowIs, Lengths}
+use Rattle.c_lent.specs.Batch.{ReadyAt, AllReady, PlainAt, Plain, RowAt, RowFor, RowOn, RowIs, Lengths}
 use Rattle.c_lent.proofs.ReadyAt.{is-ready, is_known_lem}
 
 -- ---- words

@@ -1,6 +1,5 @@
 -- Answers and records in numbers, as C has them.
 use Rattle.std.specs.Prelude.{ℕ, Bool, ◌&&◌, List, [], ◌∷◌, get_or, drop, leb}
-use Rattle.std.specs.Borrow.{Bor}
 use Rattle.block_log.specs.declared.Shared.{Shared}
 use Rattle.block_log.specs.declared.Opened as log
 use Rattle.block_log.specs.Opening.{number_of}
@@ -85,15 +84,15 @@ abbrev pub shared_as : List ℕ → List ℕ → SharedLent
 shared_as numbers taken = record { numbers = numbers; taken = taken }
 
 -- what a call's references hold
-abbrev pub shared_lent : Bor (List ℕ) → Bor (List ℕ) → SharedLent
-shared_lent shared taken = shared_as shared.now taken.now
+abbrev pub shared_lent : List ℕ → List ℕ → SharedLent
+shared_lent shared taken = shared_as shared taken
 
-abbrev pub point_lent : Bor (List ℕ) → Bor (List ℕ) → Bor (List ℕ) → PointLent
-point_lent head table text = record { head = head.now; table = table.now; text = text.now }
+abbrev pub point_lent : List ℕ → List ℕ → List ℕ → PointLent
+point_lent head table text = record { head = head; table = table; text = text }
 
 -- leaving, reading and locating do not look at the text
-abbrev pub textless : Bor (List ℕ) → Bor (List ℕ) → PointLent
-textless head table = record { head = head.now; table = table.now; text = no_text }
+abbrev pub textless : List ℕ → List ℕ → PointLent
+textless head table = record { head = head; table = table; text = no_text }
 
 -- the records that are lent
 abbrev pub shared_in : SharedLent → Shared

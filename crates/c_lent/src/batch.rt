@@ -123,11 +123,11 @@ fn by_rows(
     m: u32,
 )
     requires { Lengths (length heads.old) heads.old tables.now texts.now answers.old × (length heads.old ≤ 32) × (0 < m)
-        × AllReady (common_lent image.old (shared_lent shared taken)) (length heads.old) (listed_at heads.old tables.now texts.now answers.old)
+        × AllReady (common_lent image.old (shared_lent shared.now taken.now)) (length heads.old) (listed_at heads.old tables.now texts.now answers.old)
         × ((i : ℕ) → i < length heads.old → kind_goes_on (get_or (get_or answers.old i []) 0 0) ≡ true → PlainAt m (get_or heads.old i [])) }
-    ensures { let c = common_lent image.new (shared_lent shared.entry taken.entry) in
+    ensures { let c = common_lent image.new (shared_lent shared.now taken.now) in
         (turn_left c (listed heads.new tables.now texts.now answers.new)
-        ≡ rounds m step_turn_for (common_lent image.old (shared_lent shared.entry taken.entry))
+        ≡ rounds m step_turn_for (common_lent image.old (shared_lent shared.now taken.now))
         (listed heads.old tables.now texts.now answers.old))
         × AllReady c (length heads.old) (listed_at heads.new tables.now texts.now answers.new) }
 {
@@ -183,11 +183,11 @@ fn plain_batch(
     m: u32,
 )
     requires { Lengths (length heads.old) heads.old tables.now texts.now answers.old × (length heads.old ≤ 32) × (0 < m)
-        × AllReady (common_lent image.old (shared_lent shared taken)) (length heads.old) (listed_at heads.old tables.now texts.now answers.old)
+        × AllReady (common_lent image.old (shared_lent shared.now taken.now)) (length heads.old) (listed_at heads.old tables.now texts.now answers.old)
         × ((i : ℕ) → i < length heads.old → kind_goes_on (get_or (get_or answers.old i []) 0 0) ≡ true → PlainAt m (get_or heads.old i [])) }
-    ensures { let c = common_lent image.new (shared_lent shared.entry taken.entry) in
+    ensures { let c = common_lent image.new (shared_lent shared.now taken.now) in
         (turn_left c (listed heads.new tables.now texts.now answers.new)
-        ≡ rounds m step_turn_for (common_lent image.old (shared_lent shared.entry taken.entry))
+        ≡ rounds m step_turn_for (common_lent image.old (shared_lent shared.now taken.now))
         (listed heads.old tables.now texts.now answers.old))
         × AllReady c (length heads.old) (listed_at heads.new tables.now texts.now answers.new) }
 {
@@ -228,13 +228,13 @@ pub(crate) fn batch(
     most: u32,
 ) -> u32
     requires { Lengths (length heads.old) heads.old tables.old texts.old answers.old × (length heads.old ≤ 32) × (0 < most)
-        × AllReady (common_lent image.old (shared_lent shared taken)) (length heads.old) (listed_at heads.old tables.old texts.old answers.old) }
+        × AllReady (common_lent image.old (shared_lent shared.old taken.old)) (length heads.old) (listed_at heads.old tables.old texts.old answers.old) }
     ensures { (0 < result) × (result ≤ most)
-        × (turn_left (common_lent image.new (shared_lent shared.exit taken.exit))
+        × (turn_left (common_lent image.new (shared_lent shared.new taken.new))
         (listed heads.new tables.new texts.new answers.new)
-        ≡ rounds result step_turn_for (common_lent image.old (shared_lent shared.entry taken.entry))
+        ≡ rounds result step_turn_for (common_lent image.old (shared_lent shared.old taken.old))
         (listed heads.old tables.old texts.old answers.old))
-        × AllReady (common_lent image.new (shared_lent shared.exit taken.exit)) (length heads.old)
+        × AllReady (common_lent image.new (shared_lent shared.new taken.new)) (length heads.old)
         (listed_at heads.new tables.new texts.new answers.new) }
 {
     let words = plain_words(heads, answers);

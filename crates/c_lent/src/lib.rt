@@ -2,6 +2,7 @@
 // the 32 reports, `taken` the map; `head` the eleven numbers of a point's record, beside `table` and `text`. Crate `c_api` exports them to C, on whole
 // records.
 #![tactic(auto)]
+
 ghost use Rattle.std.specs.Prelude.{◌≡◌};
 ghost use Rattle.c_lent.specs.Numbers.{shared_lent, point_lent, textless};
 ghost use Rattle.c_lent.specs.Calls.{OpensFor, left, step_left, shared_left, read_left};
@@ -48,7 +49,7 @@ pub fn open(
     taken: &mut [u64; 16],
 ) -> Opened
     ensures { OpensFor image.now scratch.old result scratch.new
-        × (shared_lent shared.exit taken.exit ≡ shared_for image.now scratch.old) }
+        × (shared_lent shared.new taken.new ≡ shared_for image.now scratch.old) }
 {
     let opened = block_log::open::open(image, scratch);
     let kept = opened.shared;
@@ -67,8 +68,8 @@ pub fn join(
     table: &mut [u16; 256],
     text: &mut [u8; 1024],
 ) -> u32
-    ensures { left result (shared_lent shared.exit taken.exit) (point_lent head.exit table.exit text.exit)
-        ≡ join_for image.now (shared_lent shared.entry taken.entry) number }
+    ensures { left result (shared_lent shared.new taken.new) (point_lent head.new table.new text.new)
+        ≡ join_for image.now (shared_lent shared.old taken.old) number }
 {
     let joined = points::join::join(image, numbers::shared(shared, taken), number);
     let reply = joined.reply;
@@ -96,8 +97,8 @@ pub fn begin(
     offset: usize,
     bytes: &[u8],
 ) -> u32
-    ensures { left result (shared_lent shared.exit taken.exit) (point_lent head.exit table.exit text.exit) ≡ begin_for image.now
-        (shared_lent shared.entry taken.entry) (point_lent head.entry table.entry text.entry) offset bytes.now }
+    ensures { left result (shared_lent shared.new taken.new) (point_lent head.new table.new text.new) ≡ begin_for image.now
+        (shared_lent shared.old taken.old) (point_lent head.old table.old text.old) offset bytes.now }
 {
     if !numbers::is_known(head) {
         return numbers::unknown(image, shared);
@@ -130,8 +131,8 @@ pub fn begin_read(
     offset: usize,
     size: usize,
 ) -> u32
-    ensures { left result (shared_lent shared.exit taken.exit) (point_lent head.exit table.exit text.exit) ≡ begin_read_for
-        image.now (shared_lent shared.entry taken.entry) (point_lent head.entry table.entry text.entry) offset size }
+    ensures { left result (shared_lent shared.new taken.new) (point_lent head.new table.new text.new) ≡ begin_read_for
+        image.now (shared_lent shared.old taken.old) (point_lent head.old table.old text.old) offset size }
 {
     if !numbers::is_known(head) {
         return numbers::unknown(image, shared);
@@ -162,8 +163,8 @@ pub fn step(
     text: &mut [u8; 1024],
     bytes: &mut [u8; 1024],
 ) -> Answer
-    ensures { step_left result image.new (shared_lent shared.exit taken.exit) (point_lent head.exit table.exit text.exit)
-        bytes.new ≡ step_for image.old (shared_lent shared.entry taken.entry) (point_lent head.entry table.entry text.entry)
+    ensures { step_left result image.new (shared_lent shared.new taken.new) (point_lent head.new table.new text.new)
+        bytes.new ≡ step_for image.old (shared_lent shared.old taken.old) (point_lent head.old table.old text.old)
         bytes.old }
 {
     if !numbers::is_known(head) {
@@ -194,8 +195,8 @@ pub fn leave(
     head: &[u32; 11],
     table: &[u16; 256],
 ) -> u32
-    ensures { shared_left result (shared_lent shared.exit taken.exit)
-        ≡ leave_for image.now (shared_lent shared.entry taken.entry) (textless head.entry table.entry) }
+    ensures { shared_left result (shared_lent shared.new taken.new)
+        ≡ leave_for image.now (shared_lent shared.old taken.old) (textless head.now table.now) }
 {
     if !numbers::is_known(head) {
         return numbers::unknown(image, shared);
@@ -224,7 +225,7 @@ pub fn read(
     buffer: &mut [u8],
 ) -> Count
     ensures { read_left result buffer.new
-        ≡ read_for image.now (shared_lent shared.entry taken.entry) (textless head.entry table.entry) offset buffer.old }
+        ≡ read_for image.now (shared_lent shared.now taken.now) (textless head.now table.now) offset buffer.old }
 {
     if !numbers::is_known(head) {
         return numbers::no_count(numbers::unknown(image, shared));
@@ -247,7 +248,7 @@ pub fn locate(
     table: &[u16; 256],
     block: usize,
 ) -> Count
-    ensures { result ≡ locate_for image.now (shared_lent shared.entry taken.entry) (textless head.entry table.entry) block }
+    ensures { result ≡ locate_for image.now (shared_lent shared.now taken.now) (textless head.now table.now) block }
 {
     if !numbers::is_known(head) {
         return numbers::no_count(numbers::unknown(image, shared));

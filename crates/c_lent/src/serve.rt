@@ -33,10 +33,10 @@ fn all_rounds(
     most: u32,
 )
     requires { Lengths (length heads.old) heads.old tables.old texts.old answers.old × (length heads.old ≤ 32)
-        × AllReady (common_lent image.old (shared_lent shared taken)) (length heads.old) (listed_at heads.old tables.old texts.old answers.old) }
-    ensures { turn_left (common_lent image.new (shared_lent shared.exit taken.exit))
+        × AllReady (common_lent image.old (shared_lent shared.old taken.old)) (length heads.old) (listed_at heads.old tables.old texts.old answers.old) }
+    ensures { turn_left (common_lent image.new (shared_lent shared.new taken.new))
         (listed heads.new tables.new texts.new answers.new)
-        ≡ rounds most step_turn_for (common_lent image.old (shared_lent shared.entry taken.entry))
+        ≡ rounds most step_turn_for (common_lent image.old (shared_lent shared.old taken.old))
         (listed heads.old tables.old texts.old answers.old) }
 {
     let mut bytes = [0u8; 1024];
@@ -157,9 +157,9 @@ pub fn serve(
     writes: &[[usize; 2]],
     bytes: &[u8],
 ) -> u32
-    ensures { serve_left result (common_lent image.new (shared_lent shared.exit taken.exit))
+    ensures { serve_left result (common_lent image.new (shared_lent shared.new taken.new))
         heads.new tables.new texts.new answers.new
-        ≡ serve_for (common_lent image.old (shared_lent shared.entry taken.entry))
+        ≡ serve_for (common_lent image.old (shared_lent shared.old taken.old))
         heads.old tables.old texts.old answers.old writes.now bytes.now }
 {
     let refused = reason(

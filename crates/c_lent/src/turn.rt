@@ -37,10 +37,10 @@ fn begin_turn(
     offset: usize,
     bytes: &[u8],
 )
-    ensures { turn_left (common_lent image.now (shared_lent shared.exit taken.exit))
-        (listed_lent (point_lent head.exit table.exit text.exit) answer.new)
-        ≡ begin_turn_for (common_lent image.now (shared_lent shared.entry taken.entry))
-        (asking_lent (point_lent head.entry table.entry text.entry) offset bytes.now) }
+    ensures { turn_left (common_lent image.now (shared_lent shared.new taken.new))
+        (listed_lent (point_lent head.new table.new text.new) answer.new)
+        ≡ begin_turn_for (common_lent image.now (shared_lent shared.old taken.old))
+        (asking_lent (point_lent head.old table.old text.old) offset bytes.now) }
 {
     let refused = crate::begin(image, shared, taken, head, table, text, offset, bytes);
     *answer = begun_answer(refused);
@@ -59,9 +59,9 @@ pub(crate) fn begin_all(
     bytes: &[u8],
 )
     requires { Lent heads.old tables.old texts.old answers.old writes.now bytes.now }
-    ensures { let c = common_lent image.now (shared_lent shared.exit taken.exit) in
+    ensures { let c = common_lent image.now (shared_lent shared.new taken.new) in
         (turn_left c (listed heads.new tables.new texts.new answers.new)
-        ≡ in_turn begin_turn_for (common_lent image.now (shared_lent shared.entry taken.entry))
+        ≡ in_turn begin_turn_for (common_lent image.now (shared_lent shared.old taken.old))
         (asking heads.old tables.old texts.old writes.now bytes.now))
         × AllReady c (length heads.old) (listed_at heads.new tables.new texts.new answers.new) }
 {
@@ -141,12 +141,12 @@ fn ready_step(
     text: &mut [u8; 1024],
     bytes: &mut [u8; 1024],
 ) -> [u32; 2]
-    requires { Steps image.old (shared_lent shared taken) (point_lent head table text) }
+    requires { Steps image.old (shared_lent shared.old taken.old) (point_lent head.old table.old text.old) }
     ensures { (a : List ℕ) → kind_goes_on (get_or a 0 0) ≡ true
-        → turn_left (common_lent image.new (shared_lent shared.exit taken.exit))
-        (listed_lent (point_lent head.exit table.exit text.exit) result)
-        ≡ step_turn_for (common_lent image.old (shared_lent shared.entry taken.entry))
-        (listed_lent (point_lent head.entry table.entry text.entry) a) }
+        → turn_left (common_lent image.new (shared_lent shared.new taken.new))
+        (listed_lent (point_lent head.new table.new text.new) result)
+        ≡ step_turn_for (common_lent image.old (shared_lent shared.old taken.old))
+        (listed_lent (point_lent head.old table.old text.old) a) }
 {
     if moves_on(image, shared, head, table) {
         return [2, 0];
@@ -170,11 +170,11 @@ fn turn(
     answer: &mut [u32; 2],
     bytes: &mut [u8; 1024],
 )
-    requires { kind_goes_on (get_or answer.old 0 0) ≡ true → Steps image.old (shared_lent shared taken) (point_lent head table text) }
-    ensures { turn_left (common_lent image.new (shared_lent shared.exit taken.exit))
-        (listed_lent (point_lent head.exit table.exit text.exit) answer.new)
-        ≡ step_turn_for (common_lent image.old (shared_lent shared.entry taken.entry))
-        (listed_lent (point_lent head.entry table.entry text.entry) answer.old) }
+    requires { kind_goes_on (get_or answer.old 0 0) ≡ true → Steps image.old (shared_lent shared.old taken.old) (point_lent head.old table.old text.old) }
+    ensures { turn_left (common_lent image.new (shared_lent shared.new taken.new))
+        (listed_lent (point_lent head.new table.new text.new) answer.new)
+        ≡ step_turn_for (common_lent image.old (shared_lent shared.old taken.old))
+        (listed_lent (point_lent head.old table.old text.old) answer.old) }
 {
     if goes_on(answer[0]) {
         *answer = ready_step(image, shared, taken, head, table, text, bytes);
@@ -193,10 +193,10 @@ pub(crate) fn round(
     bytes: &mut [u8; 1024],
 )
     requires { Lengths (length heads.old) heads.old tables.old texts.old answers.old
-        × AllReady (common_lent image.old (shared_lent shared taken)) (length heads.old) (listed_at heads.old tables.old texts.old answers.old) }
-    ensures { let c = common_lent image.new (shared_lent shared.exit taken.exit) in
+        × AllReady (common_lent image.old (shared_lent shared.old taken.old)) (length heads.old) (listed_at heads.old tables.old texts.old answers.old) }
+    ensures { let c = common_lent image.new (shared_lent shared.new taken.new) in
         (turn_left c (listed heads.new tables.new texts.new answers.new)
-        ≡ in_turn step_turn_for (common_lent image.old (shared_lent shared.entry taken.entry))
+        ≡ in_turn step_turn_for (common_lent image.old (shared_lent shared.old taken.old))
         (listed heads.old tables.old texts.old answers.old))
         × AllReady c (length heads.old) (listed_at heads.new tables.new texts.new answers.new) }
 {

@@ -17,9 +17,9 @@ pub extern "C" fn store_serve_parts(
     writes: &[[usize; 2]],
     bytes: &[u8],
 ) -> u32
-    ensures { serve_left result (common_lent image.new (shared_lent shared.exit taken.exit))
+    ensures { serve_left result (common_lent image.new (shared_lent shared.new taken.new))
         heads.new tables.new texts.new answers.new
-        ≡ serve_for (common_lent image.old (shared_lent shared.entry taken.entry))
+        ≡ serve_for (common_lent image.old (shared_lent shared.old taken.old))
         heads.old tables.old texts.old answers.old writes.now bytes.now }
 {
     c_lent::serve::serve(

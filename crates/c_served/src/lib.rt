@@ -1,6 +1,7 @@
 // The calls for C, each with what it leaves in a list of calls as its contract: the claims of `recovery` hold of what C calls. Opening, reading and locating
 // are beside them, as in recovery/src/code.rt; serving a list of points is a row of them. Nothing here runs.
 #![tactic(auto)]
+
 ghost use Rattle.c_lent.specs.Numbers.{shared_lent, point_lent, textless};
 ghost use Rattle.c_lent.specs.Calls.{left, step_left, shared_left, read_left};
 ghost use Rattle.c_lent.specs.Serving.{common_lent, serve_left};
@@ -15,7 +16,7 @@ pub fn open(
     shared: &mut [u32; 35],
     taken: &mut [u64; 16],
 ) -> Opened
-    ensures { OpenServedFor image.now scratch.old result.refused (shared_lent shared.exit taken.exit) }
+    ensures { OpenServedFor image.now scratch.old result.refused (shared_lent shared.new taken.new) }
 {
     c_lent::open(image, scratch, shared, taken)
 }
@@ -29,8 +30,8 @@ pub fn join(
     table: &mut [u16; 256],
     text: &mut [u8; 1024],
 ) -> u32
-    ensures { JoinServedFor image.now (shared_lent shared.entry taken.entry) number
-        (left result (shared_lent shared.exit taken.exit) (point_lent head.exit table.exit text.exit)) }
+    ensures { JoinServedFor image.now (shared_lent shared.old taken.old) number
+        (left result (shared_lent shared.new taken.new) (point_lent head.new table.new text.new)) }
 {
     c_lent::join(image, shared, taken, number, head, table, text)
 }
@@ -45,8 +46,8 @@ pub fn begin(
     offset: usize,
     bytes: &[u8],
 ) -> u32
-    ensures { BeginServedFor image.now (shared_lent shared.entry taken.entry) (point_lent head.entry table.entry text.entry)
-        offset bytes.now (left result (shared_lent shared.exit taken.exit) (point_lent head.exit table.exit text.exit)) }
+    ensures { BeginServedFor image.now (shared_lent shared.old taken.old) (point_lent head.old table.old text.old)
+        offset bytes.now (left result (shared_lent shared.new taken.new) (point_lent head.new table.new text.new)) }
 {
     c_lent::begin(image, shared, taken, head, table, text, offset, bytes)
 }
@@ -61,9 +62,9 @@ pub fn begin_read(
     offset: usize,
     size: usize,
 ) -> u32
-    ensures { BeginReadServedFor image.now (shared_lent shared.entry taken.entry)
-        (point_lent head.entry table.entry text.entry) offset size
-        (left result (shared_lent shared.exit taken.exit) (point_lent head.exit table.exit text.exit)) }
+    ensures { BeginReadServedFor image.now (shared_lent shared.old taken.old)
+        (point_lent head.old table.old text.old) offset size
+        (left result (shared_lent shared.new taken.new) (point_lent head.new table.new text.new)) }
 {
     c_lent::begin_read(image, shared, taken, head, table, text, offset, size)
 }
@@ -77,8 +78,8 @@ pub fn step(
     text: &mut [u8; 1024],
     bytes: &mut [u8; 1024],
 ) -> Answer
-    ensures { StepServedFor image.old (shared_lent shared.entry taken.entry) (point_lent head.entry table.entry text.entry)
-        bytes.old (step_left result image.new (shared_lent shared.exit taken.exit) (point_lent head.exit table.exit text.exit)
+    ensures { StepServedFor image.old (shared_lent shared.old taken.old) (point_lent head.old table.old text.old)
+        bytes.old (step_left result image.new (shared_lent shared.new taken.new) (point_lent head.new table.new text.new)
         bytes.new) }
 {
     c_lent::step(image, shared, taken, head, table, text, bytes)
@@ -91,8 +92,8 @@ pub fn leave(
     head: &[u32; 11],
     table: &[u16; 256],
 ) -> u32
-    ensures { LeaveServedFor image.now (shared_lent shared.entry taken.entry) (textless head.entry table.entry)
-        (shared_left result (shared_lent shared.exit taken.exit)) }
+    ensures { LeaveServedFor image.now (shared_lent shared.old taken.old) (textless head.now table.now)
+        (shared_left result (shared_lent shared.new taken.new)) }
 {
     c_lent::leave(image, shared, taken, head, table)
 }
@@ -106,7 +107,7 @@ pub fn read(
     offset: usize,
     buffer: &mut [u8],
 ) -> Count
-    ensures { ReadServedFor image.now (shared_lent shared.entry taken.entry) (textless head.entry table.entry)
+    ensures { ReadServedFor image.now (shared_lent shared.now taken.now) (textless head.now table.now)
         offset buffer.old (read_left result buffer.new) }
 {
     c_lent::read(image, shared, taken, head, table, offset, buffer)
@@ -120,7 +121,7 @@ pub fn locate(
     table: &[u16; 256],
     block: usize,
 ) -> Count
-    ensures { LocateServedFor image.now (shared_lent shared.entry taken.entry) (textless head.entry table.entry) block result }
+    ensures { LocateServedFor image.now (shared_lent shared.now taken.now) (textless head.now table.now) block result }
 {
     c_lent::locate(image, shared, taken, head, table, block)
 }
@@ -136,9 +137,9 @@ pub fn serve(
     writes: &[[usize; 2]],
     bytes: &[u8],
 ) -> u32
-    ensures { ServeServedFor (common_lent image.old (shared_lent shared.entry taken.entry))
+    ensures { ServeServedFor (common_lent image.old (shared_lent shared.old taken.old))
         heads.old tables.old texts.old answers.old writes.now bytes.now
-        (serve_left result (common_lent image.new (shared_lent shared.exit taken.exit))
+        (serve_left result (common_lent image.new (shared_lent shared.new taken.new))
         heads.new tables.new texts.new answers.new) }
 {
     c_lent::serve::serve(

@@ -1,6 +1,4 @@
 pub mod Numbers
-pub mod Again
-pub mod Steps
 pub mod Lent
 pub mod Shown
 pub mod Rows

@@ -1,6 +1,7 @@
 // Serving a list of points whose records are lent as one list. `serve` takes a record out of the list, has its turn made, and puts it back; all else is in
 // functions that take one record by value. The definitions are in specs/.
 #![tactic(auto)]
+
 ghost use Rattle.std.specs.Prelude.{◌≡◌, true, ◌+◌, ◌≤◌, ◌<◌, length, take, eqb};
 ghost use Rattle.words.specs.Edition.{one};
 ghost use Rattle.words.specs.Logic.{member};

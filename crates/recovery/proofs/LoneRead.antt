@@ -9,7 +9,7 @@ use lib.Dec.{ltb}
 use borrow.Author.Tests.{ltb-true, le-ltb}
 use Rattle.words.specs.Edition.{Edition}
 use Rattle.words.specs.Logic.{some_of, up_from}
-use Rattle.words.specs.Memory.{memory, block_count, after}
+use Rattle.words.specs.Memory.{memory, block_count}
 use Rattle.block_log.specs.Entry.{covers}
 use Rattle.block_log.specs.CatchUp as K
 use Rattle.block_log.specs.CatchUp.{ahead}

@@ -2,7 +2,7 @@
 -- table: with some thousand words that is too much for the checker to do some thousand times. A step of `cut_serve` is one of `serve` with the
 -- image kept cut, and with a table that is known to fit not looked at again; the other calls, which are few, put the image together.
 -- `cut-run-is` says that a list of calls gives the same, `by_blocks` that cases tested on the blocks hold of the definitions.
-use Prim.Native.Nat.{ℕ, zero, suc, ◌+◌, ◌*◌, ◌-◌, ◌/◌}
+use Prim.Native.Nat.{ℕ, zero, suc, ◌+◌, ◌*◌, ◌/◌}
 use native.Mathlib.Omega.{arith}
 use native.Mathlib.Nat.{suc-mul, zero-mul}
 use mathlib.Core.Path.{◌≡◌, refl, sym, ap, ap₂, subst, ◌∙◌}

@@ -1,25 +1,21 @@
 -- The cases at other block sizes hold of the definitions. Sessions and lone writes are computed on the blocks, refusals and the values of the bound as they
 -- stand; that one step less does not finish a write follows from the answers. Assumes nothing.
-use Prim.Native.Nat.{ℕ, zero, suc, ◌+◌, ◌-◌, ◌<◌}
+use Prim.Native.Nat.{ℕ, suc, ◌-◌, ◌<◌}
 use native.Mathlib.Omega.{arith}
-use mathlib.Core.Path.{◌≡◌, refl, sym, ap₂, subst}
-use mathlib.Core.Bool.{Bool, true, false, ◌||◌}
-use mathlib.Core.List.{List, [], ◌∷◌, ◌++◌, map}
+use mathlib.Core.Path.{◌≡◌, refl, sym, subst}
+use mathlib.Core.Bool.{true, false}
+use mathlib.Core.List.{List, ◌++◌, map}
 use lib.ListN.{length, take, drop}
-use lib.Dec.{ltb}
-use borrow.Author.Tests.{ltb-true}
 use Rattle.words.specs.Edition.{Edition, one, two}
-use Rattle.words.specs.Logic.{all_of, some_of}
+use Rattle.words.specs.Logic.{some_of}
 use Rattle.points.specs.declared.StepAnswer.TheVariants.{Stored, Moved, Extending, Committed, Refused, Copied, Bytes}
-use Rattle.points.specs.Record.{no_point}
 use Rattle.recovery.specs.Computing.{computing}
-use Rattle.recovery.specs.World.{World, Call, step, Event, joined, begun, begun_read, stepped, left, serve, world, events}
+use Rattle.recovery.specs.World.{Event, joined, begun, begun_read, stepped, left, world, events}
 use Rattle.recovery.specs.History.{alone, finishes}
 use Rattle.recovery.specs.Claim.{lone_steps}
-use Rattle.recovery.specs.Sessions.{◌is◌, code}
+use Rattle.recovery.specs.Sessions.{code}
 use Rattle.recovery.specs.OtherSizes.{OtherSizes, wide128, wide256, laid_world, session_calls, session_cases, reopened_cases, size_cases, bound_cases}
 use Rattle.recovery.specs.OtherSizes.{nearly_full, lone_start, lone_calls, lone_said, lone_cases, Tight}
-use Rattle.words.proofs.Logic.{and_left, and_right}
 use Rattle.recovery.proofs.Computed.{test, agree}
 use Rattle.recovery.proofs.OnBlocks.{test_on, by_blocks, on_blocks}
 use Rattle.recovery.proofs.NoSooner.{low, no-sooner}

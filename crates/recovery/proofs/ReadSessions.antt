@@ -12,7 +12,7 @@ use Rattle.recovery.specs.World.{Event, joined, begun, begun_read, stepped, left
 use Rattle.recovery.specs.History.{answers_read}
 use Rattle.recovery.specs.Sessions.{code, eight_world}
 use Rattle.recovery.specs.ReadSessions.{example_calls, example_cases, meet_calls, meet_cases, refused_calls, refused_cases, answered}
-use Rattle.recovery.specs.ReadSessions.{lone_read_start, lone_read_calls, lone_read_said, lone_read_cases, TightRead, ReadSessions}
+use Rattle.recovery.specs.ReadSessions.{lone_read_start, lone_read_calls, lone_read_cases, TightRead, ReadSessions}
 use Rattle.recovery.specs.Sessions.{moved}
 use Rattle.recovery.proofs.OnBlocks.{test_on, by_blocks, on_blocks}
 use Rattle.recovery.proofs.NoSooner.{low, no-sooner}

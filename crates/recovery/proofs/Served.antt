@@ -4,7 +4,6 @@ use mathlib.Core.Path.{◌≡◌, sym, ap, ◌∙◌}
 use mathlib.Core.List.{List}
 use lib.ListN.{length}
 use Rattle.words.specs.Edition.{one}
-use Rattle.words.specs.Memory.{after}
 use Rattle.block_log.specs.declared.Shared.{Shared}
 use Rattle.block_log.specs.declared.Reply.{Reply}
 use Rattle.block_log.specs.declared.Opened.{Opened}

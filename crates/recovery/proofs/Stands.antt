@@ -1,9 +1,8 @@
 -- Where each point stands: what is reported is true at every cut, and so is the chain's length; no walk is cut short, and 20 never comes at the link.
 use mathlib.Core.Path.{◌≡◌, refl, sym, ap, ◌∙◌, subst}
-use mathlib.Core.Logic.{◌≢◌}
 use mathlib.Core.Bool.{Bool, true, false}
 use mathlib.Core.List.{List}
-use Prim.Native.Nat.{ℕ, zero, suc, ◌≤◌, ◌<◌}
+use Prim.Native.Nat.{ℕ, zero, suc, ◌≤◌}
 use native.Mathlib.Omega.{arith}
 use native.Mathlib.Decide.{dec_le}
 use lib.Dec.{ltb}
@@ -26,7 +25,6 @@ use Rattle.points.proofs.NotRefused.{step_fits}
 use Rattle.points.proofs.RecordFacts.{fits-write}
 use Rattle.points.proofs.Phases.{writing-busy, writing-apart}
 use Rattle.points.proofs.StepCases.{fits-zeroing, zeroing-slot, on-zeroing, zero-on, link_on, lost-on}
-use Rattle.words.proofs.Grid.{word_at}
 use Rattle.words.proofs.Tests.{zero_is, no_true}
 use Rattle.block_log.proofs.Hops.{hop}
 use Rattle.recovery.specs.World as W

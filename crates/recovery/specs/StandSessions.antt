@@ -1,12 +1,10 @@
 -- Cases of reports and of the chain's length (document 02, K4), which nobody needs to believe the claims: who reports what, what 20 reads and frees, where
 -- records are altered too, and a chain that leads round.
-use Rattle.std.specs.Prelude.{ℕ, ◌*◌, List, [], ◌∷◌, ◌++◌, map, length, take, replicate}
-use Rattle.std.proofs.Math.Option.{none, some}
+use Rattle.std.specs.Prelude.{ℕ, List, [], ◌∷◌, ◌++◌, map, take, replicate}
 use Rattle.words.specs.Edition.{one}
-use Rattle.words.specs.Memory.{Store, put}
+use Rattle.words.specs.Memory.{put}
 use Rattle.words.specs.BlockMap.{free_count}
 use Rattle.block_log.specs.declared.Shared.{Shared}
-use Rattle.points.specs.declared.StepAnswer.TheVariants.{Refused as Stopped}
 use Rattle.points.specs.Record.{no_point, phase_number}
 use Rattle.points.specs.Search.{shared_of, numbers_of, with_chain}
 use Rattle.points.specs.Plan.{Outcome}

@@ -3,8 +3,8 @@
 -- byte of the text.
 use mathlib.Core.Path.{◌≡◌, refl, sym, ap, ◌∙◌, subst}
 use mathlib.Core.Logic.{◌⊎◌, inl, inr}
-use mathlib.Core.List.{List, [], ◌∷◌}
-use mathlib.Core.Bool.{Bool, true, false, ◌&&◌, ◌||◌}
+use mathlib.Core.List.{List, []}
+use mathlib.Core.Bool.{Bool, true, false}
 use Prim.Native.Nat.{ℕ, zero, suc, ◌+◌, ◌*◌, ◌-◌, ◌/◌, ◌%◌, ◌≤◌, ◌<◌}
 use native.Mathlib.Omega.{arith}
 use native.Mathlib.Decide.{dec_lt, ℕ_discrete}
@@ -12,7 +12,7 @@ use lib.ListN.{length, get_or, take, length-replicate}
 use lib.Seq.{length-sets, length-take-le, get_or-take, ext_get_or}
 use lib.Dec.{ltb}
 use borrow.Author.Tests.{ltb-true, ltb-false, not-false, lt-ltb, le-ltb}
-use Rattle.words.specs.Edition.{Edition, block_bytes, file_end}
+use Rattle.words.specs.Edition.{Edition, block_bytes}
 use Rattle.words.specs.Logic.{some_of, up_from, list_from}
 use Rattle.words.specs.Memory.{Memory, memory}
 use Rattle.words.specs.BlockMap.{taken}
@@ -45,9 +45,9 @@ use Rattle.points.proofs.ReadWords.{byte-kept, byte-copied}
 use Rattle.recovery.specs.World as W
 use Rattle.recovery.specs.World.{with_newest, handed}
 use Rattle.recovery.specs.Book.{Book}
-use Rattle.recovery.proofs.Model.LogPlace.{LogEnd, place_at, place_of}
+use Rattle.recovery.proofs.Model.LogPlace.{place_at}
 use Rattle.recovery.proofs.Model.State.{ReadState, PointState, idle, reads}
-use Rattle.recovery.proofs.Model.Invariant.{PointInv, ReadInv, Empty, core-sound}
+use Rattle.recovery.proofs.Model.Invariant.{PointInv, ReadInv, Empty}
 use Rattle.recovery.proofs.Outcomes.Read.{there-inv, caught-inv, fresh-read, Sees, copy_read}
 use Rattle.recovery.proofs.Calls.Mapping.{point_of, world_of, read_of, Tied, tie, with_newest-same, with_newest-other, told-still, told-place}
 use Rattle.recovery.proofs.Calls.Mapping.{handed-newest, is-joined, refused-tied, idle-work, reading-work, free-work}

@@ -4,10 +4,10 @@ use mathlib.Core.Path.{◌≡◌, refl, sym, ap, ◌∙◌}
 use mathlib.Core.Logic.{◌⊎◌, inl, inr}
 use mathlib.Core.List.{List, []}
 use mathlib.Core.Bool.{true}
-use Prim.Native.Nat.{ℕ, zero, suc, ◌+◌, ◌*◌, ◌-◌, ◌/◌, ◌≤◌, ◌<◌}
+use Prim.Native.Nat.{ℕ, ◌+◌, ◌*◌, ◌-◌, ◌/◌, ◌≤◌, ◌<◌}
 use native.Mathlib.Omega.{arith}
 use native.Mathlib.Decide.{dec_lt}
-use lib.ListN.{length, get_or, get_or-eq_default}
+use lib.ListN.{get_or, get_or-eq_default}
 use Rattle.words.specs.Edition.{Edition, block_bytes, file_end}
 use Rattle.words.proofs.Tests.{no_true}
 use Rattle.block_log.proofs.Shown.{shown}
@@ -15,7 +15,7 @@ use Rattle.block_log.proofs.Cover.{View, apply_all, Clear, apply-clear}
 use Rattle.recovery.specs.Book.{Book}
 use Rattle.recovery.proofs.Model.LogPlace.{LogEnd, LogPlace, place_at}
 use Rattle.recovery.proofs.Model.Use.{Use}
-use Rattle.recovery.proofs.Model.State.{ReadState, Work, PointState, State}
+use Rattle.recovery.proofs.Model.State.{ReadState, Work, State}
 use Rattle.recovery.proofs.Model.Invariant.{FileInv, ReadInv, PlaceInv, PointInv, Inv, WorkInv, AtEnd, Held, Empty, at_tail}
 use Rattle.recovery.proofs.Model.Frame.{quiet_none, made}
 use Rattle.recovery.proofs.Model.Keep.{hold-inv, holds-nothing, stay}

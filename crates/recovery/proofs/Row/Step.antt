@@ -3,7 +3,7 @@ use mathlib.Core.Path.{◌≡◌, refl, sym, ap, ◌∙◌}
 use mathlib.Core.Logic.{◌≢◌, ◌⊎◌, inl, inr}
 use mathlib.Core.List.{List, []}
 use mathlib.Core.Bool.{Bool, true, false, ◌&&◌}
-use Prim.Native.Nat.{ℕ, zero, suc, ◌+◌, ◌*◌, ◌-◌, ◌/◌, ◌%◌, ◌≤◌, ◌<◌}
+use Prim.Native.Nat.{ℕ, suc, ◌+◌, ◌*◌, ◌-◌, ◌/◌, ◌%◌, ◌≤◌, ◌<◌}
 use native.Mathlib.Omega.{arith}
 use native.Mathlib.Decide.{dec_lt}
 use lib.ListN.{length}
@@ -23,7 +23,7 @@ use Rattle.points.specs.Fill.{next_word, new_word}
 use Rattle.points.specs.Search.{search}
 use Rattle.points.specs.Plan.{Outcome}
 use Rattle.points.specs.Serving.{step_goes_on}
-use Rattle.points.specs.Stepping.{stepping, at_end, refill, refill_after}
+use Rattle.points.specs.Stepping.{stepping, refill, refill_after}
 use Rattle.points.proofs.CarriedOut.{after_fill, after_commit, after_give_up, after_extend, after_link, after_give_back, after_zero, after_move}
 use Rattle.recovery.specs.World.{World}
 use Rattle.recovery.specs.Book.{Book}
