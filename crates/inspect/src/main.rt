@@ -2,41 +2,68 @@
 // What is printed comes from `words::bytes::words_of` and `inspection::inspect`, whose contracts say what it is; here it is only printed.
 #![tactic(auto)]
 
+ghost use Rattle.std.specs.Prelude.{IfOk, ◌≤◌};
+
 mod say;
 mod show;
 
+use inspection::Inspected;
 use std::io;
 use std::io::{BufWriter, Read, Write};
 
-// Prints what is in the image that is read.
+// Prints what was seen of an image of so many blocks.
+fn tell(out: &mut impl Write, blocks: usize, seen: &Inspected) -> io::Result<()> {
+    if show::verdict(out, seen.fault)? {
+        return Ok(());
+    }
+    let found = seen.found;
+    show::header(out, found)?;
+    show::blocks(out, blocks, &seen.uses)?;
+    show::chain(out, &seen.chain, found.chained as usize)?;
+    show::log(
+        out,
+        &seen.chain,
+        &seen.entries,
+        &seen.overruled,
+        found.entries as usize,
+    )?;
+    show::table(out, &seen.table)
+}
+
+// Prints what is in the image of these bytes and of those after them.
+fn show_image(out: &mut impl Write, bytes: &[u8], more: &[u8]) -> io::Result<()> {
+    let mut image = [0u64; 65536];
+    let j = words::bytes::words_of(bytes, &mut image);
+    let k = j + words::bytes::words_of(more, &mut image[j..]);
+    let mut scratch = [0u16; 1024];
+    let seen = inspection::inspect(&image[..k], &mut scratch);
+    tell(out, k / 64, &seen)
+}
+
+// What is read behind as many bytes as there is room for in the first half; nothing where the input ended there.
+fn read_rest(input: &mut impl Read, first: usize, rest: &mut [u8; 262145]) -> io::Result<usize>
+    ensures { IfOk result (λ n. n ≤ 262145) }
+{
+    if first < 262144 {
+        return Ok(0);
+    }
+    streams::read_full(input, rest)
+}
+
+// Prints what is in the image that is read. The buffers have room for one byte more than an image can have.
 fn inspect(input: &mut impl Read, out: &mut impl Write) -> io::Result<()> {
-    let mut bytes = [0u8; 524289];
-    let n = streams::read_full(input, &mut bytes)?;
+    let mut bytes = [0u8; 262144];
+    let mut more = [0u8; 262145];
+    let first = streams::read_full(input, &mut bytes)?;
+    let rest = read_rest(input, first, &mut more)?;
+    let n = first + rest;
     if 524288 < n {
         return show::too_long(out);
     }
     if n % 8 != 0 {
         return show::broken_word(out, n as u64);
     }
-    let mut image = [0u64; 65536];
-    let k = words::bytes::words_of(&bytes[..n], &mut image);
-    let mut scratch = [0u16; 1024];
-    let seen = inspection::inspect(&image[..k], &mut scratch);
-    let fault = seen.fault;
-    let found = seen.found;
-    if show::verdict(out, fault)? {
-        return Ok(());
-    }
-    show::header(out, found)?;
-    let uses = seen.uses;
-    show::blocks(out, k / 64, &uses)?;
-    let chain = seen.chain;
-    show::chain(out, &chain, found.chained as usize)?;
-    let entries = seen.entries;
-    let marks = seen.overruled;
-    show::log(out, &chain, &entries, &marks, found.entries as usize)?;
-    let table = seen.table;
-    show::table(out, &table)
+    show_image(out, &bytes[..first], &more[..rest])
 }
 
 // Writes in large pieces where there is memory for a buffer, and else each piece as it comes.
