@@ -1,6 +1,6 @@
 -- What the searches of the faults find, where there is something to find: the first number that is not 0, the first test that fails, the first bad
 -- log block, the first byte that is not 0. Each law says that the place is inside, and what stands there.
-use mathlib.Core.Path.{◌≡◌, refl}
+use mathlib.Core.Path.{◌≡◌, refl, sym, subst}
 use mathlib.Core.Logic.{◌≢◌}
 use mathlib.Core.Bool.{Bool, true, false, not}
 use mathlib.Core.List.{List, [], ◌∷◌}
@@ -88,7 +88,8 @@ bad-found m (c ∷ cs) h = go (bad_log_block (block_at m c)) refl (λ k. bad-fou
     go false e ih =
         let f : first_bad m (c ∷ cs) ≡ first_bad m cs = unfold first_bad in (choose-false (bad_log_block (block_at m c)) c (first_bad m cs) e) in
         let r = ih (rw e at h) in
-        rw f (or-2 (eqb (first_bad m cs) c) (member (first_bad m cs) cs) r.0, r.1)
+        subst (λ (k : ℕ). (member k (c ∷ cs) ≡ true) × (bad_log_block (block_at m k) ≡ true)) (sym f)
+        (or-2 (eqb (first_bad m cs) c) (member (first_bad m cs) cs) r.0, r.1)
 
 -- ---- bytes
 

@@ -1,16 +1,15 @@
 -- What the search for the first fault goes by: from the arrays of what was read, the lists of the definitions.
-use mathlib.Core.Path.{◌≡◌, refl, sym, ap, subst, ◌∙◌}
+use mathlib.Core.Path.{◌≡◌, refl, sym, ap, ◌∙◌}
 use mathlib.Core.Logic.{◌≢◌}
 use mathlib.Core.List.{List, [], ◌∷◌, ◌++◌}
-use mathlib.Core.Bool.{Bool, true, false}
-use Prim.Native.Nat.{ℕ, zero, suc, ◌+◌, ◌-◌, ◌*◌, ◌/◌, ◌≤◌, ◌<◌}
+use mathlib.Core.Bool.{false}
+use Prim.Native.Nat.{ℕ, zero, suc, ◌*◌, ◌/◌, ◌≤◌, ◌<◌}
 use native.Mathlib.Omega.{arith}
 use lib.ListN.{length, get_or, take, drop, replicate, length-replicate}
 use lib.Seq.{take-append_seam}
 use borrow.Author.Tests.{ne_eqb}
 use Rattle.words.specs.Edition.{one}
-use Rattle.words.specs.BlockMap.{taken}
-use Rattle.words.specs.Logic.{member, some_of}
+use Rattle.words.specs.Logic.{member}
 use Rattle.words.specs.Memory.{Memory, memory, block_count, wrong_size}
 use Rattle.words.proofs.Logic.{zeros-at}
 use Rattle.words.proofs.MapOf.{Below, taken-set_all-zero, sound-zeros, zeros-free}

@@ -50,7 +50,7 @@ pub set_all-snoc : (map xs : List ℕ) (b : ℕ) → set_all true map (xs ++ b �
 unfolding set_all
 set_all-snoc map [] b = refl
 set_all-snoc map (zero ∷ xs) b = set_all-snoc map xs b
-set_all-snoc map (suc x ∷ xs) b = set_all-snoc _ xs b
+set_all-snoc map (suc x ∷ xs) b = set_all-snoc (set_block true map (suc x)) xs b
 
 -- a block of the map is one of the list
 pub with-member : (xs : List ℕ) (c : ℕ) → Below xs → taken (map_with xs) (suc c) ≡ member (suc c) xs

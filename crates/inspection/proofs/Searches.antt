@@ -12,7 +12,7 @@ use lib.Seq.{drop-cons}
 use borrow.Author.Tests.{le-leb, lt-leb, eq-eqb, ne_eqb}
 use Rattle.words.specs.Edition.{one}
 use Rattle.words.specs.BlockMap.{taken, set_all}
-use Rattle.words.specs.Logic.{is_zero, some_of}
+use Rattle.words.specs.Logic.{some_of}
 use Rattle.words.specs.Memory.{Memory, block_at, byte_in}
 use Rattle.block_log.specs.Chain.{bad_log_block}
 use Rattle.block_log.specs.Entry.{entry_v, entry_b, entry_n, entry_u, entry_rest, rules, covers}

@@ -1,14 +1,14 @@
 -- Inspecting as a whole: what is read, call by call, is what the definitions say, and the fault named breaks its rule.
 use mathlib.Core.Path.{◌≡◌, refl, sym, ap, ap₂, ◌∙◌}
 use mathlib.Core.Logic.{◌≢◌}
-use mathlib.Core.List.{List, [], ◌∷◌, ◌++◌}
-use mathlib.Core.Bool.{Bool, true, false, not}
-use Prim.Native.Nat.{ℕ, zero, suc, ◌+◌, ◌*◌, ◌/◌, ◌≤◌, ◌<◌}
+use mathlib.Core.List.{List, [], ◌∷◌}
+use mathlib.Core.Bool.{Bool, true, false}
+use Prim.Native.Nat.{ℕ, zero, suc, ◌*◌, ◌≤◌}
 use native.Mathlib.Omega.{arith}
-use lib.ListN.{length, take, drop, replicate, length-replicate}
+use lib.ListN.{length, take, replicate, length-replicate}
 use Rattle.words.specs.Edition.{one}
 use Rattle.words.specs.BlockMap.{set_block, set_all, free_count}
-use Rattle.words.specs.Logic.{list_from, some_of, all_of}
+use Rattle.words.specs.Logic.{list_from}
 use Rattle.words.specs.Memory.{memory, block_count, wrong_size}
 use Rattle.words.proofs.BlockMap.{length-set_all}
 use Rattle.words.proofs.MapOf.{Below}
@@ -27,7 +27,7 @@ use Rattle.inspection.specs.Reading.{read_chain, read_log, read_file, read_taken
 use Rattle.inspection.specs.Faults.{first_fault, size_fault}
 use Rattle.inspection.specs.Breaks.{breaks}
 use Rattle.inspection.specs.Inspecting.{padded, found, inspected_with, unread, inspected, Inspects}
-use Rattle.inspection.specs.Parts.{Front, ReadsChain, Inside, LogRead, AllLegal, Readings, map_with, use_in}
+use Rattle.inspection.specs.Parts.{Front, ReadsChain, Inside, LogRead, AllLegal, Readings, use_in}
 use Rattle.inspection.proofs.ChainRead.{read-facts}
 use Rattle.inspection.proofs.Early.{fault-number, breaks-1, breaks-2, breaks-3, breaks-4, breaks-5}
 use Rattle.inspection.proofs.Entries.{agrees}

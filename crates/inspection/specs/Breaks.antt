@@ -1,13 +1,13 @@
 -- What it is that a place breaks: said of the place alone, without a search. No number of an image but the block count, its chain, its log and its
 -- file, all by document 01, is used. `first_fault` finds such a place (proofs/Found).
-use Rattle.std.specs.Prelude.{ℕ, zero, suc, ◌+◌, ◌-◌, ◌*◌, ◌/◌, ◌%◌, Bool, true, false, ◌&&◌, ◌||◌, not, List, [], ◌∷◌, length, get_or, take, leb, ltb, eqb}
+use Rattle.std.specs.Prelude.{ℕ, zero, suc, ◌+◌, ◌-◌, ◌/◌, ◌%◌, Bool, true, false, ◌&&◌, ◌||◌, not, List, [], ◌∷◌, length, get_or, take, leb, ltb, eqb}
 use Rattle.words.specs.Edition.{Edition, block_bytes, blocks_min, blocks_max, chain_max}
-use Rattle.words.specs.Logic.{is_zero, some_of, member, every, any}
+use Rattle.words.specs.Logic.{is_zero, some_of, member, every}
 use Rattle.words.specs.Memory.{Memory, memory, block_count, block_at, word_at, byte_in}
 use Rattle.block_log.specs.Chain.{chain, outside, slots}
-use Rattle.block_log.specs.Entry.{entry_v, entry_b, rules, legal, covers}
+use Rattle.block_log.specs.Entry.{entry_v, entry_b, rules, covers}
 use Rattle.block_log.specs.Opening.{file_of}
-use Rattle.block_log.specs.Replay.{Mapped, end_in}
+use Rattle.block_log.specs.Replay.{end_in}
 use Rattle.inspection.specs.declared.Fault.{Fault}
 
 -- one of a number's rules, by its place from 1 on

@@ -1,10 +1,10 @@
 -- The first fault of an image that opening refuses: for each of the numbers 1 to 9 which rule of it is broken, and where.
 -- A number has several rules, counted from 1 on in the order of document 01's sentence.
-use Rattle.std.specs.Prelude.{ℕ, zero, suc, ◌+◌, ◌-◌, ◌/◌, ◌%◌, Bool, true, false, ◌&&◌, ◌||◌, not, List, [], ◌∷◌, length, get_or, take, drop, ltb, eqb}
+use Rattle.std.specs.Prelude.{ℕ, zero, suc, ◌+◌, ◌-◌, ◌/◌, ◌%◌, Bool, true, false, ◌&&◌, ◌||◌, not, List, [], ◌∷◌, length, get_or, drop, ltb, eqb}
 use Rattle.words.specs.Edition.{Edition, block_bytes, blocks_min, blocks_max}
 use Rattle.words.specs.Logic.{is_zero, one_if, some_of, all_of, member}
 use Rattle.words.specs.Memory.{Memory, memory, block_count, block_at, word_at, byte_in}
-use Rattle.block_log.specs.Chain.{entries_from, slots, bad_log_block}
+use Rattle.block_log.specs.Chain.{entries_from, bad_log_block}
 use Rattle.block_log.specs.Entry.{rules, covers}
 use Rattle.block_log.specs.Opening.{open_refusal}
 use Rattle.block_log.specs.Replay.{Mapped, end_in}

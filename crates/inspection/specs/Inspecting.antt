@@ -1,5 +1,5 @@
 -- What inspecting an image answers.
-use Rattle.std.specs.Prelude.{ℕ, ◌*◌, ◌-◌, ◌≡◌, ◌≢◌, true, false, List, [], ◌++◌, length, drop, replicate}
+use Rattle.std.specs.Prelude.{ℕ, ◌*◌, ◌-◌, ◌≡◌, ◌≢◌, true, false, List, ◌++◌, length, drop, replicate}
 use Rattle.words.specs.Edition.{Edition, one, file_blocks, chain_max, blocks_max}
 use Rattle.words.specs.Logic.{list_from}
 use Rattle.words.specs.Memory.{Memory, memory, block_count, wrong_size}

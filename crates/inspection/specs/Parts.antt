@@ -1,5 +1,5 @@
 -- What inner functions ask for and answer, for their contracts. Nothing here is promised: `Inspecting` has what is.
-use Rattle.std.specs.Prelude.{ℕ, zero, suc, ◌+◌, ◌*◌, ◌≤◌, ◌<◌, ◌≡◌, Bool, true, false, not, List, [], ◌∷◌, ◌++◌, length, get_or, take, drop, replicate}
+use Rattle.std.specs.Prelude.{ℕ, zero, suc, ◌+◌, ◌*◌, ◌≤◌, ◌≡◌, Bool, true, false, not, List, [], ◌∷◌, ◌++◌, length, get_or, take, drop, replicate}
 use Rattle.words.specs.Edition.{Edition, one, chain_max}
 use Rattle.words.specs.Logic.{is_zero, all_of, some_of, any, member}
 use Rattle.words.specs.Memory.{Memory, memory, block_count, wrong_size}

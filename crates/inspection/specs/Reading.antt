@@ -1,5 +1,5 @@
 -- What can be read of an image, whether or not it opens: its log blocks, its entries, the file that these give, and what each block is used for.
-use Rattle.std.specs.Prelude.{ℕ, zero, suc, ◌+◌, ◌-◌, ◌/◌, ◌%◌, max, Bool, true, false, List, [], ◌∷◌, ◌++◌, length, get_or, drop}
+use Rattle.std.specs.Prelude.{ℕ, zero, suc, ◌+◌, ◌-◌, ◌/◌, ◌%◌, max, Bool, true, false, List, [], ◌∷◌, ◌++◌, get_or}
 use Rattle.words.specs.Edition.{Edition, chain_max}
 use Rattle.words.specs.Logic.{is_zero, some_of, any, member}
 use Rattle.words.specs.Memory.{Memory}

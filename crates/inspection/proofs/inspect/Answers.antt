@@ -1,5 +1,5 @@
 -- Opening gives the number; a wrong size is all there is to say, else the image is read.
-use mathlib.Core.Path.{◌≡◌, refl, sym, ap, ◌∙◌}
+use mathlib.Core.Path.{sym, ap, ◌∙◌}
 use Rattle.words.specs.Edition.{one}
 use Rattle.words.specs.Memory.{memory, block_count}
 use Rattle.block_log.specs.declared.Opened.{Opened}
@@ -7,7 +7,6 @@ use Rattle.block_log.specs.Opening.{number_of, open_refusal}
 use Rattle.block_log.proofs.Replies.{number-back, opened-replies}
 use Rattle.inspection.specs.Inspecting.{unread, inspected_with}
 use Rattle.inspection.proofs.Whole.{inspects, wrong, right, refusal-room, fault-room}
-use borrow.Author.Rules.{rules}
 use Rattle.inspection.proofs.inspect.Goals as goal
 
 pub returns-then-wrong_size : goal.returns-then-wrong_size

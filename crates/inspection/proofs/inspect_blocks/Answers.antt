@@ -1,5 +1,5 @@
 -- What is read, step by step, is what the definitions say.
-use mathlib.Core.Path.{◌≡◌, refl, sym, ap, ◌∙◌}
+use mathlib.Core.Path.{◌≡◌, sym, ap, ◌∙◌}
 use mathlib.Core.Bool.{true}
 use mathlib.Core.List.{List}
 use Prim.Native.Nat.{ℕ, ◌≤◌}
@@ -16,7 +16,6 @@ use Rattle.inspection.specs.Parts.{ReadsChain, LogRead, Readings, use_in}
 use Rattle.inspection.specs.Reading.{longest_free}
 use Rattle.inspection.proofs.Given.{few, entries-few}
 use Rattle.inspection.proofs.Whole.{blocks-most, chain-inside, readings, log-ready, map-wide, answers}
-use borrow.Author.Rules.{rules}
 use Rattle.inspection.proofs.inspect_blocks.Goals as goal
 use Rattle.inspection.proofs.inspect_blocks.Goals.{After-read_chain-chained, After-read_log-n, After-replay-length}
 

@@ -1,15 +1,14 @@
 -- The tests one after the other.
-use mathlib.Core.Path.{◌≡◌, refl, sym, ap, ◌∙◌}
+use mathlib.Core.Path.{sym, ap, ◌∙◌}
 use mathlib.Core.List.{List}
 use Prim.Native.Nat.{ℕ, ◌+◌}
-use lib.ListN.{length, get_or, drop}
+use lib.ListN.{length, drop}
 use Rattle.words.specs.Edition.{one}
 use Rattle.words.specs.Logic.{is_zero, all_of}
 use Rattle.words.specs.Memory.{memory}
 use Rattle.block_log.specs.Chain.{entries_from}
 use Rattle.inspection.specs.Faults.{zeros_ahead}
 use Rattle.inspection.proofs.Named.{block-word, block-linked, block-entry, word_of}
-use borrow.Author.Rules.{rules}
 use Rattle.inspection.proofs.faults.block_fault.Goals as goal
 
 pub returns-then-word-ne0 : goal.returns-then-word-ne0

@@ -1,7 +1,6 @@
 -- A block other than 0 is looked up.
-use mathlib.Core.Path.{◌≡◌, refl, sym, ap, ◌∙◌}
+use mathlib.Core.Path.{sym, ◌∙◌}
 use Rattle.inspection.proofs.Searches.{some_block}
-use borrow.Author.Rules.{rules}
 use Rattle.inspection.proofs.faults.clashes.Goals as goal
 
 pub returns : goal.returns

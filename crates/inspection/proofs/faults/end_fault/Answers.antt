@@ -1,12 +1,11 @@
 -- The first byte in the file's last block that is not 0, from the end on.
-use mathlib.Core.Path.{◌≡◌, refl, sym, ap, ◌∙◌}
+use mathlib.Core.Path.{ap, ◌∙◌}
 use mathlib.Core.List.{List}
 use Prim.Native.Nat.{ℕ, ◌+◌, ◌-◌}
 use Rattle.words.specs.Edition.{one}
 use Rattle.words.specs.Memory.{memory}
 use Rattle.inspection.specs.Faults.{first_byte}
 use Rattle.inspection.proofs.Named.{end-named}
-use borrow.Author.Rules.{rules}
 use Rattle.inspection.proofs.faults.end_fault.Goals as goal
 
 pub returns : goal.returns

@@ -1,5 +1,5 @@
 -- The link behind what was read leads to one of the blocks read, or it does not.
-use mathlib.Core.Path.{◌≡◌, refl, sym, ap, ◌∙◌}
+use mathlib.Core.Path.{sym, ap, ◌∙◌}
 use Prim.Native.Nat.{ℕ}
 use lib.ListN.{take}
 use Rattle.words.specs.Edition.{one}
@@ -7,7 +7,6 @@ use Rattle.words.specs.Logic.{is_zero, one_if}
 use Rattle.words.specs.Memory.{memory}
 use Rattle.inspection.specs.declared.Fault.{Fault}
 use Rattle.inspection.proofs.Named.{endless-round, endless-long}
-use borrow.Author.Rules.{rules}
 use Rattle.inspection.proofs.faults.endless_fault.Goals as goal
 
 pub returns-then-is_taken : goal.returns-then-is_taken

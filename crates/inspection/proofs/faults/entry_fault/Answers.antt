@@ -1,10 +1,9 @@
 -- The word there, and the first rule that it breaks.
-use mathlib.Core.Path.{◌≡◌, refl, sym, ap, ◌∙◌}
+use mathlib.Core.Path.{refl, ap, ◌∙◌}
 use Rattle.words.specs.Edition.{one}
 use Rattle.words.specs.Memory.{memory}
 use Rattle.inspection.specs.declared.Fault.{Fault}
 use Rattle.inspection.proofs.Named.{entry_named}
-use borrow.Author.Rules.{rules}
 use Rattle.inspection.proofs.faults.entry_fault.Goals as goal
 
 pub returns : goal.returns

@@ -1,5 +1,4 @@
 -- The word of the block is the value.
-use borrow.Author.Rules.{rules}
 use Rattle.inspection.proofs.faults.fault_at.Goals as goal
 
 pub returns : goal.returns

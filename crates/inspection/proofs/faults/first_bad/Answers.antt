@@ -1,14 +1,13 @@
 use mathlib.Core.Path.{◌≡◌, refl, sym, ap, ◌∙◌}
 use mathlib.Core.Bool.{Bool}
 use mathlib.Core.List.{List}
-use Prim.Native.Nat.{ℕ, ◌+◌, ◌-◌, ◌≤◌, ◌<◌}
+use Prim.Native.Nat.{ℕ, ◌<◌}
 use native.Mathlib.Omega.{arith}
-use lib.ListN.{length, get_or, drop, take}
+use lib.ListN.{get_or, take}
 use lib.Seq.{get_or-take}
 use Rattle.words.specs.Edition.{one}
 use Rattle.words.specs.Memory.{Memory, memory, block_at}
 use Rattle.block_log.specs.Chain.{bad_log_block}
-use Rattle.inspection.specs.Faults.{first_bad}
 use Rattle.inspection.proofs.Searches.{bad-here, bad-next, bad-none}
 use Rattle.inspection.proofs.faults.first_bad.Goals as goal
 

@@ -1,7 +1,6 @@
 -- The tests one after the other.
-use mathlib.Core.Path.{◌≡◌, refl, sym, ap, ◌∙◌}
+use mathlib.Core.Path.{sym}
 use Rattle.inspection.proofs.Searches.{breaks-count, breaks-few, breaks-used, breaks-block, breaks-rest, breaks-virtual, breaks-from, breaks-last}
-use borrow.Author.Rules.{rules}
 use Rattle.inspection.proofs.faults.first_broken.Goals as goal
 
 pub returns-then-n-lt1 : goal.returns-then-n-lt1

@@ -1,11 +1,10 @@
 use mathlib.Core.Path.{◌≡◌, refl, sym, ◌∙◌}
 use mathlib.Core.List.{List}
-use Prim.Native.Nat.{ℕ, ◌+◌, ◌-◌, ◌/◌, ◌%◌, ◌≤◌}
+use Prim.Native.Nat.{ℕ, ◌/◌, ◌%◌}
 use native.Mathlib.Omega.{arith}
 use lib.ListN.{get_or}
 use Rattle.words.specs.Memory.{byte_in}
 use Rattle.words.specs.Word.{byte_of}
-use Rattle.inspection.specs.Faults.{first_byte}
 use Rattle.inspection.proofs.Searches.{byte_next, byte-here, byte-over}
 use Rattle.inspection.proofs.faults.first_byte.Goals as goal
 

@@ -1,13 +1,7 @@
 -- The first byte from here on that is not 0 is the first of all.
-use mathlib.Core.Path.{◌≡◌, refl, sym, ◌∙◌}
-use mathlib.Core.List.{List}
-use Prim.Native.Nat.{ℕ, ◌+◌, ◌-◌, ◌/◌, ◌%◌, ◌≤◌}
-use native.Mathlib.Omega.{arith}
-use lib.ListN.{get_or}
-use Rattle.words.specs.Memory.{byte_in}
-use Rattle.words.specs.Word.{byte_of}
+use mathlib.Core.Path.{◌≡◌}
+use Prim.Native.Nat.{◌-◌, ◌≤◌}
 use Rattle.inspection.specs.Faults.{first_byte}
-use Rattle.inspection.proofs.Searches.{byte_next, byte-here, byte-over}
 use Rattle.inspection.proofs.faults.first_byte.Given as goal
 
 abbrev pub invariant-loop-k : goal.invariant-loop-k

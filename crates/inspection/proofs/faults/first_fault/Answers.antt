@@ -1,5 +1,5 @@
 -- By opening's number: each fault is found in the arrays of what was read, as the definitions find it in their lists.
-use mathlib.Core.Path.{◌≡◌, refl, sym, ap, ◌∙◌}
+use mathlib.Core.Path.{sym, ap, ◌∙◌}
 use mathlib.Core.List.{List}
 use Prim.Native.Nat.{ℕ}
 use native.Mathlib.Omega.{arith}
@@ -9,10 +9,9 @@ use Rattle.words.specs.Memory.{memory, block_count}
 use Rattle.inspection.specs.Faults.{scratch_fault, index_fault, endless_fault, block_fault, first_bad, entry_fault, end_fault}
 use Rattle.inspection.specs.Reading.{read_chain}
 use Rattle.inspection.proofs.Given.{few, first-blocks, has-blocks, logs-known, entries-few, has-entries, rows-wide, at_block, end_is, is-nine}
-use Rattle.inspection.proofs.Given.{named-0, named-2, named-3, named-4, named-5, entry-array, clash-few, shared-is}
+use Rattle.inspection.proofs.Given.{named-0, named-2, named-3, named-4, named-5, entry-array, clash-few, shared_is}
 use Rattle.inspection.proofs.Late.{named-6, named-7, named-8, named-9, seven-inside}
 use Rattle.inspection.proofs.LateEnd.{nine-size}
-use borrow.Author.Rules.{rules}
 use Rattle.inspection.proofs.faults.first_fault.Goals as goal
 
 pub returns-then-number-eq0 : goal.returns-then-number-eq0
@@ -83,7 +82,7 @@ returns-then-number-eq-BLOCK_SHARED c = let g = c.requires.0 in
     let words = c.args.image.now in
     let scratch = replicate {A = ℕ} c.args.room 0 in
     let e = sym c.requires.1 ∙ c.if-number-eq-BLOCK_SHARED.true in
-    c.shared_fault.ensures ∙ shared-is g scratch e ∙ sym (named-8 one words scratch e)
+    c.shared_fault.ensures ∙ shared_is g scratch e ∙ sym (named-8 one words scratch e)
 
 pub end_fault-requires : goal.end_fault-requires
 end_fault-requires c = let g = c.requires.0 in

@@ -1,9 +1,7 @@
-use mathlib.Core.Path.{◌≡◌, refl, sym, ◌∙◌}
-use Prim.Native.Nat.{◌+◌, ◌-◌}
+use mathlib.Core.Path.{sym, ◌∙◌}
 use native.Mathlib.Omega.{arith}
-use lib.ListN.{length, get_or, drop}
+use lib.ListN.{get_or}
 use borrow.Author.Tests.{eqb-true, eqb-false}
-use Rattle.inspection.specs.Faults.{zeros_ahead}
 use Rattle.inspection.proofs.Searches.{zeros-next, zeros-stop, zeros-over}
 use Rattle.inspection.proofs.faults.first_nonzero.Goals as goal
 

@@ -1,13 +1,8 @@
 -- The first clash from here on, with those before taken, is the first of all.
-use mathlib.Core.Path.{◌≡◌, refl, sym, ap, ◌∙◌}
-use mathlib.Core.Bool.{true}
-use mathlib.Core.List.{List, [], ◌∷◌}
-use Prim.Native.Nat.{ℕ, ◌+◌, ◌-◌, ◌≤◌}
-use native.Mathlib.Omega.{arith}
+use mathlib.Core.Path.{◌≡◌}
+use Prim.Native.Nat.{◌+◌, ◌-◌, ◌≤◌}
 use lib.ListN.{drop}
-use Rattle.words.specs.BlockMap.{set_all}
-use Rattle.inspection.specs.Parts.{clashes_at, first_clash}
-use Rattle.inspection.proofs.Searches.{clash-here, clash-next, clash-over}
+use Rattle.inspection.specs.Parts.{first_clash}
 use Rattle.inspection.proofs.faults.first_shared.Given as goal
 
 abbrev pub invariant-loop-v : goal.invariant-loop-v

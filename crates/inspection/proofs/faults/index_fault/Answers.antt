@@ -1,5 +1,5 @@
 -- The link behind what was read is 0, or it is not.
-use mathlib.Core.Path.{◌≡◌, refl, sym, ap, ◌∙◌}
+use mathlib.Core.Path.{sym, ap, ◌∙◌}
 use Prim.Native.Nat.{ℕ}
 use lib.ListN.{take}
 use Rattle.words.specs.Edition.{one}
@@ -7,7 +7,6 @@ use Rattle.words.specs.Logic.{is_zero, one_if}
 use Rattle.words.specs.Memory.{memory}
 use Rattle.inspection.specs.declared.Fault.{Fault}
 use Rattle.inspection.proofs.Named.{index-zero, index-out}
-use borrow.Author.Rules.{rules}
 use Rattle.inspection.proofs.faults.index_fault.Goals as goal
 
 pub returns-then-found-eq0 : goal.returns-then-found-eq0

@@ -1,14 +1,10 @@
 -- None of those passed covers; the first that does is the last of all.
-use mathlib.Core.Path.{◌≡◌, refl, sym, ap, ◌∙◌}
+use mathlib.Core.Path.{◌≡◌}
 use mathlib.Core.Bool.{false}
-use mathlib.Core.List.{List}
-use Prim.Native.Nat.{ℕ, suc, ◌+◌, ◌-◌, ◌≤◌, ◌<◌}
-use native.Mathlib.Omega.{arith}
-use lib.ListN.{length, drop, take, drop_of_length-le}
-use lib.Seq.{get_or-take}
+use Prim.Native.Nat.{◌≤◌}
+use lib.ListN.{drop, take}
 use Rattle.words.specs.Logic.{some_of}
 use Rattle.block_log.specs.Entry.{covers}
-use Rattle.inspection.proofs.Searches.{last-here, last_none, covers-back}
 use Rattle.inspection.proofs.faults.last_covering.Given as goal
 
 abbrev pub invariant-loop-j : goal.invariant-loop-j

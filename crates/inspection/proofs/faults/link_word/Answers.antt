@@ -2,7 +2,6 @@
 use mathlib.Core.Path.{sym, ap}
 use Rattle.words.specs.Logic.{one_if}
 use Rattle.words.proofs.Tests.{not-zero}
-use borrow.Author.Rules.{rules}
 use Rattle.inspection.proofs.faults.link_word.Goals as goal
 
 pub returns-else-count-eq0 : goal.returns-else-count-eq0

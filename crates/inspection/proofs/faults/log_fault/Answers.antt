@@ -1,9 +1,8 @@
 -- The fault of the first log block that has one.
-use mathlib.Core.Path.{◌≡◌, refl, sym, ap, ◌∙◌}
+use mathlib.Core.Path.{ap, ◌∙◌}
 use Rattle.words.specs.Edition.{one}
 use Rattle.words.specs.Memory.{memory}
 use Rattle.inspection.specs.Faults.{block_fault}
-use borrow.Author.Rules.{rules}
 use Rattle.inspection.proofs.faults.log_fault.Goals as goal
 
 pub returns : goal.returns

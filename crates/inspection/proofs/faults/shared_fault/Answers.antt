@@ -1,5 +1,5 @@
 -- The first clash, and the last entry that covers its virtual block.
-use mathlib.Core.Path.{◌≡◌, refl, sym, ap, ◌∙◌}
+use mathlib.Core.Path.{refl, sym, ap, ◌∙◌}
 use mathlib.Core.Bool.{Bool, not}
 use Prim.Native.Nat.{◌+◌, ◌%◌}
 use lib.ListN.{take}
@@ -8,7 +8,6 @@ use Rattle.words.specs.Edition.{one}
 use Rattle.words.specs.Memory.{memory}
 use Rattle.inspection.specs.Faults.{fault_at, rule_of}
 use Rattle.inspection.proofs.Named.{shared-named}
-use borrow.Author.Rules.{rules}
 use Rattle.inspection.proofs.faults.shared_fault.Goals as goal
 
 pub returns-then-is_taken : goal.returns-then-is_taken

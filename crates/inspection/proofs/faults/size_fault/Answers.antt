@@ -1,7 +1,6 @@
 -- The tests one after the other.
-use mathlib.Core.Path.{◌≡◌, refl, sym, ap, ◌∙◌}
+use mathlib.Core.Path.{sym, ◌∙◌}
 use Rattle.inspection.proofs.Named.{size-broken, size_few, size-many}
-use borrow.Author.Rules.{rules}
 use Rattle.inspection.proofs.faults.size_fault.Goals as goal
 
 pub returns-then-blocks-size : goal.returns-then-blocks-size

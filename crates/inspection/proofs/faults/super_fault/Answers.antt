@@ -1,13 +1,12 @@
 -- The mark, or the first word behind word 1 that is not 0.
-use mathlib.Core.Path.{◌≡◌, refl, sym, ap, ◌∙◌}
+use mathlib.Core.Path.{sym, ap, ◌∙◌}
 use mathlib.Core.List.{List}
 use Prim.Native.Nat.{ℕ, ◌+◌}
-use lib.ListN.{get_or, drop}
+use lib.ListN.{drop}
 use Rattle.words.specs.Edition.{one}
 use Rattle.words.specs.Memory.{memory}
 use Rattle.inspection.specs.Faults.{zeros_ahead}
 use Rattle.inspection.proofs.Named.{super-marked, super-word, word_of}
-use borrow.Author.Rules.{rules}
 use Rattle.inspection.proofs.faults.super_fault.Goals as goal
 
 pub returns-then-word-ne331942218545 : goal.returns-then-word-ne331942218545

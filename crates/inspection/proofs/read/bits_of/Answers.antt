@@ -1,8 +1,7 @@
 use mathlib.Core.Path.{◌≡◌, sym}
-use Prim.Native.Nat.{◌+◌, ◌-◌, ◌≤◌}
+use Prim.Native.Nat.{◌+◌, ◌-◌}
 use native.Mathlib.Omega.{arith}
-use borrow.Author.Rules.{rules}
-use Rattle.words.specs.BlockMap.{taken, map_word}
+use Rattle.words.specs.BlockMap.{taken}
 use Rattle.words.specs.Logic.{one_if}
 use Rattle.inspection.proofs.Overruled.{word_none, word_fits, word_on, one-small}
 use Rattle.inspection.proofs.read.bits_of.Goals as goal

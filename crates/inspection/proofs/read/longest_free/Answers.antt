@@ -1,12 +1,9 @@
 use mathlib.Core.Path.{◌≡◌, ◌∙◌, sym}
-use mathlib.Core.Logic.{⊎_elim}
-use Prim.Native.Nat.{◌-◌, ◌≤◌, ◌<◌, max}
+use Prim.Native.Nat.{◌<◌, max}
 use native.Mathlib.Omega.{arith}
-use borrow.Author.Rules.{rules}
-use Rattle.inspection.specs.Reading.{longest_free}
-use Rattle.inspection.proofs.Longest.{reach, reach-start, reach-end, reach-taken, reach-free}
+use Rattle.inspection.proofs.Longest.{reach-start, reach-end, reach-taken, reach-free}
 use Rattle.inspection.proofs.read.longest_free.Goals as goal
-use Rattle.inspection.proofs.read.longest_free.Goals.{else-best-row, then-best-row}
+use Rattle.inspection.proofs.read.longest_free.Goals.{else-best-row, then-best-row, else-is_taken, then-is_taken}
 
 pub loop-b-init : goal.loop-b-init
 loop-b-init c = (reach-start c.args.map.now c.args.blocks, omega arith, omega arith, omega arith)
@@ -16,20 +13,20 @@ loop-b-preserved c = let l = c.loop-b in
     let a = c.args in
     let h : l.b < a.blocks = c.loop-b-test.true in
     let is : c.if-best-row.best ≡ max l.best c.if-is_taken.row = (elim c.if-best-row.branch [ then-best-row w ↦ omega arith | else-best-row w ↦ omega arith ]) in
-    ⊎_elim
-    (λ w. (
-      l.invariant.0 ∙ reach-taken a.map.now a.blocks l.best l.row l.b l.invariant.1 h _ _ is (sym c.is_taken.ensures ∙ w.0.taken) w.1,
-      omega arith,
-      omega arith,
-      omega arith,
-    ))
-    (λ w. (
-      l.invariant.0 ∙ reach-free a.map.now a.blocks l.best l.row l.b l.invariant.1 h _ _ is (sym c.is_taken.ensures ∙ w.0.left) w.1,
-      omega arith,
-      omega arith,
-      omega arith,
-    ))
-    c.if-is_taken.branch
+    elim c.if-is_taken.branch [
+      | then-is_taken w ↦ (
+        l.invariant.0 ∙ reach-taken a.map.now a.blocks l.best l.row l.b l.invariant.1 h _ _ is (sym c.is_taken.ensures ∙ w.if-is_taken.true) w.row-is,
+        omega arith,
+        omega arith,
+        omega arith,
+      )
+      | else-is_taken w ↦ (
+        l.invariant.0 ∙ reach-free a.map.now a.blocks l.best l.row l.b l.invariant.1 h _ _ is (sym c.is_taken.ensures ∙ w.if-is_taken.false) w.row-is,
+        omega arith,
+        omega arith,
+        omega arith,
+      )
+    ]
 
 pub returns : goal.returns
 returns c = let l = c.loop-b in

@@ -1,11 +1,8 @@
 -- The longest stretch is the best so far, the row that ends here with what follows it, or one that comes.
-use mathlib.Core.Path.{◌≡◌, ◌∙◌, sym}
-use mathlib.Core.Logic.{⊎_elim}
+use mathlib.Core.Path.{◌≡◌}
 use Prim.Native.Nat.{◌-◌, ◌≤◌, ◌<◌, max}
-use native.Mathlib.Omega.{arith}
-use borrow.Author.Rules.{rules}
 use Rattle.inspection.specs.Reading.{longest_free}
-use Rattle.inspection.proofs.Longest.{reach, reach-start, reach-end, reach-taken, reach-free}
+use Rattle.inspection.proofs.Longest.{reach}
 use Rattle.inspection.proofs.read.longest_free.Given as goal
 
 abbrev pub invariant-loop-b : goal.invariant-loop-b

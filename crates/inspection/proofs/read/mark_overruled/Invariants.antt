@@ -1,11 +1,5 @@
 -- From the last entry back: the map has the blocks that the entries from j on cover, and the marks from j on are theirs.
-use mathlib.Core.Path.{sym}
-use Prim.Native.Nat.{◌-◌, ◌≤◌}
-use native.Mathlib.Omega.{arith}
-use borrow.Author.Rules.{rules}
-use lib.ListN.{length}
-use Rattle.inspection.proofs.Legal.{valid-at}
-use Rattle.inspection.proofs.Overruled.{Marked, mark-begin, mark-again, mark-end}
+use Rattle.inspection.proofs.Overruled.{Marked}
 use Rattle.inspection.proofs.read.mark_overruled.Given as goal
 
 abbrev pub invariant-loop-j : goal.invariant-loop-j

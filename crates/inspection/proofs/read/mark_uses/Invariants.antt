@@ -1,14 +1,10 @@
 -- The uses of the blocks so far are in front, and the rest is as it came.
-use mathlib.Core.Path.{◌≡◌, refl}
+use mathlib.Core.Path.{◌≡◌}
 use mathlib.Core.List.{◌++◌}
-use Prim.Native.Nat.{◌-◌, ◌≤◌, ◌<◌}
-use native.Mathlib.Omega.{arith}
-use borrow.Author.Rules.{rules}
-use lib.ListN.{length, drop}
+use Prim.Native.Nat.{◌-◌, ◌≤◌}
+use lib.ListN.{drop}
 use Rattle.words.specs.Logic.{list_from}
-use Rattle.words.proofs.Logic.{list_from-next}
 use Rattle.inspection.specs.Parts.{use_in}
-use Rattle.inspection.proofs.Uses.{list-end}
 use Rattle.inspection.proofs.read.mark_uses.Given as goal
 
 abbrev pub invariant-loop-b : goal.invariant-loop-b

@@ -1,13 +1,11 @@
 use mathlib.Core.Path.{sym}
-use Prim.Native.Nat.{◌-◌}
 use native.Mathlib.Omega.{arith}
-use borrow.Author.Rules.{rules}
-use Rattle.inspection.proofs.ReadOn.{Read, read-begin, read_again, ends-full, ends-stopped, index-inside, map-sized}
+use Rattle.inspection.proofs.ReadOn.{read-begin, read_again, ends-full, ends-stopped, index-inside, map-sized}
 use Rattle.inspection.proofs.read.read_chain.Goals as goal
 
 pub loop-count-init : goal.loop-count-init
 loop-count-init c = let a = c.args in
-    read-begin a.image.now a.blocks a.chain.now c.first_index-b.result c.sized_indexes-arg-2-1.given.0 c.first_index-b.ensures
+    read-begin a.image.now a.blocks a.chain.now c.first_index-b.result c.sized_indexes-arg-2-1.given c.first_index-b.ensures
 
 pub returns-then-stops_at : goal.returns-then-stops_at
 returns-then-stops_at c = ends-stopped c.loop-count.invariant c.stops_at.ensures c.if-stops_at.true

@@ -1,9 +1,6 @@
 -- The log blocks read so far lie in front of the array and are in the map; what is read from here on, behind them, is the chain.
-use mathlib.Core.Path.{sym}
 use Prim.Native.Nat.{◌-◌}
-use native.Mathlib.Omega.{arith}
-use borrow.Author.Rules.{rules}
-use Rattle.inspection.proofs.ReadOn.{Read, read-begin, read_again, ends-full, ends-stopped, index-inside, map-sized}
+use Rattle.inspection.proofs.ReadOn.{Read}
 use Rattle.inspection.proofs.read.read_chain.Given as goal
 
 abbrev pub invariant-loop-count : goal.invariant-loop-count

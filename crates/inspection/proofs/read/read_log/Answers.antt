@@ -1,12 +1,11 @@
 use mathlib.Core.Path.{◌≡◌}
-use Prim.Native.Nat.{◌-◌, ◌≤◌, ◌<◌}
+use Prim.Native.Nat.{◌<◌}
 use native.Mathlib.Omega.{arith}
-use borrow.Author.Rules.{rules}
 use lib.ListN.{length, get_or, take}
 use lib.Seq.{get_or-take, length-take-le}
 use Rattle.words.specs.Edition.{one}
 use Rattle.words.specs.Memory.{memory, block_at}
-use Rattle.inspection.proofs.Legal.{Gathered, gather-begin, gather-again, gather-stopped, gather-end, whole-block}
+use Rattle.inspection.proofs.Legal.{gather-begin, gather-again, gather-stopped, gather-end, whole-block}
 use Rattle.inspection.proofs.read.read_log.Goals as goal
 use Rattle.inspection.proofs.read.read_log.Goals.{After-block-part, At-loop-k, In-loop-k}
 
@@ -14,14 +13,14 @@ use Rattle.inspection.proofs.read.read_log.Goals.{After-block-part, At-loop-k, I
 chained : (c : At-loop-k) → length (take c.args.count c.args.chain.now) ≡ c.args.count
 chained c =
     length-take-le c.args.count c.args.chain.now
-    (omega (arith, c.requires.0, c.sized_indexes-arg-1.given.0))
+    (omega (arith, c.requires.0, c.sized_indexes-arg-1.given))
 
 long : (c : At-loop-k) → length c.args.entries.now ≡ 3968
-long c = c.sized_words-arg-2-1.given.0
+long c = c.sized_words-arg-2-1.given
 
 -- this log block is one of the chain
 more : (c : In-loop-k) → c.loop-k.k < length (take c.args.count c.args.chain.now)
-more c = omega (arith, (length-take-le c.args.count c.args.chain.now (omega (arith, c.requires.0, c.sized_indexes-arg-1.given.0))), c.loop-k-test.true)
+more c = omega (arith, (length-take-le c.args.count c.args.chain.now (omega (arith, c.requires.0, c.sized_indexes-arg-1.given))), c.loop-k-test.true)
 
 part-is : (c : After-block-part) → let l = c.loop-k in let a = c.args in
     c.block-part.result.now ≡ block_at (memory one a.image.now) (get_or (take a.count a.chain.now) l.k 0)

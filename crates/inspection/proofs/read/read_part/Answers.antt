@@ -1,10 +1,7 @@
 use mathlib.Core.Path.{◌∙◌, sym}
-use Prim.Native.Nat.{◌-◌}
 use native.Mathlib.Omega.{arith}
-use borrow.Author.Rules.{rules}
 use borrow.Author.Tests.{not-true, not-false}
-use lib.ListN.{length}
-use Rattle.inspection.proofs.Legal.{Laid, part-begin, part-again, part-full, part-stopped}
+use Rattle.inspection.proofs.Legal.{part-begin, part-again, part-full, part-stopped}
 use Rattle.inspection.proofs.read.read_part.Goals as goal
 
 pub loop-i-init : goal.loop-i-init
@@ -18,7 +15,7 @@ bounds-entries-at c = let l = c.loop-i in omega (arith, l.invariant.even)
 
 pub loop-i-preserved : goal.loop-i-preserved
 loop-i-preserved c = part-again c.loop-i.invariant c.loop-i-test.true (sym c.is_legal.ensures ∙ not-false _ c.if-not-is_legal.false-raw)
-    (omega (arith, c.sized_words-arg-2-1.given.0, c.requires))
+    (omega (arith, c.sized_words-arg-2-1.given, c.requires))
 
 pub returns : goal.returns
 returns c = part-full c.loop-i.invariant c.loop-i-test.false

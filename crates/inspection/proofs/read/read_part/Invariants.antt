@@ -1,11 +1,7 @@
 -- The legal entries of the slots are those laid down so far, and those from here on.
-use mathlib.Core.Path.{◌∙◌, sym}
 use Prim.Native.Nat.{◌-◌}
-use native.Mathlib.Omega.{arith}
-use borrow.Author.Rules.{rules}
-use borrow.Author.Tests.{not-true, not-false}
 use lib.ListN.{length}
-use Rattle.inspection.proofs.Legal.{Laid, part-begin, part-again, part-full, part-stopped}
+use Rattle.inspection.proofs.Legal.{Laid}
 use Rattle.inspection.proofs.read.read_part.Given as goal
 
 abbrev pub invariant-loop-i : goal.invariant-loop-i

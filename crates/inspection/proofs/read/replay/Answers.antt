@@ -1,9 +1,7 @@
 use mathlib.Core.Path.{◌≡◌}
-use Prim.Native.Nat.{◌-◌, ◌≤◌, ◌<◌}
+use Prim.Native.Nat.{◌<◌}
 use native.Mathlib.Omega.{arith}
-use borrow.Author.Rules.{rules}
-use lib.ListN.{length, take}
-use Rattle.block_log.specs.CatchUp.{TakenIn}
+use lib.ListN.{length}
 use Rattle.inspection.proofs.Legal.{taken_none, taken-on}
 use Rattle.inspection.proofs.read.replay.Goals as goal
 
@@ -14,7 +12,7 @@ pub loop-j-preserved : goal.loop-j-preserved
 loop-j-preserved c = let l = c.loop-j in
     let a = c.args in
     let p = c.requires in
-    let h : l.j < length a.entries.now = omega (arith, c.sized_words-arg-1.given.0, p.0) in (
+    let h : l.j < length a.entries.now = omega (arith, c.sized_words-arg-1.given, p.0) in (
       omega arith,
       taken-on a.entries.now a.n l.j a.table.now l.table _ l.size _ h (omega arith) p.1 l.invariant.1 c.take_entry-size.ensures,
     )

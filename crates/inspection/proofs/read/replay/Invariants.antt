@@ -1,11 +1,7 @@
 -- The entries so far, taken in on the table as it came, give the table and the length as they are now.
-use mathlib.Core.Path.{◌≡◌}
-use Prim.Native.Nat.{◌-◌, ◌≤◌, ◌<◌}
-use native.Mathlib.Omega.{arith}
-use borrow.Author.Rules.{rules}
-use lib.ListN.{length, take}
+use Prim.Native.Nat.{◌-◌, ◌≤◌}
+use lib.ListN.{take}
 use Rattle.block_log.specs.CatchUp.{TakenIn}
-use Rattle.inspection.proofs.Legal.{taken_none, taken-on}
 use Rattle.inspection.proofs.read.replay.Given as goal
 
 abbrev pub invariant-loop-j : goal.invariant-loop-j

@@ -1,6 +1,5 @@
 -- Each way out is one of the three tests.
 use mathlib.Core.Path.{◌∙◌}
-use borrow.Author.Rules.{rules}
 use Rattle.inspection.proofs.ReadOn.{stops-zero, stops-outside, stops-read}
 use Rattle.inspection.proofs.read.stops_at.Goals as goal
 

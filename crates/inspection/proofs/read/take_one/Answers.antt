@@ -1,6 +1,5 @@
 -- A list of one block, 0 being none.
 use mathlib.Core.Path.{refl}
-use borrow.Author.Rules.{rules}
 use Rattle.block_log.proofs.Taken.{one_none, one-some}
 use Rattle.inspection.proofs.read.take_one.Goals as goal
 

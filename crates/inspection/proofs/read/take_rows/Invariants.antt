@@ -1,12 +1,9 @@
 -- What is left of the table, taken on the map as it is now, is all of it taken on the map as it came.
-use mathlib.Core.Path.{◌≡◌, ◌∙◌, sym, refl}
-use mathlib.Core.Bool.{true, false}
-use Prim.Native.Nat.{◌-◌, ◌≤◌, ◌<◌}
-use native.Mathlib.Omega.{arith}
-use borrow.Author.Rules.{rules}
-use lib.ListN.{length, drop}
+use mathlib.Core.Path.{◌≡◌}
+use mathlib.Core.Bool.{true}
+use Prim.Native.Nat.{◌-◌, ◌≤◌}
+use lib.ListN.{drop}
 use Rattle.words.specs.BlockMap.{set_all}
-use Rattle.block_log.proofs.Taken.{live-marks, live_end}
 use Rattle.inspection.proofs.read.take_rows.Given as goal
 
 abbrev pub invariant-loop-v : goal.invariant-loop-v

@@ -1,6 +1,5 @@
 -- Each way out is one arm of the definition.
 use mathlib.Core.Path.{◌∙◌, sym}
-use borrow.Author.Rules.{rules}
 use Rattle.inspection.proofs.Uses.{use-super, use-log, use-live, use-free}
 use Rattle.inspection.proofs.read.use_in.Goals as goal
 
