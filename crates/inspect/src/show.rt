@@ -3,252 +3,289 @@ ghost use Rattle.std.specs.Prelude.{◌≤◌, ◌<◌};
 
 use crate::say;
 use inspection::{Fault, Found};
+use std::io;
+use std::io::Write;
 
-fn place(block: u64, word: u64) {
-    say::number(b"fault at block ", block);
-    say::number(b" word ", word);
+fn place(out: &mut impl Write, block: u64, word: u64) -> io::Result<()> {
+    say::number(out, b"fault at block ", block)?;
+    say::number(out, b" word ", word)
 }
 
-fn refused(n: u32) {
-    say::number(b"refused ", n as u64);
-    say::words(b": ");
-    say::reason(n);
+fn refused(out: &mut impl Write, n: u32) -> io::Result<()> {
+    say::number(out, b"refused ", n as u64)?;
+    say::words(out, b": ")?;
+    say::reason(out, n)
 }
 
 // More bytes than an image can have.
-pub fn too_long() {
-    refused(block_log::IMAGE_SIZE);
-    place(1024, 0);
-    say::words(b", more than 65536 words\n");
-    say::rule(block_log::IMAGE_SIZE, 3);
+pub fn too_long(out: &mut impl Write) -> io::Result<()> {
+    refused(out, block_log::IMAGE_SIZE)?;
+    place(out, 1024, 0)?;
+    say::words(out, b", more than 65536 words\n")?;
+    say::rule(out, block_log::IMAGE_SIZE, 3)
 }
 
 // The bytes end inside a word.
-pub fn broken_word(n: u64) {
-    refused(block_log::IMAGE_SIZE);
-    place(n / 512, n % 512 / 8);
-    say::number(b", bytes ", n);
-    say::words(b"\n");
-    say::rule(block_log::IMAGE_SIZE, 0);
+pub fn broken_word(out: &mut impl Write, n: u64) -> io::Result<()> {
+    refused(out, block_log::IMAGE_SIZE)?;
+    place(out, n / 512, n % 512 / 8)?;
+    say::number(out, b", bytes ", n)?;
+    say::words(out, b"\n")?;
+    say::rule(out, block_log::IMAGE_SIZE, 0)
 }
 
 // What the place of a fault holds.
-fn held(fault: Fault) {
+fn held(out: &mut impl Write, fault: Fault) -> io::Result<()> {
     if fault.number == block_log::IMAGE_SIZE {
-        return say::number(b", words ", fault.value);
+        return say::number(out, b", words ", fault.value);
     }
-    say::value(b", value 0x", fault.value);
+    say::value(out, b", value 0x", fault.value)?;
     if fault.number == block_log::BLOCK_SHARED {
-        return say::number(b", virtual block ", fault.detail);
+        return say::number(out, b", virtual block ", fault.detail);
     }
     if fault.number == block_log::END_NOT_ZERO {
-        say::number(b", byte ", fault.detail);
+        say::number(out, b", byte ", fault.detail)?;
     }
+    Ok(())
 }
 
 // Whether the image opens, and if not, its fault; whether nothing more is to be said of it.
-pub fn verdict(fault: Fault) -> bool {
+pub fn verdict(out: &mut impl Write, fault: Fault) -> io::Result<bool> {
     let n = fault.number;
     if n == 0 {
-        say::words(b"opens\n");
-        return false;
+        say::words(out, b"opens\n")?;
+        return Ok(false);
     }
-    refused(n);
-    place(fault.block, fault.word);
-    held(fault);
-    say::words(b"\n");
-    say::rule(n, fault.rule);
+    refused(out, n)?;
+    place(out, fault.block, fault.word)?;
+    held(out, fault)?;
+    say::words(out, b"\n")?;
+    say::rule(out, n, fault.rule)?;
     if n == block_log::IMAGE_SIZE {
-        return true;
+        return Ok(true);
     }
-    say::words(b"as far as it can be read:\n");
-    false
+    say::words(out, b"as far as it can be read:\n")?;
+    Ok(false)
 }
 
-pub fn header(found: Found) {
-    say::number(b"length ", found.length as u64);
-    say::number(b", entries ", found.entries as u64);
-    say::number(b", free blocks ", found.free as u64);
-    say::number(b", longest free stretch ", found.longest as u64);
-    say::words(b"\n");
+pub fn header(out: &mut impl Write, found: Found) -> io::Result<()> {
+    say::number(out, b"length ", found.length as u64)?;
+    say::number(out, b", entries ", found.entries as u64)?;
+    say::number(out, b", free blocks ", found.free as u64)?;
+    say::number(out, b", longest free stretch ", found.longest as u64)?;
+    say::words(out, b"\n")
 }
 
 // The number of a line's first block, in four places.
-fn margin(b: u64) {
+fn margin(out: &mut impl Write, b: u64) -> io::Result<()> {
     if b < 1000 {
-        say::words(b" ");
+        say::words(out, b" ")?;
     }
     if b < 100 {
-        say::words(b" ");
+        say::words(out, b" ")?;
     }
     if b < 10 {
-        say::words(b" ");
+        say::words(out, b" ")?;
     }
-    say::number(b"", b);
-    say::words(b" ");
+    say::number(out, b"", b)?;
+    say::words(out, b" ")
 }
 
-fn use_of(of: u8) {
+fn use_of(out: &mut impl Write, of: u8) -> io::Result<()> {
     if of == 0 {
-        return say::words(b"S");
+        return say::words(out, b"S");
     }
     if of == 1 {
-        return say::words(b"L");
+        return say::words(out, b"L");
     }
     if of == 2 {
-        return say::words(b"#");
+        return say::words(out, b"#");
     }
-    say::words(b".");
+    say::words(out, b".")
 }
 
 // The use of block b of so many; before the first of a line its number, behind the last the line's end.
-fn block(b: usize, count: usize, of: u8) {
+fn block(out: &mut impl Write, b: usize, count: usize, of: u8) -> io::Result<()> {
     if count <= b {
-        return;
+        return Ok(());
     }
     if b % 64 == 0 {
-        margin(b as u64);
+        margin(out, b as u64)?;
     }
-    use_of(of);
+    use_of(out, of)?;
     if b % 64 == 63 {
-        return say::words(b"\n");
+        return say::words(out, b"\n");
     }
     if count - b == 1 {
-        say::words(b"\n");
+        say::words(out, b"\n")?;
     }
+    Ok(())
 }
 
-fn map(count: usize, uses: &[u8; 1024]) {
+fn map(out: &mut impl Write, count: usize, uses: &[u8; 1024]) -> io::Result<()> {
     for b in 0..1024 {
-        block(b, count, uses[b]);
+        block(out, b, count, uses[b])?;
     }
+    Ok(())
 }
 
 // The map of an image's blocks, 64 to a line.
-pub fn blocks(count: usize, uses: &[u8; 1024]) {
-    say::number(b"\nblocks ", count as u64);
-    say::words(b": S superblock, L log, # live, . free\n");
-    map(count, uses);
+pub fn blocks(out: &mut impl Write, count: usize, uses: &[u8; 1024]) -> io::Result<()> {
+    say::number(out, b"\nblocks ", count as u64)?;
+    say::words(out, b": S superblock, L log, # live, . free\n")?;
+    map(out, count, uses)
 }
 
-fn log_block(shown: bool, b: u16) {
+fn log_block(out: &mut impl Write, shown: bool, b: u16) -> io::Result<()> {
     if shown {
-        say::number(b" ", b as u64);
+        say::number(out, b" ", b as u64)?;
     }
+    Ok(())
 }
 
-fn log_blocks(blocks: &[u16; 64], count: usize) {
+fn log_blocks(out: &mut impl Write, blocks: &[u16; 64], count: usize) -> io::Result<()> {
     for k in 0..64 {
-        log_block(k < count, blocks[k]);
+        log_block(out, k < count, blocks[k])?;
     }
+    Ok(())
 }
 
 // The log blocks, in chain order.
-pub fn chain(blocks: &[u16; 64], count: usize) {
-    say::words(b"\nlog blocks");
+pub fn chain(out: &mut impl Write, blocks: &[u16; 64], count: usize) -> io::Result<()> {
+    say::words(out, b"\nlog blocks")?;
     if count == 0 {
-        return say::words(b" none\n");
+        return say::words(out, b" none\n");
     }
-    log_blocks(blocks, count);
-    say::words(b"\n");
+    log_blocks(out, blocks, count)?;
+    say::words(out, b"\n")
 }
 
 // The last of so many numbers from a first one on.
-fn last(first: u64, count: u64)
+fn last(out: &mut impl Write, first: u64, count: u64) -> io::Result<()>
     requires { (first < 65536) × (1 ≤ count) }
 {
     if count < 65536 {
-        say::number(b" to ", first + count - 1);
+        say::number(out, b" to ", first + count - 1)?;
     }
+    Ok(())
 }
 
 // Numbers from a first one on, so many: one, or first and last.
-fn span(one: &[u8], many: &[u8], first: u64, count: u64)
+fn span(out: &mut impl Write, one: &[u8], many: &[u8], first: u64, count: u64) -> io::Result<()>
     requires { first < 65536 }
 {
     if count <= 1 {
-        return say::number(one, first);
+        return say::number(out, one, first);
     }
-    say::number(many, first);
-    last(first, count);
+    say::number(out, many, first)?;
+    last(out, first, count)
 }
 
-fn virtual_block(on: bool, v: u64) {
+fn virtual_block(out: &mut impl Write, on: bool, v: u64) -> io::Result<()> {
     if on {
-        say::number(b" ", v);
+        say::number(out, b" ", v)?;
     }
+    Ok(())
 }
 
-fn each_overruled(v: u64, marks: u64)
+fn each_overruled(out: &mut impl Write, v: u64, marks: u64) -> io::Result<()>
     requires { v < 65536 }
 {
     for i in 0..64 {
-        virtual_block((marks >> i) & 1 == 1, v + i);
+        virtual_block(out, (marks >> i) & 1 == 1, v + i)?;
     }
+    Ok(())
 }
 
 // Which of the n virtual blocks from v on are overruled.
-fn overruled(v: u64, n: u64, marks: u64)
+fn overruled(out: &mut impl Write, v: u64, n: u64, marks: u64) -> io::Result<()>
     requires { v < 65536 }
 {
-    say::words(b", overruled");
+    say::words(out, b", overruled")?;
     if marks == 0 {
-        return say::words(b" none\n");
+        return say::words(out, b" none\n");
     }
     if words::map::free_count(&[marks; 1], n as usize) == 0 {
-        return say::words(b" all\n");
+        return say::words(out, b" all\n");
     }
-    each_overruled(v, marks);
-    say::words(b"\n");
+    each_overruled(out, v, marks)?;
+    say::words(out, b"\n")
 }
 
 // Entry j, where it stands, its fields, and what later ones overrule of it.
-fn entry(j: usize, b: u16, e: u64, marks: u64)
+fn entry(out: &mut impl Write, j: usize, b: u16, e: u64, marks: u64) -> io::Result<()>
     requires { j < 3968 }
 {
     let v = block_log::first_virtual(e);
     let n = block_log::count(e);
-    say::number(b"entry ", j as u64 + 1);
-    say::number(b", block ", b as u64);
-    say::number(b" word ", 2 + j as u64 % 62);
-    say::number(b": point ", block_log::pack::point(e));
-    span(b", virtual block ", b", virtual blocks ", v, n);
-    span(b" in block ", b" in blocks ", block_log::first_block(e), n);
-    say::number(b", ", block_log::used(e));
-    say::words(b" bytes used of the last");
-    overruled(v, n, marks);
+    say::number(out, b"entry ", j as u64 + 1)?;
+    say::number(out, b", block ", b as u64)?;
+    say::number(out, b" word ", 2 + j as u64 % 62)?;
+    say::number(out, b": point ", block_log::pack::point(e))?;
+    span(out, b", virtual block ", b", virtual blocks ", v, n)?;
+    span(
+        out,
+        b" in block ",
+        b" in blocks ",
+        block_log::first_block(e),
+        n,
+    )?;
+    say::number(out, b", ", block_log::used(e))?;
+    say::words(out, b" bytes used of the last")?;
+    overruled(out, v, n, marks)
 }
 
-fn entry_if(shown: bool, j: usize, b: u16, e: u64, marks: u64)
+fn entry_if(
+    out: &mut impl Write,
+    shown: bool,
+    j: usize,
+    b: u16,
+    e: u64,
+    marks: u64,
+) -> io::Result<()>
     requires { j < 3968 }
 {
     if shown {
-        entry(j, b, e, marks);
+        entry(out, j, b, e, marks)?;
     }
+    Ok(())
 }
 
-fn entries(chain: &[u16; 64], log: &[u64; 3968], marks: &[u64; 3968], count: usize) {
+fn entries(
+    out: &mut impl Write,
+    chain: &[u16; 64],
+    log: &[u64; 3968],
+    marks: &[u64; 3968],
+    count: usize,
+) -> io::Result<()> {
     for j in 0..3968 {
         let k = j / 62;
-        entry_if(j < count, j, chain[k], log[j], marks[j]);
+        entry_if(out, j < count, j, chain[k], log[j], marks[j])?;
     }
+    Ok(())
 }
 
 // The entries, in log order.
-pub fn log(chain: &[u16; 64], log: &[u64; 3968], marks: &[u64; 3968], count: usize) {
+pub fn log(
+    out: &mut impl Write,
+    chain: &[u16; 64],
+    log: &[u64; 3968],
+    marks: &[u64; 3968],
+    count: usize,
+) -> io::Result<()> {
     if count == 0 {
-        return say::words(b"no entries\n");
+        return say::words(out, b"no entries\n");
     }
-    entries(chain, log, marks, count);
+    entries(out, chain, log, marks, count)
 }
 
-fn row(v: usize, b: u16) {
+fn row(out: &mut impl Write, v: usize, b: u16) -> io::Result<()> {
     if b == 0 {
-        return;
+        return Ok(());
     }
-    say::number(b"", v as u64);
-    say::number(b" ", b as u64);
-    say::words(b"\n");
+    say::number(out, b"", v as u64)?;
+    say::number(out, b" ", b as u64)?;
+    say::words(out, b"\n")
 }
 
 // Whether nothing is mapped.
@@ -261,21 +298,22 @@ fn is_empty(rows: &[u16; 256]) -> bool {
     true
 }
 
-fn rows_of(rows: &[u16; 256]) {
+fn rows_of(out: &mut impl Write, rows: &[u16; 256]) -> io::Result<()> {
     for v in 0..256 {
-        row(v, rows[v]);
+        row(out, v, rows[v])?;
     }
+    Ok(())
 }
 
-fn table_head(empty: bool) {
+fn table_head(out: &mut impl Write, empty: bool) -> io::Result<()> {
     if empty {
-        return say::words(b"\ntable: empty\n");
+        return say::words(out, b"\ntable: empty\n");
     }
-    say::words(b"\ntable: virtual block, block\n");
+    say::words(out, b"\ntable: virtual block, block\n")
 }
 
 // The table: each virtual block that is mapped.
-pub fn table(rows: &[u16; 256]) {
-    table_head(is_empty(rows));
-    rows_of(rows);
+pub fn table(out: &mut impl Write, rows: &[u16; 256]) -> io::Result<()> {
+    table_head(out, is_empty(rows))?;
+    rows_of(out, rows)
 }

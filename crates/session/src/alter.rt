@@ -5,6 +5,8 @@ use crate::order::Order;
 use crate::records::Places;
 use crate::{calls, order, print, records};
 use block_log::Shared;
+use std::io;
+use std::io::Write;
 
 // The greatest number that a field of a point's record takes: 6 for the phase, 16 bits for the retries.
 fn most(field: u64) -> u64
@@ -20,37 +22,44 @@ fn most(field: u64) -> u64
 }
 
 // Number `o.b` of the `count` numbers of a record from `first` on becomes `o.c`, which is at most `most`.
-fn put(places: &mut Places, o: Order, first: usize, count: u64, most: u64)
+fn put(
+    out: &mut impl Write,
+    places: &mut Places,
+    o: Order,
+    first: usize,
+    count: u64,
+    most: u64,
+) -> io::Result<()>
     requires { (first + count ≤ 1291) × (most < 4294967296) }
 {
     if 31 < o.a {
-        return print::error();
+        return print::error(out);
     }
     if count <= o.b {
-        return print::error();
+        return print::error(out);
     }
     if most < o.c {
-        return print::error();
+        return print::error(out);
     }
     records::set_number(places, o.a as usize, first + o.b as usize, o.c as u32);
-    print::altered();
+    print::altered(out)
 }
 
-fn copy(places: &mut Places, o: Order) {
+fn copy(out: &mut impl Write, places: &mut Places, o: Order) -> io::Result<()> {
     if 31 < o.a {
-        return print::error();
+        return print::error(out);
     }
     if 31 < o.b {
-        return print::error();
+        return print::error(out);
     }
     let point = records::load(places, o.a as usize);
     records::save(places, o.b as usize, point);
-    print::words(b"copied\n");
+    print::words(out, b"copied\n")
 }
 
-fn shared_field(shared: Shared, o: Order) -> Shared {
+fn shared_field(out: &mut impl Write, shared: Shared, o: Order) -> io::Result<Shared> {
     if 4294967295 < o.b {
-        return calls::wrong(shared);
+        return calls::wrong(out, shared);
     }
     let mut after = shared;
     let x = o.b as u32;
@@ -61,57 +70,62 @@ fn shared_field(shared: Shared, o: Order) -> Shared {
     } else {
         after.chain = x;
     }
-    print::altered();
-    after
+    print::altered(out)?;
+    Ok(after)
 }
 
-fn map(shared: Shared, o: Order) -> Shared {
+fn map(out: &mut impl Write, shared: Shared, o: Order) -> io::Result<Shared> {
     if 15 < o.a {
-        return calls::wrong(shared);
+        return calls::wrong(out, shared);
     }
     let mut after = shared;
     after.taken[o.a as usize] = o.b;
-    print::altered();
-    after
+    print::altered(out)?;
+    Ok(after)
 }
 
-fn report(shared: Shared, o: Order) -> Shared {
+fn report(out: &mut impl Write, shared: Shared, o: Order) -> io::Result<Shared> {
     if 31 < o.a {
-        return calls::wrong(shared);
+        return calls::wrong(out, shared);
     }
     if 4294967295 < o.b {
-        return calls::wrong(shared);
+        return calls::wrong(out, shared);
     }
     let mut after = shared;
     after.reports[o.a as usize] = o.b as u32;
-    print::altered();
-    after
+    print::altered(out)?;
+    Ok(after)
 }
 
 // Alters a record and writes the line; the shared record after it.
-pub fn obey(shared: Shared, places: &mut Places, o: Order) -> Shared {
+pub fn obey(
+    out: &mut impl Write,
+    shared: Shared,
+    places: &mut Places,
+    o: Order,
+) -> io::Result<Shared> {
     let command = o.command;
     if command == order::ALTERSHARED {
-        return shared_field(shared, o);
+        return shared_field(out, shared, o);
     }
     if command == order::MAP {
-        return map(shared, o);
+        return map(out, shared, o);
     }
     if command == order::REPORT {
-        return report(shared, o);
+        return report(out, shared, o);
     }
     if command == order::COPY {
-        copy(places, o);
-        return shared;
+        copy(out, places, o)?;
+        return Ok(shared);
     }
     if command == order::ALTER {
-        put(places, o, 0, 11, most(o.b));
-        return shared;
+        put(out, places, o, 0, 11, most(o.b))?;
+        return Ok(shared);
     }
     if command == order::TABLE {
-        put(places, o, records::TABLE, 256, 65535);
-        return shared;
+        put(out, places, o, records::TABLE, 256, 65535)?;
+        return Ok(shared);
     }
-    put(places, o, records::TEXT, 1024, 255);
-    shared
+    put(out, places, o, records::TEXT, 1024, 255)?;
+    Ok(shared)
 }

@@ -1,53 +1,61 @@
 // Commands on the image alone.
 use crate::order::Order;
 use crate::{digest, noise, order, print};
+use std::io;
+use std::io::Write;
 
-fn make_noise(image: &mut [u64], from: usize, size: usize, seed: u64) {
+fn make_noise(
+    out: &mut impl Write,
+    image: &mut [u64],
+    from: usize,
+    size: usize,
+    seed: u64,
+) -> io::Result<()> {
     if image.len() < from {
-        return print::error();
+        return print::error(out);
     }
     if image.len() - from < size {
-        return print::error();
+        return print::error(out);
     }
     let to = from + size;
     noise::fill(&mut image[from..to], seed);
-    print::words(b"noise\n");
+    print::words(out, b"noise\n")
 }
 
-fn set(image: &mut [u64], at: usize, value: u64) {
+fn set(out: &mut impl Write, image: &mut [u64], at: usize, value: u64) -> io::Result<()> {
     if image.len() <= at {
-        return print::error();
+        return print::error(out);
     }
     words::image::put_word(image, at, value);
-    print::words(b"set\n");
+    print::words(out, b"set\n")
 }
 
-fn word(image: &[u64], at: usize) {
+fn word(out: &mut impl Write, image: &[u64], at: usize) -> io::Result<()> {
     if image.len() <= at {
-        return print::error();
+        return print::error(out);
     }
-    print::line(b"word ", words::image::word(image, at));
+    print::line(out, b"word ", words::image::word(image, at))
 }
 
-fn lay_out(image: &mut [u64]) {
+fn lay_out(out: &mut impl Write, image: &mut [u64]) -> io::Result<()> {
     let reply = block_log::layout::lay_out(image);
-    print::reply(reply, b"laid out\n");
+    print::reply(out, reply, b"laid out\n")
 }
 
 // Does a command on the image and writes its line.
-pub fn obey(image: &mut [u64], o: Order) {
+pub fn obey(out: &mut impl Write, image: &mut [u64], o: Order) -> io::Result<()> {
     let command = o.command;
     if command == order::NOISE {
-        return make_noise(image, o.a as usize, o.b as usize, o.c);
+        return make_noise(out, image, o.a as usize, o.b as usize, o.c);
     }
     if command == order::SET {
-        return set(image, o.a as usize, o.b);
+        return set(out, image, o.a as usize, o.b);
     }
     if command == order::WORD {
-        return word(image, o.a as usize);
+        return word(out, image, o.a as usize);
     }
     if command == order::LAYOUT {
-        return lay_out(image);
+        return lay_out(out, image);
     }
-    print::line(b"digest ", digest::of_words(image));
+    print::line(out, b"digest ", digest::of_words(image))
 }

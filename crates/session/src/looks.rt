@@ -6,105 +6,129 @@ use crate::records::Places;
 use crate::{digest, order, print, records};
 use block_log::{Reply, Shared};
 use points::{Count, Point};
+use std::io;
+use std::io::Write;
 
 // The first n bytes of a buffer, two digits each; a blank before them if there is one.
-fn print_bytes(buffer: &[u8], n: usize) {
+fn print_bytes(out: &mut impl Write, buffer: &[u8], n: usize) -> io::Result<()> {
     if n == 0 {
-        return;
+        return Ok(());
     }
-    print::words(b" ");
+    print::words(out, b" ")?;
     let mut i: usize = 0;
     while i < n {
         if buffer.len() <= i {
-            return;
+            return Ok(());
         }
-        print::hex(buffer[i]);
+        print::hex(out, buffer[i])?;
         i += 1;
     }
+    Ok(())
 }
 
-fn print_read(count: Count, buffer: &[u8]) {
+fn print_read(out: &mut impl Write, count: Count, buffer: &[u8]) -> io::Result<()> {
     let reply = count.reply;
     match reply {
-        Reply::Done => print::labelled(b"read ", count.count as u64),
-        Reply::Refused(reason) => print::labelled(b"refused ", reason as u64),
+        Reply::Done => print::labelled(out, b"read ", count.count as u64)?,
+        Reply::Refused(reason) => print::labelled(out, b"refused ", reason as u64)?,
     }
-    print::line(b" digest ", digest::of_bytes(buffer));
+    print::line(out, b" digest ", digest::of_bytes(buffer))
 }
 
-fn print_shown(count: Count, buffer: &[u8]) {
+fn print_shown(out: &mut impl Write, count: Count, buffer: &[u8]) -> io::Result<()> {
     let reply = count.reply;
     match reply {
         Reply::Done => {
-            print::words(b"show");
-            print_bytes(buffer, count.count as usize);
-            print::words(b"\n");
+            print::words(out, b"show")?;
+            print_bytes(out, buffer, count.count as usize)?;
+            print::words(out, b"\n")
         }
-        Reply::Refused(reason) => print::refused(reason),
+        Reply::Refused(reason) => print::refused(out, reason),
     }
 }
 
 // Reads into a buffer of so many bytes, each 170 before.
-fn read(image: &[u64], shared: Shared, point: Point, offset: usize, size: usize, shown: bool)
+fn read(
+    out: &mut impl Write,
+    image: &[u64],
+    shared: Shared,
+    point: Point,
+    offset: usize,
+    size: usize,
+    shown: bool,
+) -> io::Result<()>
     requires { size ≤ 4096 }
 {
     let mut bytes = [170u8; 4096];
     let buffer = &mut bytes[0..size];
     let count = points::read::read(image, shared, point, offset, buffer);
     if shown {
-        return print_shown(count, buffer);
+        return print_shown(out, count, buffer);
     }
-    print_read(count, buffer);
+    print_read(out, count, buffer)
 }
 
-fn locate(image: &[u64], shared: Shared, point: Point, v: usize) {
+fn locate(
+    out: &mut impl Write,
+    image: &[u64],
+    shared: Shared,
+    point: Point,
+    v: usize,
+) -> io::Result<()> {
     let count = points::locate::locate(image, shared, point, v);
     let reply = count.reply;
     match reply {
-        Reply::Done => print::line(b"located ", count.count as u64),
-        Reply::Refused(reason) => print::refused(reason),
+        Reply::Done => print::line(out, b"located ", count.count as u64),
+        Reply::Refused(reason) => print::refused(out, reason),
     }
 }
 
 // The part's first word stands at 64 times the block that locating answers.
-fn view(image: &[u64], shared: Shared, point: Point, v: usize) {
+fn view(
+    out: &mut impl Write,
+    image: &[u64],
+    shared: Shared,
+    point: Point,
+    v: usize,
+) -> io::Result<()> {
     let part = points::locate::view(image, shared, point, v);
     if part.len() == 0 {
-        return print::words(b"view empty\n");
+        return print::words(out, b"view empty\n");
     }
     let count = points::locate::locate(image, shared, point, v);
-    print::labelled(b"view ", 64 * count.count as u64);
-    print::line(b" digest ", digest::of_words(part));
+    print::labelled(out, b"view ", 64 * count.count as u64)?;
+    print::line(out, b" digest ", digest::of_words(part))
 }
 
 fn number_of(x: u32) -> u64 {
     x as u64
 }
 
-fn print_numbers(places: &Places, p: usize)
+fn print_numbers(out: &mut impl Write, places: &Places, p: usize) -> io::Result<()>
     requires { p < 32 }
 {
     for i in 0..11 {
-        print::labelled(b" ", number_of(records::number(places, p, i)));
+        print::labelled(out, b" ", number_of(records::number(places, p, i)))?;
     }
+    Ok(())
 }
 
 // The numbers of place p's record, and the digests of its table and its text.
-fn record(places: &Places, point: Point, p: usize)
+fn record(out: &mut impl Write, places: &Places, point: Point, p: usize) -> io::Result<()>
     requires { p < 32 }
 {
-    print::words(b"record");
-    print_numbers(places, p);
-    print::labelled(b" ", digest::of_numbers(&point.table));
-    print::line(b" ", digest::of_bytes(&point.text));
+    print::words(out, b"record")?;
+    print_numbers(out, places, p)?;
+    print::labelled(out, b" ", digest::of_numbers(&point.table))?;
+    print::line(out, b" ", digest::of_bytes(&point.text))
 }
 
-fn print_shared(shared: Shared) {
-    print::labelled(b"shared ", shared.blocks as u64);
-    print::labelled(b" ", shared.joined as u64);
-    print::labelled(b" ", digest::of_words(&shared.taken));
-    print::labelled(b" ", shared.chain as u64);
-    print::line(b" ", digest::of_blocks(&shared.reports));
+fn print_shared(out: &mut impl Write, shared: Shared) -> io::Result<()> {
+    print::labelled(out, b"shared ", shared.blocks as u64)?;
+    print::labelled(out, b" ", shared.joined as u64)?;
+    print::labelled(out, b" ", digest::of_words(&shared.taken))?;
+    print::labelled(out, b" ", shared.chain as u64)?;
+    print::line(out, b" ", digest::of_blocks(&shared.reports))
 }
 
 fn at_most(n: usize, most: usize) -> usize
@@ -114,51 +138,63 @@ fn at_most(n: usize, most: usize) -> usize
 }
 
 // The free blocks below the block count, or below 1,024.
-fn free(shared: Shared) {
+fn free(out: &mut impl Write, shared: Shared) -> io::Result<()> {
     let blocks = at_most(shared.blocks as usize, 1024);
     let free = words::map::free_count(&shared.taken, blocks);
-    print::line(b"free ", free as u64);
+    print::line(out, b"free ", free as u64)
 }
 
 // A look by a place's record.
-fn look(image: &[u64], shared: Shared, point: Point, o: Order) {
+fn look(
+    out: &mut impl Write,
+    image: &[u64],
+    shared: Shared,
+    point: Point,
+    o: Order,
+) -> io::Result<()> {
     if 4294967295 < o.b {
-        return print::error();
+        return print::error(out);
     }
     let at = o.b as usize;
     if o.command == order::READ {
         if 4096 < o.c {
-            return print::error();
+            return print::error(out);
         }
-        return read(image, shared, point, at, o.c as usize, false);
+        return read(out, image, shared, point, at, o.c as usize, false);
     }
     if o.command == order::SHOW {
         if 64 < o.c {
-            return print::error();
+            return print::error(out);
         }
-        return read(image, shared, point, at, o.c as usize, true);
+        return read(out, image, shared, point, at, o.c as usize, true);
     }
     if o.command == order::LOCATE {
-        return locate(image, shared, point, at);
+        return locate(out, image, shared, point, at);
     }
-    view(image, shared, point, at);
+    view(out, image, shared, point, at)
 }
 
 // Looks, and writes the line.
-pub fn obey(image: &[u64], shared: Shared, places: &Places, o: Order) {
+pub fn obey(
+    out: &mut impl Write,
+    image: &[u64],
+    shared: Shared,
+    places: &Places,
+    o: Order,
+) -> io::Result<()> {
     if o.command == order::SHARED {
-        return print_shared(shared);
+        return print_shared(out, shared);
     }
     if o.command == order::FREE {
-        return free(shared);
+        return free(out, shared);
     }
     if 31 < o.a {
-        return print::error();
+        return print::error(out);
     }
     let p = o.a as usize;
     let point = records::load(places, p);
     if o.command == order::RECORD {
-        return record(places, point, p);
+        return record(out, places, point, p);
     }
-    look(image, shared, point, o);
+    look(out, image, shared, point, o)
 }

@@ -1,43 +1,45 @@
-// Writes words and numbers to standard output.
+// Writes words and numbers.
 use block_log::Reply;
+use std::io;
+use std::io::Write;
 
-pub fn words(text: &[u8]) {
-    io::write_all(1, text);
+pub fn words(out: &mut impl Write, text: &[u8]) -> io::Result<()> {
+    out.write_all(text)
 }
 
 // A text, and a number after it.
-pub fn labelled(text: &[u8], n: u64) {
-    io::write_all(1, text);
-    io::print_decimal(1, n);
+pub fn labelled(out: &mut impl Write, text: &[u8], n: u64) -> io::Result<()> {
+    out.write_all(text)?;
+    write!(out, "{n}")
 }
 
 // A line of a text and a number.
-pub fn line(text: &[u8], n: u64) {
-    labelled(text, n);
-    io::write_all(1, b"\n");
+pub fn line(out: &mut impl Write, text: &[u8], n: u64) -> io::Result<()> {
+    labelled(out, text, n)?;
+    out.write_all(b"\n")
 }
 
-pub fn error() {
-    io::write_all(1, b"error\n");
+pub fn error(out: &mut impl Write) -> io::Result<()> {
+    out.write_all(b"error\n")
 }
 
-pub fn altered() {
-    io::write_all(1, b"altered\n");
+pub fn altered(out: &mut impl Write) -> io::Result<()> {
+    out.write_all(b"altered\n")
 }
 
 // A byte's two digits.
-pub fn hex(byte: u8) {
-    io::print_hex(1, byte as u64, 2);
+pub fn hex(out: &mut impl Write, byte: u8) -> io::Result<()> {
+    write!(out, "{byte:02x}")
 }
 
-pub fn refused(reason: u32) {
-    line(b"refused ", reason as u64);
+pub fn refused(out: &mut impl Write, reason: u32) -> io::Result<()> {
+    line(out, b"refused ", reason as u64)
 }
 
 // The line of a call that is done, or why it was turned down.
-pub fn reply(reply: Reply, done: &[u8]) {
+pub fn reply(out: &mut impl Write, reply: Reply, done: &[u8]) -> io::Result<()> {
     match reply {
-        Reply::Done => words(done),
-        Reply::Refused(reason) => refused(reason),
+        Reply::Done => words(out, done),
+        Reply::Refused(reason) => refused(out, reason),
     }
 }

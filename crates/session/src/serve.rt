@@ -6,6 +6,8 @@ use crate::records::Places;
 use crate::scan::Number;
 use crate::{calls, print, records, scan, steps};
 use block_log::Shared;
+use std::io;
+use std::io::Write;
 
 // What the call answers, and the shared record after it.
 #[derive(Clone, Copy)]
@@ -134,15 +136,16 @@ fn save(
 }
 
 // A line for each point: what its last beginning or step answered.
-fn print_answers(list: &[u64], answers: &[[u32; 2]])
+fn print_answers(out: &mut impl Write, list: &[u64], answers: &[[u32; 2]]) -> io::Result<()>
     requires { length answers.now ≡ length list.now }
 {
     for i in 0..list.len() {
-        print::labelled(b"served ", list[i]);
-        print::words(b" ");
-        steps::print_told(steps::without_bytes(answers[i][0], answers[i][1]));
-        print::words(b"\n");
+        print::labelled(out, b"served ", list[i])?;
+        print::words(out, b" ")?;
+        steps::print_told(out, steps::without_bytes(answers[i][0], answers[i][1]))?;
+        print::words(out, b"\n")?;
     }
+    Ok(())
 }
 
 // The call, with the shared record in numbers.
@@ -177,6 +180,7 @@ fn call(
 
 // Serves the points of these places with these writes and writes the lines. The records are taken into the lists that are lent, and put back.
 fn serve_in(
+    out: &mut impl Write,
     image: &mut [u64],
     shared: Shared,
     places: &mut Places,
@@ -187,7 +191,7 @@ fn serve_in(
     answers: &mut [[u32; 2]],
     writes: &[[usize; 2]],
     bytes: &[u8],
-) -> Shared
+) -> io::Result<Shared>
     requires { (length heads.old ≡ length list.now) × (length tables.old ≡ length list.now) × (length texts.old ≡ length list.now)
         × (length answers.old ≡ length list.now) }
 {
@@ -195,22 +199,23 @@ fn serve_in(
     let served = call(image, shared, heads, tables, texts, answers, writes, bytes);
     save(places, list, heads, tables, texts);
     if served.refused != 0 {
-        print::refused(served.refused);
+        print::refused(out, served.refused)?;
     } else {
-        print_answers(list, answers);
+        print_answers(out, list, answers)?;
     }
-    served.shared
+    Ok(served.shared)
 }
 
 // The same, with lists of its own.
 fn serve(
+    out: &mut impl Write,
     image: &mut [u64],
     shared: Shared,
     places: &mut Places,
     list: &[u64],
     writes: &[[usize; 2]],
     bytes: &[u8],
-) -> Shared
+) -> io::Result<Shared>
     requires { length list.now ≤ 40 }
 {
     let n = list.len();
@@ -219,6 +224,7 @@ fn serve(
     let mut texts = [[0u8; 1024]; 40];
     let mut answers = [[0u32; 2]; 40];
     serve_in(
+        out,
         image,
         shared,
         places,
@@ -234,6 +240,7 @@ fn serve(
 
 // The same with the writes of these numbers, made where there is room.
 fn serve_made(
+    out: &mut impl Write,
     image: &mut [u64],
     shared: Shared,
     places: &mut Places,
@@ -241,36 +248,38 @@ fn serve_made(
     numbers: &[u64],
     writes: &mut [[usize; 2]],
     bytes: &mut [u8],
-) -> Shared
+) -> io::Result<Shared>
     requires { (length list.now ≤ 40) × (length writes.old ≤ 40) × (3 * length writes.old ≤ length numbers.now) × (length bytes.old ≡ 44000) }
 {
     let size = make_writes(numbers, writes, bytes);
     let all = &bytes[..];
-    serve(image, shared, places, list, writes, &all[0..size])
+    serve(out, image, shared, places, list, writes, &all[0..size])
 }
 
 // The same, if these are the numbers of n places and of writes.
 fn serve_checked(
+    out: &mut impl Write,
     image: &mut [u64],
     shared: Shared,
     places: &mut Places,
     numbers: &[u64],
     n: usize,
-) -> Shared
+) -> io::Result<Shared>
     requires { (n ≤ 40) × (n ≤ length numbers.now) × (length numbers.now ≤ n + 120) }
 {
     let list = &numbers[0..n];
     let rest = &numbers[n..];
     if !are_places(list) {
-        return calls::wrong(shared);
+        return calls::wrong(out, shared);
     }
     if !are_writes(rest) {
-        return calls::wrong(shared);
+        return calls::wrong(out, shared);
     }
     let mut writes = [[0usize; 2]; 40];
     let mut bytes = [0u8; 44000];
     let m = rest.len() / 3;
     serve_made(
+        out,
         image,
         shared,
         places,
@@ -283,41 +292,43 @@ fn serve_checked(
 
 // The same with the numbers of a line, read where there is room for so many.
 fn serve_line(
+    out: &mut impl Write,
     image: &mut [u64],
     shared: Shared,
     places: &mut Places,
     line: &[u8],
     numbers: &mut [u64],
     n: usize,
-) -> Shared
+) -> io::Result<Shared>
     requires { (n ≤ 40) × (n ≤ length numbers.old) × (length numbers.old ≤ n + 120) }
 {
     if !read_numbers(line, numbers) {
-        return calls::wrong(shared);
+        return calls::wrong(out, shared);
     }
-    serve_checked(image, shared, places, numbers, n)
+    serve_checked(out, image, shared, places, numbers, n)
 }
 
 // Serves, and writes the lines; the shared record after it.
 pub fn obey(
+    out: &mut impl Write,
     image: &mut [u64],
     shared: Shared,
     places: &mut Places,
     line: &[u8],
     o: Order,
-) -> Shared {
+) -> io::Result<Shared> {
     if 40 < o.a {
-        return calls::wrong(shared);
+        return calls::wrong(out, shared);
     }
     if 40 < o.b {
-        return calls::wrong(shared);
+        return calls::wrong(out, shared);
     }
     let n = o.a as usize;
     let count = n + 3 * o.b as usize;
     let extra = scan::word(line, 3 + count);
     if extra.len() != 0 {
-        return calls::wrong(shared);
+        return calls::wrong(out, shared);
     }
     let mut numbers = [0u64; 160];
-    serve_line(image, shared, places, line, &mut numbers[0..count], n)
+    serve_line(out, image, shared, places, line, &mut numbers[0..count], n)
 }

@@ -1,9 +1,11 @@
 // A point's steps, told by stretches of equal answers.
-ghost use Rattle.std.specs.Prelude.{◌+◌, ◌<◌};
+ghost use Rattle.std.specs.Prelude.{IfOk, ◌+◌, ◌<◌};
 
 use crate::{digest, print};
 use block_log::Shared;
 use points::{Point, StepAnswer};
+use std::io;
+use std::io::Write;
 
 // Kinds of answers, by the numbers that they have where they are lent.
 const STORED: u32 = 1;
@@ -61,39 +63,39 @@ fn told_of(answer: StepAnswer, bytes: &[u8; 1024]) -> Told {
     }
 }
 
-pub fn print_told(t: Told) {
+pub fn print_told(out: &mut impl Write, t: Told) -> io::Result<()> {
     if t.kind == STORED {
-        return print::words(b"stored");
+        return print::words(out, b"stored");
     }
     if t.kind == EXTENDING {
-        return print::words(b"extending");
+        return print::words(out, b"extending");
     }
     if t.kind == MOVED {
-        return print::words(b"moved");
+        return print::words(out, b"moved");
     }
     if t.kind == COPIED {
-        return print::words(b"copied");
+        return print::words(out, b"copied");
     }
     if t.kind == COMMITTED {
-        return print::labelled(b"committed ", t.value as u64);
+        return print::labelled(out, b"committed ", t.value as u64);
     }
     if t.kind == BYTES {
-        print::labelled(b"read ", t.value as u64);
-        return print::labelled(b" digest ", t.digest);
+        print::labelled(out, b"read ", t.value as u64)?;
+        return print::labelled(out, b" digest ", t.digest);
     }
-    print::labelled(b"refused ", t.value as u64);
+    print::labelled(out, b"refused ", t.value as u64)
 }
 
 // The line of a stretch of equal answers; none for an empty stretch.
-fn print_stretch(t: Told, times: u64) {
+fn print_stretch(out: &mut impl Write, t: Told, times: u64) -> io::Result<()> {
     if times == 0 {
-        return;
+        return Ok(());
     }
-    print_told(t);
+    print_told(out, t)?;
     if 1 < times {
-        print::labelled(b" x ", times);
+        print::labelled(out, b" x ", times)?;
     }
-    print::words(b"\n");
+    print::words(out, b"\n")
 }
 
 // Whether steps end with such an answer.
@@ -109,19 +111,25 @@ fn same(s: Told, t: Told) -> bool {
 }
 
 // The length of the stretch that an answer goes on or begins; in the second case the stretch before is written.
-fn stretch(before: Told, times: u64, now: Told) -> u64
+fn stretch(out: &mut impl Write, before: Told, times: u64, now: Told) -> io::Result<u64>
     requires { times < 100000 }
-    ensures { result < times + 2 }
+    ensures { IfOk result (λ n. n < times + 2) }
 {
     if same(before, now) {
-        return times + 1;
+        return Ok(times + 1);
     }
-    print_stretch(before, times);
-    1
+    print_stretch(out, before, times)?;
+    Ok(1)
 }
 
 // Up to `most` steps of a point, ending after Committed, a read's bytes or a refusal, and their lines.
-pub(crate) fn walk(image: &mut [u64], shared: Shared, point: Point, most: u64) -> Walked
+pub(crate) fn walk(
+    out: &mut impl Write,
+    image: &mut [u64],
+    shared: Shared,
+    point: Point,
+    most: u64,
+) -> io::Result<Walked>
     requires { most < 100001 }
 {
     let mut s = shared;
@@ -134,7 +142,7 @@ pub(crate) fn walk(image: &mut [u64], shared: Shared, point: Point, most: u64) -
         let stepped = points::step::step(image, s, p, &mut bytes);
         let answer = stepped.step;
         let now = told_of(answer, &bytes);
-        times = stretch(last, times, now);
+        times = stretch(out, last, times, now)?;
         last = now;
         s = stepped.shared;
         p = stepped.point;
@@ -143,9 +151,9 @@ pub(crate) fn walk(image: &mut [u64], shared: Shared, point: Point, most: u64) -
             left = 0;
         }
     }
-    print_stretch(last, times);
-    Walked {
+    print_stretch(out, last, times)?;
+    Ok(Walked {
         shared: s,
         point: p,
-    }
+    })
 }

@@ -2,28 +2,37 @@
 // Which logs these are, and an entry's digits, the contracts of `small::every_log` and `small::digits_of` say; here they are only printed.
 
 #![tactic(auto)]
-fn print_entry(e: u64) {
+
+use std::io;
+use std::io::Write;
+
+fn print_entry(out: &mut impl Write, e: u64) -> io::Result<()> {
     let text = small::digits_of(e);
-    io::write_all(1, &text);
+    out.write_all(&text)
 }
 
 // A log of two words, 0 for an entry that it does not have.
-fn print_log(first: u64, second: u64) {
+fn print_log(out: &mut impl Write, first: u64, second: u64) -> io::Result<()> {
     if first != 0 {
-        print_entry(first);
+        print_entry(out, first)?;
     }
     if second != 0 {
-        io::write_all(1, b" ");
-        print_entry(second);
+        out.write_all(b" ")?;
+        print_entry(out, second)?;
     }
-    io::write_all(1, b"\n");
+    out.write_all(b"\n")
 }
 
-fn main() {
-    // 33 logs of two words each.
+// Prints the logs, 33 of two words each.
+fn print_logs(out: &mut impl Write) -> io::Result<()> {
     let mut logs = [0u64; 66];
     let n = small::every_log(&mut logs);
     for k in 0..n {
-        print_log(logs[2 * k], logs[2 * k + 1]);
+        print_log(out, logs[2 * k], logs[2 * k + 1])?;
     }
+    Ok(())
+}
+
+fn main(rt: HostRuntime) -> io::Result<()> {
+    print_logs(&mut io::writer(&rt))
 }

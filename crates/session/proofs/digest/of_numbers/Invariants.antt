@@ -1,0 +1,14 @@
+-- The digest of the whole list is the digest of what is left, from the digest so far.
+use Prim.Native.Nat.{◌-◌, ◌≤◌, ◌<◌}
+use mathlib.Core.Path.{◌≡◌, refl, ◌∙◌, sym}
+use native.Mathlib.Omega.{arith}
+use lib.ListN.{length, drop}
+use Rattle.session.specs.Digest.{digest_from}
+use Rattle.session.proofs.DigestLaws.{digest-next, digest-end}
+use Rattle.session.proofs.digest.of_numbers.Given as goal
+
+abbrev pub invariant-loop-i : goal.invariant-loop-i
+invariant-loop-i l = (l.i-end ≡ length l.numbers) × (l.i ≤ length l.numbers) × (l.h < 4294967291) × (digest_from 1 l.numbers ≡ digest_from l.h (drop l.i l.numbers))
+
+abbrev pub decreases-loop-i : goal.decreases-loop-i
+decreases-loop-i l = length l.numbers - l.i
