@@ -1,6 +1,7 @@
 // The serving call for C, behind `store_serve` of include/store.h. It is a library of its own, so that beside it the other calls are compiled as without it.
 // Both parts of the shared record are lent by themselves, as the header hands them on: so the borrow checker covers it.
 #![tactic(auto)]
+
 ghost use Rattle.std.specs.Prelude.{◌≡◌};
 ghost use Rattle.c_lent.specs.Numbers.{shared_lent};
 ghost use Rattle.c_lent.specs.Serving.{common_lent, serve_left, serve_for};

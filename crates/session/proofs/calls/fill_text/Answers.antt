@@ -1,9 +1,6 @@
-use Prim.Native.Nat.{◌-◌, ◌≤◌}
-use mathlib.Core.List.{◌++◌}
-use mathlib.Core.Path.{◌≡◌, refl}
+use mathlib.Core.Path.{refl}
 use native.Mathlib.Omega.{arith}
-use lib.ListN.{length, drop, length-set}
-use Rattle.words.specs.Logic.{list_from}
+use lib.ListN.{length-set}
 use Rattle.session.specs.Made.{text_byte}
 use Rattle.words.proofs.Logic.{list_from-next}
 use Rattle.session.proofs.MadeLaws.{text-end}

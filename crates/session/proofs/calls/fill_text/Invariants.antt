@@ -1,13 +1,10 @@
 -- The front of the text is the definition's, the rest is as it came.
 use Prim.Native.Nat.{◌-◌, ◌≤◌}
 use mathlib.Core.List.{◌++◌}
-use mathlib.Core.Path.{◌≡◌, refl}
-use native.Mathlib.Omega.{arith}
-use lib.ListN.{length, drop, length-set}
+use mathlib.Core.Path.{◌≡◌}
+use lib.ListN.{length, drop}
 use Rattle.words.specs.Logic.{list_from}
 use Rattle.session.specs.Made.{text_byte}
-use Rattle.words.proofs.Logic.{list_from-next}
-use Rattle.session.proofs.MadeLaws.{text-end}
 use Rattle.session.proofs.calls.fill_text.Given as goal
 
 abbrev pub invariant-loop-i : goal.invariant-loop-i

@@ -1,5 +1,4 @@
 -- Four numbers are added, one after the other, as the definition adds the parts of one word.
-use borrow.Author.Rules.{rules}
 use Rattle.session.specs.Digest.{digest_from, parts}
 use Rattle.session.proofs.digest.add_word.Goals as goal
 

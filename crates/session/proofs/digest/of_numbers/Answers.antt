@@ -1,8 +1,5 @@
-use Prim.Native.Nat.{◌-◌, ◌≤◌, ◌<◌}
-use mathlib.Core.Path.{◌≡◌, refl, ◌∙◌, sym}
+use mathlib.Core.Path.{refl, ◌∙◌, sym}
 use native.Mathlib.Omega.{arith}
-use lib.ListN.{length, drop}
-use Rattle.session.specs.Digest.{digest_from}
 use Rattle.session.proofs.DigestLaws.{digest-next, digest-end}
 use Rattle.session.proofs.digest.of_numbers.Goals as goal
 

@@ -1,10 +1,8 @@
 -- The digest of the whole list is the digest of what is left, from the digest so far, four parts a word.
 use Prim.Native.Nat.{◌-◌, ◌≤◌, ◌<◌}
-use mathlib.Core.Path.{◌≡◌, refl, ◌∙◌, sym}
-use native.Mathlib.Omega.{arith}
+use mathlib.Core.Path.{◌≡◌}
 use lib.ListN.{length, drop}
 use Rattle.session.specs.Digest.{digest_from, parts}
-use Rattle.session.proofs.DigestLaws.{words-next, words-end}
 use Rattle.session.proofs.digest.of_words.Given as goal
 
 abbrev pub invariant-loop-i : goal.invariant-loop-i

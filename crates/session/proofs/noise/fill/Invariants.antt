@@ -1,11 +1,9 @@
 -- What the part has in front, and the words still to come, are the definition's words.
 use Prim.Native.Nat.{◌-◌, ◌≤◌}
 use mathlib.Core.List.{◌++◌}
-use mathlib.Core.Path.{◌≡◌, refl, ◌∙◌, ap}
-use native.Mathlib.Omega.{arith}
-use lib.ListN.{length, take, length-set}
+use mathlib.Core.Path.{◌≡◌}
+use lib.ListN.{length, take}
 use Rattle.session.specs.Made.{noise}
-use Rattle.session.proofs.MadeLaws.{noise-start, noise-next, noise-end}
 use Rattle.session.proofs.noise.fill.Given as goal
 
 abbrev pub invariant-loop-i : goal.invariant-loop-i

@@ -1,8 +1,5 @@
-use Prim.Native.Nat.{◌+◌, ◌-◌, ◌≤◌}
-use mathlib.Core.Path.{◌≡◌, refl}
+use mathlib.Core.Path.{refl}
 use native.Mathlib.Omega.{arith}
-use lib.ListN.{length, drop}
-use Rattle.session.specs.Scan.{up_to}
 use Rattle.session.proofs.ScanLaws.{up_to-next, up_to-stop, up_to-end}
 use Rattle.session.proofs.scan.find.Goals as goal
 

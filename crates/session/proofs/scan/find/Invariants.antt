@@ -1,10 +1,8 @@
 -- The place of the first such byte is the same, looked for from here or from the start.
 use Prim.Native.Nat.{◌+◌, ◌-◌, ◌≤◌}
-use mathlib.Core.Path.{◌≡◌, refl}
-use native.Mathlib.Omega.{arith}
+use mathlib.Core.Path.{◌≡◌}
 use lib.ListN.{length, drop}
 use Rattle.session.specs.Scan.{up_to}
-use Rattle.session.proofs.ScanLaws.{up_to-next, up_to-stop, up_to-end}
 use Rattle.session.proofs.scan.find.Given as goal
 
 abbrev pub invariant-loop-at : goal.invariant-loop-at

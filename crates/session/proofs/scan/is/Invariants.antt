@@ -1,12 +1,7 @@
 -- All bytes passed are equal.
 use Prim.Native.Nat.{ℕ, ◌<◌, ◌-◌, ◌≤◌}
-use mathlib.Core.List.{List}
-use mathlib.Core.Path.{refl, ap, ◌≡◌}
-use native.Mathlib.Omega.{arith}
+use mathlib.Core.Path.{◌≡◌}
 use lib.ListN.{get_or, length}
-use lib.Seq.{ext_get_or}
-use borrow.Author.Count.{below_more}
-use Rattle.session.proofs.ScanLaws.{not_same}
 use Rattle.session.proofs.scan.is.Given as goal
 
 abbrev pub invariant-loop-i : goal.invariant-loop-i

@@ -1,12 +1,9 @@
 -- The value of the word is the value of what is left after the value so far; it has only digits if what is left has.
 use Prim.Native.Nat.{◌-◌, ◌≤◌, ◌<◌, ◌^◌}
-use mathlib.Core.Path.{◌∙◌, sym, ◌≡◌, refl}
-use native.Mathlib.Omega.{arith}
-use lib.ListN.{get_or, length, drop}
+use mathlib.Core.Path.{◌≡◌}
+use lib.ListN.{length, drop}
 use Rattle.words.specs.Logic.{all_of}
 use Rattle.session.specs.Scan.{value_from, is_digit}
-use Rattle.session.proofs.ScanLaws.{value-next, value-end, value-least, digits-next, digits-end, digits-stop}
-use Rattle.session.proofs.ScanLaws.{is_digit_lem, below-digits, above-digits, too_short, too_long, no_digit, too_large, is-number}
 use Rattle.session.proofs.scan.number_of.Given as goal
 
 abbrev pub invariant-loop-i : goal.invariant-loop-i

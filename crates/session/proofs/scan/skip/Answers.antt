@@ -1,8 +1,5 @@
-use Prim.Native.Nat.{◌+◌, ◌-◌, ◌≤◌}
-use mathlib.Core.Path.{◌≡◌, refl}
+use mathlib.Core.Path.{refl}
 use native.Mathlib.Omega.{arith}
-use lib.ListN.{length, drop}
-use Rattle.session.specs.Scan.{blanks}
 use Rattle.session.proofs.ScanLaws.{blanks-next, blanks-stop, blanks-end}
 use Rattle.session.proofs.scan.skip.Goals as goal
 

@@ -1,10 +1,8 @@
 -- The place of the first byte that is no blank is the same, looked for from here or from the start.
 use Prim.Native.Nat.{◌+◌, ◌-◌, ◌≤◌}
-use mathlib.Core.Path.{◌≡◌, refl}
-use native.Mathlib.Omega.{arith}
+use mathlib.Core.Path.{◌≡◌}
 use lib.ListN.{length, drop}
 use Rattle.session.specs.Scan.{blanks}
-use Rattle.session.proofs.ScanLaws.{blanks-next, blanks-stop, blanks-end}
 use Rattle.session.proofs.scan.skip.Given as goal
 
 abbrev pub invariant-loop-at : goal.invariant-loop-at

@@ -1,7 +1,7 @@
-use Prim.Native.Nat.{ℕ, ◌≤◌}
+use Prim.Native.Nat.{ℕ}
 use mathlib.Core.Path.{◌∙◌, sym, ap, ◌≡◌, refl}
 use native.Mathlib.Omega.{arith}
-use lib.ListN.{length, drop}
+use lib.ListN.{drop}
 use Rattle.session.specs.Scan.{word_at}
 use Rattle.session.proofs.ScanLaws.{word_next, word-here}
 use Rattle.session.proofs.scan.word.Goals as goal

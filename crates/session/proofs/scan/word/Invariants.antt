@@ -1,10 +1,8 @@
 -- The word wanted of the line is the word wanted of the rest of the line, one less for each word passed.
-use Prim.Native.Nat.{ℕ, ◌≤◌}
-use mathlib.Core.Path.{◌∙◌, sym, ap, ◌≡◌, refl}
-use native.Mathlib.Omega.{arith}
+use Prim.Native.Nat.{◌≤◌}
+use mathlib.Core.Path.{◌≡◌}
 use lib.ListN.{length, drop}
 use Rattle.session.specs.Scan.{word_at}
-use Rattle.session.proofs.ScanLaws.{word_next, word-here}
 use Rattle.session.proofs.scan.word.Given as goal
 
 abbrev pub invariant-loop-left : goal.invariant-loop-left

@@ -1,6 +1,5 @@
 -- Each turn takes three numbers.
 use Prim.Native.Nat.{◌-◌, ◌≤◌}
-use native.Mathlib.Omega.{arith}
 use Rattle.session.proofs.serve.are_writes.Given as goal
 
 abbrev pub invariant-loop-at : goal.invariant-loop-at

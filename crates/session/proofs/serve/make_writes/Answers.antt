@@ -1,7 +1,7 @@
-use Prim.Native.Nat.{◌+◌, ◌*◌, ◌-◌, ◌≤◌}
-use mathlib.Core.Path.{◌≡◌, refl, sym, ◌∙◌}
+use Prim.Native.Nat.{◌+◌, ◌-◌}
+use mathlib.Core.Path.{refl, sym, ◌∙◌}
 use native.Mathlib.Omega.{arith}
-use lib.ListN.{length, drop, length-set, length-take}
+use lib.ListN.{drop, length-set, length-take}
 use borrow.Rule.Slice.PartMut.{same_len_mid}
 use Rattle.session.proofs.serve.make_writes.Goals as goal
 

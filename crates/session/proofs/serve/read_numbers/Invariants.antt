@@ -1,9 +1,7 @@
 -- Each turn takes a number of the list, which keeps its length.
 use Prim.Native.Nat.{◌-◌, ◌≤◌}
-use mathlib.Core.Path.{◌≡◌, refl}
-use native.Mathlib.Omega.{arith}
-use lib.ListN.{length, length-set}
-use borrow.Author.Rules.{rules}
+use mathlib.Core.Path.{◌≡◌}
+use lib.ListN.{length}
 use Rattle.session.proofs.serve.read_numbers.Given as goal
 
 abbrev pub invariant-loop-i : goal.invariant-loop-i
