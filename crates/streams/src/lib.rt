@@ -28,6 +28,6 @@ pub fn read_full<R: Read>(input: &mut R, buffer: &mut [u8]) -> io::Result<usize>
             }
         }
     }
-    // After 2^64 interruptions.
+    // After 2^64 - 1 tries, each of which was interrupted or read something.
     Err(ErrorKind::Interrupted.into())
 }
