@@ -8,7 +8,7 @@ use lib.ListN.{drop, set, replicate, replicate-append-replicate}
 use Rattle.words.specs.Edition.{Edition}
 use Rattle.words.specs.Memory.{wrong_size}
 use Rattle.block_log.specs.Opening.{reply_of, layout_refusal, layout, laid_out}
-use Rattle.block_log.specs.declared.Reply.TheVariants.{Done, Refused}
+use Rattle.block_log.specs.Refusals.{Done, Refused}
 
 -- two blocks of w zeros in front, of which the first two words are set
 front :

@@ -1,21 +1,24 @@
 -- Opening: it asks of the scratch only whether it is long enough; and its ways out, by the reasons in their order.
-use mathlib.Core.Path.{◌≡◌, ◌∙◌, sym, refl}
-use mathlib.Core.Logic.{◌≢◌}
+use mathlib.Core.Path.{◌≡◌, ◌∙◌, sym, refl, ap}
 use mathlib.Core.List.{List, ◌∷◌, [], ◌++◌}
 use mathlib.Core.Bool.{true, false}
-use Prim.Native.Nat.{ℕ, ◌≤◌, suc, ◌-◌, ◌<◌}
+use Prim.Native.Nat.{ℕ, ◌≤◌, zero, suc, ◌<◌}
 use native.Mathlib.Omega.{arith}
-use lib.Dec.{ltb}
+use lib.Dec.{ltb, leb}
 use lib.ListN.{length, drop, replicate}
-use borrow.Author.Tests.{ltb-false, le-ltb, lt-ltb}
+use borrow.Author.Tests.{ltb-false, le-ltb, lt-ltb, leb-true}
+use Rattle.std.specs.Prelude.{Err}
 use Rattle.words.specs.Edition.{Edition, blocks_max, one}
 use Rattle.words.specs.Logic.{Reason, ◌when◌, list_from, first}
 use Rattle.words.specs.Memory.{memory, block_count, wrong_size, Memory}
+use Rattle.block_log.specs.declared.Refusal.{Refusal}
+use Rattle.block_log.specs.Refusals.{Reply, Done}
 use Rattle.block_log.specs.Chain.{chain, log, bad_superblock, bad_index, endless, bad_log}
-use Rattle.block_log.specs.Opening.{short_scratch, content_reasons, open_refusal, opened, bad_entry, file_of, refused_with, opened_with, scratch_mark, scratch_after}
+use Rattle.block_log.specs.Opening.{reply_of, number_of, no_shared, short_scratch, content_reasons, open_refusal, opened, bad_entry, file_of, refused_with, opened_with, scratch_mark, scratch_after}
 use Rattle.block_log.specs.Parts.{early}
 use Rattle.block_log.specs.Replay.{shares_block, dirty_end}
-use Rattle.words.proofs.Tests.{first-front, passes}
+use Rattle.words.proofs.Tests.{first-front, first-is, passes}
+use Rattle.block_log.proofs.Replies.{number-some, done_none}
 
 module _ (E : Edition) (words : List ℕ) where
   -- where opening does not refuse, the scratch is long enough
@@ -105,10 +108,10 @@ module _ (E : Edition) (words scratch : List ℕ) where
 
 -- ---- the early tests, which the code makes in one (`early`, edition one's)
 
-pub passed-early : (words scratch : List ℕ) → first (early words (length scratch)) ≡ 0 → Passed one words scratch
+pub passed-early : (words scratch : List ℕ) → reply_of (first (early words (length scratch))) ≡ Done → Passed one words scratch
 unfolding early
 passed-early words scratch h =
-    let f = passes (early words (length scratch)) refl h in
+    let f = passes (early words (length scratch)) refl (done_none _ h) in
     record { size = f 0; long = f 1; super = f 2; index = f 3; ends = f 4; log-blocks = f 5 }
 
 module _ (words scratch : List ℕ) where
@@ -116,5 +119,24 @@ module _ (words scratch : List ℕ) where
   unfolding open_refusal content_reasons early
   all-reasons = refl
 
-  pub early-refusal : (r : ℕ) → r ≡ first (early words (length scratch)) → r ≢ 0 → open_refusal one words scratch ≡ suc (r - 1)
-  early-refusal r er ne = all-reasons ∙ first-front (early words (length scratch)) (late one words scratch) (λ z. ne (er ∙ z)) ∙ sym er ∙ omega arith
+  early-few : (k : ℕ) → first (early words (length scratch)) ≡ suc k → suc k ≤ 6
+  unfolding early
+  early-few k e = leb-true (suc k) 6 (first-is (λ n. leb n 6) (early words (length scratch)) refl k e)
+
+  -- refused by one of them
+  pub early-out :
+      (e : Refusal) → reply_of (first (early words (length scratch))) ≡ Err e
+      → (opened one words scratch ≡ record { reply = Err e; length = 0; entries = 0; free = 0; shared = no_shared }) × (scratch_after one words scratch ≡ scratch)
+  early-out e h = go (first (early words (length scratch))) refl
+    where
+      go : (n : ℕ) → first (early words (length scratch)) ≡ n
+          → (opened one words scratch ≡ record { reply = Err e; length = 0; entries = 0; free = 0; shared = no_shared }) × (scratch_after one words scratch ≡ scratch)
+      go zero x = let z = ap number_of (rw x at h) in let l = number-some e in absurd (omega arith)
+      go (suc k) x =
+          let q : reply_of (suc k) ≡ Err e = rw x at h in
+          let r : open_refusal one words scratch ≡ suc k =
+          all-reasons ∙ first-front (early words (length scratch)) (late one words scratch) (λ z. absurd (omega (arith, x, z))) ∙ x in (
+            refused-opened one words scratch k r
+                ∙ ap (λ (y : Reply). record { reply = y; length = 0; entries = 0; free = 0; shared = no_shared }) q,
+            refused-scratch one words scratch k r (omega (arith, early-few k x)),
+          )

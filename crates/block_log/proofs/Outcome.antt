@@ -19,7 +19,7 @@ use Rattle.block_log.specs.Opening.{shared_at_opening, opened_with, opened, scra
 use Rattle.block_log.specs.Parts.{start_of, Takable, Markable}
 use Rattle.block_log.specs.Replay.{Mapped, replay_on, empty_file, replay, shares_block, dirty_end}
 use Rattle.block_log.specs.declared.Place.{Place}
-use Rattle.block_log.specs.declared.Reply.TheVariants.{Done}
+use Rattle.block_log.specs.Refusals.{Done}
 use Rattle.words.proofs.Memory.{size-facts}
 use Rattle.block_log.proofs.Chain.{inside-outside}
 use Rattle.block_log.proofs.Cover.{fresh}

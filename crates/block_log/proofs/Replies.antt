@@ -1,19 +1,103 @@
--- A reply and its number; a call that goes by its refusal's number replies that number, and so does opening. Assumes nothing.
+-- A reason and its number, a reply and its number; a call that goes by its refusal's number replies that number, and so does opening. Assumes nothing.
 use mathlib.Core.Path.{◌≡◌, refl, sym, ap, ◌∙◌}
+use mathlib.Core.Bool.{Bool, true}
 use mathlib.Core.List.{List}
-use Prim.Native.Nat.{ℕ, zero, suc}
+use Prim.Native.Nat.{ℕ, zero, suc, ◌≤◌}
+use native.Mathlib.Omega.{arith}
+use lib.Dec.{eqb}
+use borrow.Author.Tests.{eqb-true}
+use Rattle.std.specs.Prelude.{Ok, Err}
 use Rattle.words.specs.Edition.{Edition}
-use Rattle.block_log.specs.declared.Reply.{Reply}
-use Rattle.block_log.specs.declared.Reply.TheVariants.{Done, Refused}
+use Rattle.words.specs.Logic.{Reason, first, all_of}
+use Rattle.block_log.specs.declared.Refusal.{Refusal}
+use Rattle.block_log.specs.declared.Refusal.TheVariants.{ImageSize, ScratchShort, SuperblockWrong, LogIndexOutside, ChainEndless, LogBlockWrong, EntryWrong, BlockShared, EndNotZero}
+use Rattle.block_log.specs.declared.Refusal.TheVariants.{SharedUnfit, RecordUnfit, NumberAbove, AlreadyJoined, NotJoined, WrongPhase, TextSize, PastEnd, LogBroken}
+use Rattle.block_log.specs.declared.Refusal.TheVariants.{NoRun, LogFull, NoLogBlock, NotMapped, NotOneEach, ListedTwice}
 use Rattle.block_log.specs.declared.Opened.{Opened}
+use Rattle.block_log.specs.Refusals.{Reply, Done, Refused, number, refusal}
 use Rattle.block_log.specs.Opening.{reply_of, number_of, open_refusal, opened, opened_with}
+use Rattle.words.proofs.Tests.{first-is}
 
-pub number-back : (n : ℕ) → number_of (reply_of n) ≡ n
-number-back zero = refl
-number-back (suc n) = refl
+-- a reason is the one with its number, which is not 0
+pub refusal-again : (e : Refusal) → refusal (number e) ≡ e
+refusal-again ImageSize = refl
+refusal-again ScratchShort = refl
+refusal-again SuperblockWrong = refl
+refusal-again LogIndexOutside = refl
+refusal-again ChainEndless = refl
+refusal-again LogBlockWrong = refl
+refusal-again EntryWrong = refl
+refusal-again BlockShared = refl
+refusal-again EndNotZero = refl
+refusal-again SharedUnfit = refl
+refusal-again RecordUnfit = refl
+refusal-again NumberAbove = refl
+refusal-again AlreadyJoined = refl
+refusal-again NotJoined = refl
+refusal-again WrongPhase = refl
+refusal-again TextSize = refl
+refusal-again PastEnd = refl
+refusal-again LogBroken = refl
+refusal-again NoRun = refl
+refusal-again LogFull = refl
+refusal-again NoLogBlock = refl
+refusal-again NotMapped = refl
+refusal-again NotOneEach = refl
+refusal-again ListedTwice = refl
+
+pub number-some : (e : Refusal) → 1 ≤ number e
+number-some ImageSize = omega arith
+number-some ScratchShort = omega arith
+number-some SuperblockWrong = omega arith
+number-some LogIndexOutside = omega arith
+number-some ChainEndless = omega arith
+number-some LogBlockWrong = omega arith
+number-some EntryWrong = omega arith
+number-some BlockShared = omega arith
+number-some EndNotZero = omega arith
+number-some SharedUnfit = omega arith
+number-some RecordUnfit = omega arith
+number-some NumberAbove = omega arith
+number-some AlreadyJoined = omega arith
+number-some NotJoined = omega arith
+number-some WrongPhase = omega arith
+number-some TextSize = omega arith
+number-some PastEnd = omega arith
+number-some LogBroken = omega arith
+number-some NoRun = omega arith
+number-some LogFull = omega arith
+number-some NoLogBlock = omega arith
+number-some NotMapped = omega arith
+number-some NotOneEach = omega arith
+number-some ListedTwice = omega arith
+
+-- a reply is the one with its number
+pub reply-again : (r : Reply) → reply_of (number_of r) ≡ r
+reply-again (Ok tt) = refl
+reply-again (Err e) = go (number e) refl (number-some e)
+  where
+    go : (n : ℕ) → n ≡ number e → 1 ≤ n → reply_of n ≡ Err e
+    go zero p l = absurd (omega arith)
+    go (suc n) p l = rw p (ap Err (refusal-again e))
+
+-- this number is a reason's
+abbrev pub known : ℕ → Bool
+known n = eqb (number (refusal n)) n
+
+-- the first of such reasons replies its number
+pub number-back : (rs : List Reason) → all_of (λ (r : Reason). known r.number) rs ≡ true → number_of (reply_of (first rs)) ≡ first rs
+number-back rs a = go (first rs) refl
+  where
+    go : (n : ℕ) → first rs ≡ n → number_of (reply_of n) ≡ n
+    go zero e = refl
+    go (suc k) e = eqb-true _ _ (first-is known rs a k e)
+
+pub none-done : (n : ℕ) → number_of (reply_of n) ≡ 0 → n ≡ 0
+none-done zero e = refl
+none-done (suc n) e = let l = number-some (refusal (suc n)) in absurd (omega arith)
 
 pub done_none : (n : ℕ) → reply_of n ≡ Done → n ≡ 0
-done_none n d = sym (number-back n) ∙ ap number_of d
+done_none n d = none-done n (ap number_of d)
 
 pub replies : {A : Type 0} (reply : A → Reply) (n : ℕ) (x : A) (y : ℕ → A) → reply x ≡ Done → ((k : ℕ) → reply (y k) ≡ Refused (suc k))
     → reply (elim n [ zero ↦ x | suc k ↦ y k ]) ≡ reply_of n

@@ -1,13 +1,12 @@
 -- Laying out and opening (document 01, "The opened file", "Why a call is turned down").
-use Rattle.std.specs.Prelude.{ℕ, zero, suc, ◌*◌, ◌-◌, ◌≡◌, Bool, true, false, ◌||◌, not, List, [], ◌∷◌, ◌++◌, length, drop, replicate, ltb, eqb}
+use Rattle.std.specs.Prelude.{Ok, Err, ℕ, zero, suc, ◌*◌, ◌-◌, ◌≡◌, Bool, true, false, ◌||◌, not, List, [], ◌∷◌, ◌++◌, length, drop, replicate, ltb, eqb}
 use Rattle.words.specs.Edition.{Edition, one, blocks_max}
 use Rattle.words.specs.Logic.{is_zero, some_of, any, member, list_from, first, Reason, ◌when◌}
 use Rattle.words.specs.Memory.{Memory, memory, block_count, wrong_size}
 use Rattle.words.specs.BlockMap.{map_of, free_count}
 use Rattle.block_log.specs.declared.Shared.{Shared}
-use Rattle.block_log.specs.declared.Reply.{Reply}
-use Rattle.block_log.specs.declared.Reply.TheVariants.{Done, Refused}
 use Rattle.block_log.specs.declared.Opened.{Opened}
+use Rattle.block_log.specs.Refusals.{Reply, Done, Refused, number}
 use Rattle.block_log.specs.Entry.{legal}
 use Rattle.block_log.specs.Chain.{chain, log, bad_superblock, bad_index, endless, bad_log}
 use Rattle.block_log.specs.Replay.{Mapped, replay, file_bytes, live, shares_block, dirty_end}
@@ -18,8 +17,8 @@ reply_of zero = Done
 reply_of (suc n) = Refused (suc n)
 
 abbrev pub number_of : Reply → ℕ
-number_of Done = 0
-number_of (Refused n) = n
+number_of (Ok tt) = 0
+number_of (Err refusal) = number refusal
 
 -- ---- laying out
 

@@ -3,7 +3,7 @@ ghost use Rattle.std.specs.Prelude.{◌≡◌, ◌++◌, ◌≤◌, length, drop
 ghost use Rattle.words.specs.Edition.{one};
 ghost use Rattle.block_log.specs.Opening.{reply_of, layout_refusal, layout};
 
-use crate::Reply;
+use crate::{Refusal, Reply};
 
 // The first n words become 0.
 fn zero_front(image: &mut [u64], n: usize)
@@ -20,10 +20,10 @@ pub fn lay_out(image: &mut [u64]) -> Reply
     ensures { (result ≡ reply_of (layout_refusal one image.old)) × (image.new ≡ layout one image.old) }
 {
     if crate::open::wrong_size(image) {
-        return Reply::Refused(crate::IMAGE_SIZE);
+        return Err(Refusal::ImageSize);
     }
     zero_front(image, 128);
     words::image::put_word(image, 0, 0x4D494C4B31);
     words::image::put_word(image, 1, 1);
-    Reply::Done
+    Ok(())
 }

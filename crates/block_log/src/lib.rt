@@ -4,39 +4,95 @@
 ghost use Rattle.std.specs.Prelude.{◌≡◌, ◌+◌, ◌<◌, length};
 ghost use Rattle.words.specs.Edition.{one};
 ghost use Rattle.block_log.specs.Chain.{entries_from};
+ghost use Rattle.block_log.specs.Refusals.{number};
 ghost use Rattle.block_log.specs.Entry.{entry_v, entry_b, entry_n, entry_u, entry_rest, legal};
 
-// Why laying out, opening or catching up is turned down: the numbers of document 01.
+// Why a call is turned down: the reasons of document 01, of this crate and of those above it.
+#[derive(Clone, Copy, Debug, PartialEq, Eq)]
+pub enum Refusal {
+    // 1. The image is no multiple of 64 words or not 4 to 1,024 blocks.
+    ImageSize,
+    // 2. The scratch is shorter than 1,024 numbers.
+    ScratchShort,
+    // 3. The superblock has a wrong mark or a word after word 1 that is not 0.
+    SuperblockWrong,
+    // 4. The first log index is 0, or one of the first 64 indexes of the chain lies outside the image.
+    LogIndexOutside,
+    // 5. The chain has not ended after 64 log blocks.
+    ChainEndless,
+    // 6. A log block has a word 1 other than 0, an entry after an empty one, or a next index though not full.
+    LogBlockWrong,
+    // 7. An entry breaks the entry's rules.
+    EntryWrong,
+    // 8. Two virtual blocks share a live block, or a live block is a log block.
+    BlockShared,
+    // 9. A byte at or past the file's end in its last live block is not 0.
+    EndNotZero,
+    // 10. The shared record's block count does not fit the image, its chain length is not 1 to 64, or a reported block is not below the block count.
+    SharedUnfit,
+    // 11. The point's record does not fit.
+    RecordUnfit,
+    // 12. Joining: the point number is above 31.
+    NumberAbove,
+    // 13. Joining: that point is joined already.
+    AlreadyJoined,
+    // 14. The point of the record is not joined.
+    NotJoined,
+    // 15. Beginning with a write or a read under way, or stepping with none.
+    WrongPhase,
+    // 16. Beginning: the text, or the range to be read, has 0 or more than 1,024 bytes.
+    TextSize,
+    // 17. Beginning: the write or the range to be read ends past byte 131,072; locating: the block is above 255.
+    PastEnd,
+    // 18. The first log index, an entry or a next index met while catching up is wrong, or more log blocks would be entered than the image has blocks.
+    LogBroken,
+    // 19. Beginning: no run of that many free blocks from block 1 on exists.
+    NoRun,
+    // 20. Committing: 64 log blocks are full.
+    LogFull,
+    // 21. Committing: a log block is needed and none from 1 on is free.
+    NoLogBlock,
+    // 22. Locating: nothing is mapped there.
+    NotMapped,
+    // 26. Serving: no points, more than 32, or not one write for each.
+    NotOneEach,
+    // 27. Serving: a point is listed twice.
+    ListedTwice,
+}
 
-// The image is no multiple of 64 words or not 4 to 1,024 blocks.
-pub const IMAGE_SIZE: u32 = 1;
+// Its number in document 01.
+impl From<Refusal> for u32 {
+    ghost from_gives = { λ refusal n. n ≡ number refusal };
 
-// The scratch is shorter than 1,024 numbers.
-pub const SCRATCH_SHORT: u32 = 2;
-
-// The superblock has a wrong mark or a word after word 1 that is not 0.
-pub const SUPERBLOCK_WRONG: u32 = 3;
-
-// The first log index is 0, or one of the first 64 indexes of the chain lies outside the image.
-pub const LOG_INDEX_OUTSIDE: u32 = 4;
-
-// The chain has not ended after 64 log blocks.
-pub const CHAIN_ENDLESS: u32 = 5;
-
-// A log block has a word 1 other than 0, an entry after an empty one, or a next index though not full.
-pub const LOG_BLOCK_WRONG: u32 = 6;
-
-// An entry breaks the entry's rules.
-pub const ENTRY_WRONG: u32 = 7;
-
-// Two virtual blocks share a live block, or a live block is a log block.
-pub const BLOCK_SHARED: u32 = 8;
-
-// A byte at or past the file's end in its last live block is not 0.
-pub const END_NOT_ZERO: u32 = 9;
-
-// The first log index, an entry or a next index met while catching up is wrong, or more log blocks would be entered than the image has blocks.
-pub const LOG_BROKEN: u32 = 18;
+    fn from(refusal: Refusal) -> u32 {
+        match refusal {
+            Refusal::ImageSize => 1,
+            Refusal::ScratchShort => 2,
+            Refusal::SuperblockWrong => 3,
+            Refusal::LogIndexOutside => 4,
+            Refusal::ChainEndless => 5,
+            Refusal::LogBlockWrong => 6,
+            Refusal::EntryWrong => 7,
+            Refusal::BlockShared => 8,
+            Refusal::EndNotZero => 9,
+            Refusal::SharedUnfit => 10,
+            Refusal::RecordUnfit => 11,
+            Refusal::NumberAbove => 12,
+            Refusal::AlreadyJoined => 13,
+            Refusal::NotJoined => 14,
+            Refusal::WrongPhase => 15,
+            Refusal::TextSize => 16,
+            Refusal::PastEnd => 17,
+            Refusal::LogBroken => 18,
+            Refusal::NoRun => 19,
+            Refusal::LogFull => 20,
+            Refusal::NoLogBlock => 21,
+            Refusal::NotMapped => 22,
+            Refusal::NotOneEach => 26,
+            Refusal::ListedTwice => 27,
+        }
+    }
+}
 
 // The shared record: what opening hands back, and each later call takes and returns. `chain` is how many log blocks are chained, `reports` has for each
 // point the log block of its log place, 0 when it is not joined.
@@ -49,12 +105,8 @@ pub struct Shared {
     pub reports: [u32; 32],
 }
 
-// A call that is done, or the number of the reason why it is turned down.
-#[derive(Clone, Copy)]
-pub enum Reply {
-    Done,
-    Refused(u32),
-}
+// A call that is done, or the reason why it is turned down.
+pub type Reply = Result<(), Refusal>;
 
 // What opening answers.
 #[derive(Clone, Copy)]

@@ -1,16 +1,17 @@
 // Opening.
-ghost use Rattle.std.specs.Prelude.{◌≡◌, true, not, [], ◌∷◌, ◌+◌, ◌*◌, ◌-◌, ◌≤◌, length};
+ghost use Rattle.std.specs.Prelude.{◌≡◌, Err, true, not, [], ◌∷◌, ◌+◌, ◌*◌, ◌-◌, ◌≤◌, length};
 ghost use Rattle.words.specs.Edition.{one};
 ghost use Rattle.words.specs.Logic.{first, some_of, is_zero, up_from};
 ghost use Rattle.words.specs.Memory.{memory, wrong_size, byte_in};
 ghost use Rattle.words.specs.BlockMap.{set_all};
 ghost use Rattle.block_log.specs.Chain.{chain};
 ghost use Rattle.block_log.specs.Replay.{dirty_end};
-ghost use Rattle.block_log.specs.Opening.{Opens, nobody_joined, refused_with, marked, cleared};
+ghost use Rattle.block_log.specs.Refusals.{Done};
+ghost use Rattle.block_log.specs.Opening.{Opens, nobody_joined, no_shared, reply_of, marked, cleared};
 ghost use Rattle.block_log.specs.Parts.{chain_reasons, early, TakesBlocks, TakesAll, Takable};
 ghost use Rattle.block_log.specs.Parts.{live_mark, chain_mark, HasMarks, LongEnough, TableFits, ChainFits, Markable};
 
-use crate::{Opened, Place, Reply, Shared};
+use crate::{Opened, Place, Refusal, Reply, Shared};
 
 // 1. The image is no multiple of 64 words or not 4 to 1,024 blocks.
 pub fn wrong_size(image: &[u64]) -> bool
@@ -26,34 +27,34 @@ pub fn wrong_size(image: &[u64]) -> bool
     1024 < blocks
 }
 
-// The first of the reasons 4 to 6 that holds, 0 for none.
-fn chain_reason(image: &[u64], blocks: usize) -> u32
-    ensures { (result ≡ first (chain_reasons blocks (memory one image.now))) × (result ≤ 6) }
+// The first of the reasons 4 to 6 that holds.
+fn chain_reason(image: &[u64], blocks: usize) -> Reply
+    ensures { result ≡ reply_of (first (chain_reasons blocks (memory one image.now))) }
 {
     if crate::links::bad_index(image, blocks as u64) {
-        return crate::LOG_INDEX_OUTSIDE;
+        return Err(Refusal::LogIndexOutside);
     }
     if crate::links::is_endless(image) {
-        return crate::CHAIN_ENDLESS;
+        return Err(Refusal::ChainEndless);
     }
     if crate::links::bad_log(image) {
-        return crate::LOG_BLOCK_WRONG;
+        return Err(Refusal::LogBlockWrong);
     }
-    0
+    Ok(())
 }
 
-// The first of the reasons 1 to 6 that holds, 0 for none.
-fn early_reason(image: &[u64], room: usize) -> u32
-    ensures { (result ≡ first (early image.now room)) × (result ≤ 6) }
+// The first of the reasons 1 to 6 that holds.
+fn early_reason(image: &[u64], room: usize) -> Reply
+    ensures { result ≡ reply_of (first (early image.now room)) }
 {
     if wrong_size(image) {
-        return crate::IMAGE_SIZE;
+        return Err(Refusal::ImageSize);
     }
     if room < 1024 {
-        return crate::SCRATCH_SHORT;
+        return Err(Refusal::ScratchShort);
     }
     if crate::links::bad_superblock(image) {
-        return crate::SUPERBLOCK_WRONG;
+        return Err(Refusal::SuperblockWrong);
     }
     chain_reason(image, words::offset::whole_blocks(image.len()))
 }
@@ -230,12 +231,12 @@ fn nobody_joined(blocks: u32, taken: [u64; 16], chain: u32) -> Shared
 }
 
 // "A refused opening .. answers a record and counts of zeros".
-fn refused(reason: u32) -> Opened
-    ensures { result ≡ refused_with reason }
+fn refused(refusal: Refusal) -> Opened
+    ensures { result ≡ record { reply = Err refusal; length = 0; entries = 0; free = 0; shared = no_shared } }
 {
     let taken = [0u64; 16];
     Opened {
-        reply: Reply::Refused(reason),
+        reply: Err(refusal),
         length: 0,
         entries: 0,
         free: 0,
@@ -244,10 +245,10 @@ fn refused(reason: u32) -> Opened
 }
 
 fn done(length: u32, entries: u32, free: u32, shared: Shared) -> Opened
-    ensures { result ≡ record { reply = Reply.Done; length = length; entries = entries; free = free; shared = shared } }
+    ensures { result ≡ record { reply = Done; length = length; entries = entries; free = free; shared = shared } }
 {
     Opened {
-        reply: Reply::Done,
+        reply: Ok(()),
         length,
         entries,
         free,
@@ -259,25 +260,24 @@ fn done(length: u32, entries: u32, free: u32, shared: Shared) -> Opened
 pub fn open(image: &[u64], scratch: &mut [u16]) -> Opened
     ensures { Opens image.now scratch.old scratch.new result }
 {
-    let reason = early_reason(image, scratch.len());
-    if reason != 0 {
-        return refused(reason);
+    if let Err(refusal) = early_reason(image, scratch.len()) {
+        return refused(refusal);
     }
     let blocks = words::offset::whole_blocks(image.len()) as u32;
     let from = crate::links::start(image);
     let lookahead = crate::ahead::look(image, blocks, from, 0, 0);
     if lookahead.broken {
-        return refused(crate::ENTRY_WRONG);
+        return refused(Refusal::EntryWrong);
     }
     let mut table = [0u16; 256];
     let size = crate::ahead::catch_up(image, blocks, from, &mut table, 0);
     clear(scratch);
     let taken = take_all(image, &table);
     if taken.met {
-        return refused(crate::BLOCK_SHARED);
+        return refused(Refusal::BlockShared);
     }
     if dirty_end(image, &table, size) {
-        return refused(crate::END_NOT_ZERO);
+        return refused(Refusal::EndNotZero);
     }
     mark_scratch(image, &table, scratch);
     let n = entries(lookahead.place.slot, lookahead.entered);

@@ -8,18 +8,18 @@ use Rattle.words.specs.Memory.{Memory, memory, block_count}
 use Rattle.block_log.specs.CatchUp.{ahead}
 use Rattle.block_log.specs.Chain.{chain, log}
 use Rattle.block_log.specs.Look.{lookahead_of}
-use Rattle.block_log.specs.Opening.{bad_entry, refused_with}
+use Rattle.block_log.specs.Opening.{bad_entry}
 use Rattle.block_log.specs.declared.Lookahead.{Lookahead}
 use Rattle.words.proofs.FreeCount.{free-small}
-use Rattle.block_log.proofs.Opening.{Passed, passed-early, refused-opened, refused-scratch, early-refusal}
+use Rattle.block_log.proofs.Opening.{Passed, passed-early, early-out}
 use Rattle.block_log.proofs.Outcome.{Held, blocks-small, scratch-enough, at-start, walk-bad, count_is, taken_in, takable, file-small, markable}
 use Rattle.block_log.proofs.Outcome.{out-7, out-8, out-9, out-opened, out-scratch}
 use Rattle.block_log.proofs.open.open.Goals as goal
-use Rattle.block_log.proofs.open.open.Goals.{After-catch_up-size, After-look-lookahead, Else-reason-ne0}
+use Rattle.block_log.proofs.open.open.Goals.{After-catch_up-size, After-look-lookahead, In_default}
 
 -- past 1 to 6
-past : (c : Else-reason-ne0) → Passed one c.args.image.now c.args.scratch.now
-past c = passed-early _ _ (sym c.early_reason-reason.ensures.0 ∙ c.if-reason-ne0.false)
+past : (c : In_default) → Passed one c.args.image.now c.args.scratch.now
+past c = passed-early _ _ (sym c.early_reason.ensures ∙ c.in_default.is)
 
 -- what the walk from the log's start saw
 seen : (c : After-look-lookahead) → let words = c.args.image.now in
@@ -34,7 +34,7 @@ bad-is : (c : After-look-lookahead)
 unfolding lookahead_of
 bad-is c =
     let s = c.start-from in
-    let p = (passed-early _ _ (sym c.early_reason-reason.ensures.0 ∙ c.if-reason-ne0.false)) in
+    let p = passed-early _ _ (sym c.early_reason.ensures ∙ c.in_default.is) in
     ap (λ (k : Lookahead). k.broken) (seen c) ∙ walk-bad p s.result (at-start p s.result s.ensures)
 
 -- past 7, with the file in hand
@@ -43,10 +43,10 @@ held : (c : After-catch_up-size)
     c.catch_up-size.result
 unfolding lookahead_of
 held c =
-    let p = (passed-early _ _ (sym c.early_reason-reason.ensures.0 ∙ c.if-reason-ne0.false)) in
+    let p = passed-early _ _ (sym c.early_reason.ensures ∙ c.in_default.is) in
     let s = c.start-from in
     let from = at-start p s.result s.ensures in
-    let legal = sym (let s = c.start-from in let p = (passed-early _ _ (sym c.early_reason-reason.ensures.0 ∙ c.if-reason-ne0.false)) in ap (λ (k : Lookahead). k.broken) (rw c.whole_blocks-blocks.ensures at c.look-lookahead.ensures) ∙ walk-bad p s.result (at-start p s.result s.ensures)) ∙ c.if-lookahead.false in
+    let legal = sym (let s = c.start-from in let p = passed-early _ _ (sym c.early_reason.ensures ∙ c.in_default.is) in ap (λ (k : Lookahead). k.broken) (rw c.whole_blocks-blocks.ensures at c.look-lookahead.ensures) ∙ walk-bad p s.result (at-start p s.result s.ensures)) ∙ c.if-lookahead.false in
     let caught = rw c.whole_blocks-blocks.ensures at c.catch_up-size.ensures in
     taken_in p legal s.result from _ _ (caught (blocks-small one p) (walk-bad p s.result from ∙ legal))
 
@@ -59,31 +59,26 @@ Counted m k =
 walked : (c : After-look-lookahead) → Counted (memory one c.args.image.now) c.look-lookahead.result
 unfolding lookahead_of
 walked c =
-    let p = (passed-early _ _ (sym c.early_reason-reason.ensures.0 ∙ c.if-reason-ne0.false)) in
+    let p = passed-early _ _ (sym c.early_reason.ensures ∙ c.in_default.is) in
     let s = c.start-from in
     let words = c.args.image.now in
     let w = ahead one (memory one words) (block_count one words) c.start-from.result in
     subst (Counted (memory one words)) (sym (seen c))
     (count_is p w (ap (ahead one (memory one words) (block_count one words)) (at-start p s.result s.ensures)))
 
-pub returns-then-reason-ne0 : goal.returns-then-reason-ne0
-returns-then-reason-ne0 c = let a = c.args in
-    let r = c.early_reason-reason in
-    let e = early-refusal a.image.now a.scratch.now r.result r.ensures.0 c.if-reason-ne0.true in
-    let n : suc (r.result - 1) ≡ r.result = omega arith in (
-      c.refused.ensures ∙ sym (refused-opened one a.image.now a.scratch.now _ e ∙ ap refused_with n),
-      sym (refused-scratch one a.image.now a.scratch.now _ e (omega (arith, r.ensures.1))),
-    )
+pub returns-in-Err : goal.returns-in-Err
+returns-in-Err c = let o = early-out c.args.image.now c.args.scratch.now c.in-Err.refusal (sym c.early_reason.ensures ∙ c.in-Err.is) in
+    (c.refused.ensures ∙ sym o.0, sym o.1)
 
 pub overflow_cast-blocks : goal.overflow_cast-blocks
-overflow_cast-blocks c = omega (arith, blocks-small one (past (goal.at.overflow_cast-blocks c).Else-reason-ne0))
+overflow_cast-blocks c = omega (arith, blocks-small one (past (goal.at.overflow_cast-blocks c).In_default))
 
 pub returns-then-lookahead : goal.returns-then-lookahead
-returns-then-lookahead c = let o = out-7 one (past (goal.at.returns-then-lookahead c).Else-reason-ne0) (sym (bad-is (goal.at.returns-then-lookahead c).After-look-lookahead) ∙ c.if-lookahead.true) in
+returns-then-lookahead c = let o = out-7 one (past (goal.at.returns-then-lookahead c).In_default) (sym (bad-is (goal.at.returns-then-lookahead c).After-look-lookahead) ∙ c.if-lookahead.true) in
     (c.refused-then-lookahead.ensures ∙ sym o.0, sym o.1)
 
 pub clear-requires : goal.clear-requires
-clear-requires c = scratch-enough one (past (goal.at.clear-requires c).Else-reason-ne0)
+clear-requires c = scratch-enough one (past (goal.at.clear-requires c).In_default)
 
 pub take_all-taken-requires : goal.take_all-taken-requires
 take_all-taken-requires c = takable (held (goal.at.take_all-taken-requires c).After-catch_up-size)
@@ -109,10 +104,10 @@ pub entries-n-requires : goal.entries-n-requires
 entries-n-requires c = let k = walked (goal.at.entries-n-requires c).After-look-lookahead in (k.0, k.1, k.2)
 
 pub overflow_cast-blocks-2 : goal.overflow_cast-blocks-2
-overflow_cast-blocks-2 c = omega (arith, blocks-small one (past (goal.at.overflow_cast-blocks-2 c).Else-reason-ne0))
+overflow_cast-blocks-2 c = omega (arith, blocks-small one (past (goal.at.overflow_cast-blocks-2 c).In_default))
 
 pub overflow_cast-free : goal.overflow_cast-free
-overflow_cast-free c = omega (arith, blocks-small one (past (goal.at.overflow_cast-free c).Else-reason-ne0), c.free_count-free.ensures, free-small c.take_all-taken.result.map c.whole_blocks-blocks.result)
+overflow_cast-free c = omega (arith, blocks-small one (past (goal.at.overflow_cast-free c).In_default), c.free_count-free.ensures, free-small c.take_all-taken.result.map c.whole_blocks-blocks.result)
 
 pub overflow_add-lookahead : goal.overflow_add-lookahead
 overflow_add-lookahead c = let k = walked (goal.at.overflow_add-lookahead c).After-look-lookahead in omega (arith, k.2)
