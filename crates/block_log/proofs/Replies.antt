@@ -6,7 +6,7 @@ use Prim.Native.Nat.{ℕ, zero, suc, ◌≤◌}
 use native.Mathlib.Omega.{arith}
 use lib.Dec.{eqb}
 use borrow.Author.Tests.{eqb-true}
-use Rattle.std.specs.Prelude.{Ok, Err}
+use Rattle.std.specs.Prelude.{Result, Ok, Err}
 use Rattle.words.specs.Edition.{Edition}
 use Rattle.words.specs.Logic.{Reason, first, all_of}
 use Rattle.block_log.specs.declared.Refusal.{Refusal}
@@ -95,6 +95,23 @@ number-back rs a = go (first rs) refl
 pub none-done : (n : ℕ) → number_of (reply_of n) ≡ 0 → n ≡ 0
 none-done zero e = refl
 none-done (suc n) e = let l = number-some (refusal (suc n)) in absurd (omega arith)
+
+-- what a result says of the number that it has
+module _ {T : Type 0} {r : Result T Refusal} {n : ℕ} (h : number_of r ≡ n) where
+  pub ok-none : {x : T} → r ≡ Ok x → n ≡ 0
+  ok-none i = sym h ∙ ap number_of i
+
+  pub err-number : {e : Refusal} → r ≡ Err e → number e ≡ n
+  err-number i = sym (ap number_of i) ∙ h
+
+pub number-not-0 : (e : Refusal) → number e ≡ 0 → ⊥
+number-not-0 e z = let l = number-some e in absurd (omega arith)
+
+-- what a call answers that goes by its refusal's number, where that is this reason's
+pub refused-by {ℓ} : {A : Type ℓ} (e : Refusal) (n : ℕ) (done : A) (refused : Refusal → A) → number e ≡ n
+    → refused e ≡ (elim n [ zero ↦ done | suc k ↦ refused (refusal (suc k)) ])
+refused-by e zero done refused h = absurd (number-not-0 e h)
+refused-by e (suc n) done refused h = ap refused (sym (refusal-again e) ∙ ap refusal h)
 
 pub done_none : (n : ℕ) → reply_of n ≡ Done → n ≡ 0
 done_none n d = none-done n (ap number_of d)

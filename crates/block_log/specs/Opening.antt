@@ -1,24 +1,25 @@
 -- Laying out and opening (document 01, "The opened file", "Why a call is turned down").
-use Rattle.std.specs.Prelude.{Ok, Err, ℕ, zero, suc, ◌*◌, ◌-◌, ◌≡◌, Bool, true, false, ◌||◌, not, List, [], ◌∷◌, ◌++◌, length, drop, replicate, ltb, eqb}
+use Rattle.std.specs.Prelude.{Result, Ok, Err, ℕ, zero, suc, ◌*◌, ◌-◌, ◌≡◌, Bool, true, false, ◌||◌, not, List, [], ◌∷◌, ◌++◌, length, drop, replicate, ltb, eqb}
 use Rattle.words.specs.Edition.{Edition, one, blocks_max}
 use Rattle.words.specs.Logic.{is_zero, some_of, any, member, list_from, first, Reason, ◌when◌}
 use Rattle.words.specs.Memory.{Memory, memory, block_count, wrong_size}
 use Rattle.words.specs.BlockMap.{map_of, free_count}
 use Rattle.block_log.specs.declared.Shared.{Shared}
 use Rattle.block_log.specs.declared.Opened.{Opened}
+use Rattle.block_log.specs.declared.Refusal.{Refusal}
 use Rattle.block_log.specs.Refusals.{Reply, Done, Refused, number}
 use Rattle.block_log.specs.Entry.{legal}
 use Rattle.block_log.specs.Chain.{chain, log, bad_superblock, bad_index, endless, bad_log}
 use Rattle.block_log.specs.Replay.{Mapped, replay, file_bytes, live, shares_block, dirty_end}
 
--- the reply with this reason's number, 0 for none; and the number of a reply
+-- the reply with this reason's number, 0 for none; and the number of a reply, or of another result
 abbrev pub reply_of : ℕ → Reply
 reply_of zero = Done
 reply_of (suc n) = Refused (suc n)
 
-abbrev pub number_of : Reply → ℕ
-number_of (Ok tt) = 0
-number_of (Err refusal) = number refusal
+abbrev pub number_of : {T : Type 0} → Result T Refusal → ℕ
+number_of (Ok x) = 0
+number_of (Err e) = number e
 
 -- ---- laying out
 

@@ -16,7 +16,9 @@ use Rattle.words.proofs.Choice.{chosen-zero}
 use Rattle.words.proofs.Tests.{not-zero}
 use Rattle.block_log.specs.declared.Shared.{Shared}
 use Rattle.block_log.specs.declared.Place.{Place}
-use Rattle.block_log.specs.declared.Reply.TheVariants.{Done, Refused}
+use Rattle.std.specs.Prelude.{Err}
+use Rattle.block_log.specs.declared.Refusal.{Refusal}
+use Rattle.block_log.specs.Refusals.{Done, number}
 use Rattle.block_log.specs.CatchUp.{Walk, place_after, ahead, broken}
 use Rattle.block_log.specs.Replay.{Mapped, replay_on}
 use Rattle.points.specs.declared.Head.{Head}
@@ -32,7 +34,8 @@ use Rattle.points.specs.Calls.{begin_refusal, beginning, begin_read_refusal, beg
 use Rattle.points.proofs.Fits.{of-known}
 use Rattle.points.proofs.RecordFacts.{TextFits, text-facts, shared-facts}
 use Rattle.points.proofs.NotRefused.{write-refused, write-goes-on, begin-either, begin-shared, begin-text, begin-end, begin-sound}
-use Rattle.points.proofs.RecordReasons.{refused-so, unfit-before, fit-goes-on}
+use Rattle.block_log.proofs.Replies.{refused-by}
+use Rattle.points.proofs.RecordReasons.{unfit-before, fit-goes-on}
 
 -- ---- the text
 
@@ -104,13 +107,13 @@ module _ (E : Edition) (words : List ℕ) (s : Shared) (h : Head) (table : List 
           pub begin-0 : broken E s.blocks walk ≡ false → 0 ≡ refusal
           begin-0 x = sym (after-14 ∙ rw (i, t, p, x))
 
--- what is settled: a reason; or none, with the place and the run. The contracts that these serve are edition one's
+-- what is settled where there is a reason. The contracts that these serve are edition one's
 module _ (words : List ℕ) (n : Numbers) (h : Head) (table : List ℕ) (offset size : ℕ) where
   pub settled-refused :
-      (r k : ℕ) (place : Place) → r ≡ k → (k ≡ 0 → ⊥) → ((taken reports : List ℕ) → Known n reports
-      → k ≡ begin_read_refusal one words (shared_of n taken reports) h table offset size)
-      → Settled words n h table offset size r place
-  settled-refused r k place e ne x = record { refusal = λ taken reports known. e ∙ x taken reports known; tail = λ z. absurd (ne (sym e ∙ z)) }
+      (e : Refusal) → ((taken reports : List ℕ) → Known n reports
+      → number e ≡ begin_read_refusal one words (shared_of n taken reports) h table offset size)
+      → Settled words n h table offset size (Err e)
+  settled-refused e x = record { refusal = x; tail = tt }
 
 -- a write's: a reason of either kind, then 19
 module _ (E : Edition) (words : List ℕ) (s : Shared) (p : Point) (offset size : ℕ) where
@@ -127,20 +130,17 @@ module _ (E : Edition) (words : List ℕ) (s : Shared) (p : Point) (offset size 
     begin-found-0 x = sym (write-goes-on E words s p offset size e ∙ rw (not-zero (search s (span E offset size)) x))
 
 module _ (words : List ℕ) (s : Shared) (h : Head) (table : List ℕ) (offset size : ℕ) where
-  pub start-refused :
-      (r k : ℕ) (place : Place) (run : ℕ) → r ≡ k → (k ≡ 0 → ⊥) → k ≡ begin_refusal one words s h table offset size
-      → Started words s h table offset size r place run
-  start-refused r k place run e ne x = record { refusal = e ∙ x; tail = λ z. absurd (ne (sym e ∙ z)); found = λ z. absurd (ne (sym e ∙ z)) }
+  pub start-refused : (e : Refusal) → number e ≡ begin_refusal one words s h table offset size → Started words s h table offset size (Err e)
+  start-refused e x = record { refusal = x; tail = tt; found = tt }
 
 -- ---- the answers
 
-module _ (E : Edition) (words : List ℕ) (s : Shared) (p : Point) (offset : ℕ) (text : List ℕ) (r : ℕ)
-    (e : r ≡ begin_refusal E words s p.head p.table offset (length text)) where
-  pub begin-refused : (r ≡ 0 → ⊥) → record { reply = Refused r; shared = s; point = p } ≡ beginning E words s p offset text
+module _ (E : Edition) (words : List ℕ) (s : Shared) (p : Point) (offset : ℕ) (text : List ℕ) where
+  pub begin-refused : (e : Refusal) → number e ≡ begin_refusal E words s p.head p.table offset (length text)
+      → record { reply = Err e; shared = s; point = p } ≡ beginning E words s p offset text
   unfolding beginning
-  begin-refused h =
-      rw e (sym (refused-so (begin_refusal E words s p.head p.table offset (length text)) _
-      (λ n. record { reply = Refused n; shared = s; point = p }) (λ z. h (e ∙ z))))
+  begin-refused e h =
+      refused-by e (begin_refusal E words s p.head p.table offset (length text)) _ (λ x. record { reply = Err x; shared = s; point = p }) h
 
 -- what a beginning that is not refused has passed
 pub record Ready (E : Edition) (words : List ℕ) (s : Shared) (p : Point) (offset : ℕ) (text : List ℕ) : Type 0 where
@@ -200,9 +200,9 @@ module _ (E : Edition) (words : List ℕ) (s : Shared) (p : Point) (offset size 
   abbrev unread : ℕ
   unread = begin_read_refusal E words s p.head p.table offset size
 
-  pub begin-read-refused : (r : ℕ) → r ≡ unread → (r ≡ 0 → ⊥) → record { reply = Refused r; shared = s; point = p } ≡ beginning_read E words s p offset size
+  pub begin-read-refused : (e : Refusal) → number e ≡ unread → record { reply = Err e; shared = s; point = p } ≡ beginning_read E words s p offset size
   unfolding beginning_read
-  begin-read-refused r e h = rw e (sym (refused-so unread _ (λ n. record { reply = Refused n; shared = s; point = p }) (λ z. h (e ∙ z))))
+  begin-read-refused e h = refused-by e unread _ (λ x. record { reply = Err x; shared = s; point = p }) h
 
   -- what a read's beginning that is not refused has passed
   pub record ReadReady : Type 0 where

@@ -24,7 +24,9 @@ use Rattle.points.specs.Record.{no_write, no_text, is_reading, file_at, point_of
 use Rattle.points.specs.Search.{with_taken, reporting, reporting_place, lengthening}
 use Rattle.points.specs.Fill.{new_word}
 use Rattle.points.specs.Plan.{Outcome, untouched, carried_out, read_in, reported, freed, without_held, replaced, word_from}
+use Rattle.block_log.specs.Refusals.{refusal}
 use Rattle.points.specs.Stepping.{turned, to_commit, retried, filled, refill_after, next_slot, entering, entry_for}
+use Rattle.block_log.specs.Refusals.{refusal}
 use Rattle.points.specs.Stepping.{refused, commit, give_up, extend, zero_out, link, give_back, move_on, fill, planned, stepping}
 use Rattle.points.proofs.StepCases.{go_on}
 use Rattle.points.proofs.ReadCases.{write-kind, step_stays}
@@ -42,7 +44,7 @@ module _ (E : Edition) (m : Memory) (s : Shared) (p : Point) where
   -- ---- refused: nothing changes
 
   unfoldable pub after_refusal : ℕ → Outcome
-  after_refusal n = untouched s p (Refused n)
+  after_refusal n = untouched s p (Refused (refusal n))
 
   pub refusal-leaves : (n : ℕ) → out (refused E h n) ≡ after_refusal n
   unfolding carried_out read_in freed set_all after_refusal
@@ -86,7 +88,7 @@ module _ (E : Edition) (m : Memory) (s : Shared) (p : Point) where
   unfoldable pub after_give_up : ℕ → Outcome
   after_give_up n =
       record {
-        step = Refused n;
+        step = Refused (refusal n);
         shared = with_taken s (without_held E s.taken w);
         point = point_of (writing h no_write) p.table no_text;
         store = none;

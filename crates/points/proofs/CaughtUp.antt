@@ -17,8 +17,10 @@ use Rattle.block_log.specs.declared.Lookahead.{Lookahead}
 use Rattle.block_log.specs.Replay.{Mapped, replay_on}
 use Rattle.block_log.specs.CatchUp.{Walk, ahead, broken}
 use Rattle.block_log.specs.Look.{lookahead_of}
-use Rattle.block_log.proofs.Walk.{never}
 use Rattle.block_log.proofs.CatchUp.{none-broken, none-replayed}
+use Rattle.std.specs.Prelude.{Err}
+use Rattle.block_log.specs.declared.Refusal.{Refusal}
+use Rattle.block_log.specs.Refusals.{number}
 use Rattle.points.specs.declared.Head.{Head}
 use Rattle.points.specs.Record.{record_reasons, file_at, unfit}
 use Rattle.points.specs.Reading.{seen}
@@ -31,11 +33,11 @@ pub failed-before : (rs more : List Reason) → ((i : ℕ) → (get_or rs i no_r
 failed-before [] more h = refl
 failed-before (r ∷ rs) more h = first-goes-on r.number r.holds (rs ++ more) (h 0) ∙ failed-before rs more (λ i. h (suc i))
 
--- what is settled where the word at the log place is not known to be empty: a reason, and nothing of the file
+-- what is settled where there is a reason
 pub refused_as :
-    {words : List ℕ} {s : Shared} {h : Head} {table : List ℕ} {past : Bool} (r n : ℕ) (t : Bool) → (r ≡ n) × (t ≡ false)
-    → n ≡ catch_up_refusal one words s h table past → Settles words s h table past r t
-refused_as r n t e f = record { refusal = e.0 ∙ f; file = λ z. never (sym e.1 ∙ z) }
+    {words : List ℕ} {s : Shared} {h : Head} {table : List ℕ} {past : Bool} (e : Refusal)
+    → number e ≡ catch_up_refusal one words s h table past → Settles words s h table past (Err e)
+refused_as e f = record { refusal = f; file = tt }
 
 -- what the walk saw
 pub look-broken : (E : Edition) (seen : Lookahead) (blocks x y : ℕ) (w : Walk) → seen ≡ lookahead_of E blocks x y w

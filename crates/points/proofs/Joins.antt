@@ -1,11 +1,12 @@
 -- Joining: its reasons in their order, and what it answers. Assumes nothing.
 use Prim.Native.Nat.{ℕ, zero, suc, ◌<◌}
 use native.Mathlib.Omega.{arith}
-use mathlib.Core.Path.{◌≡◌, refl, sym, ◌∙◌, ap}
+use mathlib.Core.Path.{◌≡◌, refl, sym, ap}
 use mathlib.Core.Bool.{Bool, true, ◌||◌}
 use mathlib.Core.List.{List}
 use lib.Dec.{leb, eqb}
 use borrow.Author.Tests.{ne_eqb, leb-false, ltb-false}
+use Rattle.std.specs.Prelude.{Err}
 use Rattle.words.specs.Edition.{Edition}
 use Rattle.words.specs.Logic.{is_zero}
 use Rattle.words.specs.Memory.{Memory, memory}
@@ -13,14 +14,15 @@ use Rattle.words.specs.BlockMap.{with_bit}
 use Rattle.words.proofs.Logic.{or_right}
 use Rattle.words.proofs.Choice.{chosen-zero}
 use Rattle.block_log.specs.declared.Shared.{Shared}
-use Rattle.block_log.specs.declared.Reply.TheVariants.{Done, Refused}
+use Rattle.block_log.specs.declared.Refusal.{Refusal}
+use Rattle.block_log.specs.Refusals.{Done, number as reason-number}
 use Rattle.block_log.specs.Chain.{first_index}
 use Rattle.points.specs.declared.Point.{Point}
 use Rattle.points.specs.Record.{new_point, no_point}
 use Rattle.points.specs.Search.{with_joined, reporting}
 use Rattle.points.specs.Calls.{bad_first, join_refusal, joining}
 use Rattle.points.proofs.NotRefused.{join-number, join_first}
-use Rattle.points.proofs.RecordReasons.{refused-so}
+use Rattle.block_log.proofs.Replies.{refused-by}
 
 -- ---- 18
 
@@ -35,11 +37,10 @@ first-tests blocks m = ap (λ (t : Bool). t || leb blocks (first_index m)) (zero
 
 module _ (E : Edition) (words : List ℕ) (s : Shared) (number : ℕ) where
   pub join-refused :
-      (r : ℕ) (p : Point) → r ≡ join_refusal E words s number → (r ≡ 0 → ⊥) → p ≡ no_point
-      → record { reply = Refused r; shared = s; point = p } ≡ joining E words s number
+      (e : Refusal) (p : Point) → reason-number e ≡ join_refusal E words s number → p ≡ no_point
+      → record { reply = Err e; shared = s; point = p } ≡ joining E words s number
   unfolding joining
-  join-refused r p e h ep =
-      rw (ep, e) (sym (refused-so (join_refusal E words s number) _ (λ n. record { reply = Refused n; shared = s; point = no_point }) (λ z. h (e ∙ z))))
+  join-refused e p h ep = rw ep (refused-by e (join_refusal E words s number) _ (λ x. record { reply = Err x; shared = s; point = no_point }) h)
 
   module _ (none : join_refusal E words s number ≡ 0) where
     pub join-done :

@@ -5,6 +5,7 @@ use native.Mathlib.Decide.{dec_lt}
 use mathlib.Core.Path.{◌≡◌, sym, ap, ◌∙◌}
 use mathlib.Core.Bool.{true, false}
 use mathlib.Core.List.{List, [], ◌∷◌, ◌++◌, append-nil}
+use Rattle.std.specs.Prelude.{Err}
 use Rattle.words.specs.Edition.{Edition}
 use Rattle.words.specs.Word.{bit}
 use Rattle.words.specs.BlockMap.{with_bit, set_block, set_each}
@@ -13,7 +14,8 @@ use Rattle.words.proofs.BlockMap.{each-run, each_append}
 use Rattle.words.proofs.Choice.{choose-true, choose-false, chosen-zero}
 use Rattle.words.proofs.Tests.{no_true}
 use Rattle.block_log.specs.declared.Shared.{Shared}
-use Rattle.block_log.specs.declared.Reply.TheVariants.{Done, Refused}
+use Rattle.block_log.specs.declared.Refusal.{Refusal}
+use Rattle.block_log.specs.Refusals.{Done, number}
 use Rattle.points.specs.declared.Write.{Write}
 use Rattle.points.specs.declared.Point.{Point}
 use Rattle.points.specs.Record.{is_writing, is_zeroing, run_blocks, held, unfit}
@@ -21,7 +23,7 @@ use Rattle.points.specs.Search.{with_joined, with_taken, reporting}
 use Rattle.points.specs.Calls.{leaving}
 use Rattle.points.specs.Plan.{without_run, without_held}
 use Rattle.points.proofs.Fits.{no-bit}
-use Rattle.points.proofs.RecordReasons.{refused-so}
+use Rattle.block_log.proofs.Replies.{refused-by}
 
 -- ---- what a point holds
 
@@ -54,10 +56,9 @@ joined_small joined number l e = go (dec_lt number 32)
 -- ---- the answers
 
 module _ (E : Edition) (words : List ℕ) (s : Shared) (p : Point) where
-  pub leave-refused : (r : ℕ) → r ≡ unfit E words s p.head p.table → (r ≡ 0 → ⊥)
-      → record { reply = Refused r; shared = s } ≡ leaving E words s p
+  pub leave-refused : (e : Refusal) → number e ≡ unfit E words s p.head p.table → record { reply = Err e; shared = s } ≡ leaving E words s p
   unfolding leaving
-  leave-refused r e h = rw e (sym (refused-so (unfit E words s p.head p.table) _ (λ n. record { reply = Refused n; shared = s }) (λ z. h (e ∙ z))))
+  leave-refused e h = refused-by e (unfit E words s p.head p.table) _ (λ x. record { reply = Err x; shared = s }) h
 
   pub leave-done :
       unfit E words s p.head p.table ≡ 0 → (map : List ℕ) (j : ℕ) (t u v : Shared) → map ≡ without_held E s.taken p.head.write

@@ -9,12 +9,15 @@ use lib.ListN.{length, get_or, drop}
 use lib.Seq.{sets}
 use lib.Dec.{leb}
 use borrow.Author.Tests.{leb-false}
+use Rattle.std.specs.Prelude.{Err}
 use Rattle.words.specs.Edition.{Edition}
 use Rattle.words.specs.Logic.{Reason, is_zero, list_from, first, ◌when◌}
 use Rattle.words.specs.Memory.{Memory, memory, block_at}
 use Rattle.words.proofs.Tests.{is-zero, not-zero, nonzero, passes}
 use Rattle.block_log.specs.declared.Shared.{Shared}
-use Rattle.block_log.specs.declared.Reply.TheVariants.{Done, Refused}
+use Rattle.block_log.specs.declared.Refusal.{Refusal}
+use Rattle.block_log.specs.declared.Refusal.TheVariants.{NotMapped}
+use Rattle.block_log.specs.Refusals.{Done, Refused, number}
 use Rattle.block_log.specs.Replay.{Mapped, file_byte}
 use Rattle.block_log.specs.Opening.{reply_of}
 use Rattle.points.specs.declared.Head.{Head}
@@ -23,6 +26,7 @@ use Rattle.points.specs.declared.Numbers.{Numbers}
 use Rattle.points.specs.Reading.{seen, read_refusal, read_count, reading, buffer_after, locate_refusal, located, locating, viewed}
 use Rattle.points.specs.Search.{shared_of, numbers_of}
 use Rattle.points.specs.Lent.{catch_up_refusal, found_at, part_of}
+use Rattle.block_log.proofs.Replies.{number-not-0, refused-by}
 use Rattle.points.proofs.Copied.{list_from-same, sets-front}
 use Rattle.points.proofs.FilePieces.{part-block}
 use Rattle.points.proofs.CaughtUp.{catch-up-reasons, catch-up-passed, catch-up-inside, failed-before}
@@ -33,9 +37,9 @@ use Rattle.points.proofs.RecordReasons.{first-settled, first-goes-on, settled_be
 abbrev answer : ℕ → ℕ → Count
 answer r n = record { reply = reply_of r; count = elim r [ zero ↦ n | suc k ↦ 0 ] }
 
-answer-refused : (r n k : ℕ) → k ≡ r → k ≢ 0 → record { reply = Refused k; count = 0 } ≡ answer r n
-answer-refused zero n k e ne = absurd (ne e)
-answer-refused (suc r) n k e ne = rw e
+answer-refused : (r n : ℕ) (e : Refusal) → number e ≡ r → record { reply = Err e; count = 0 } ≡ answer r n
+answer-refused zero n e h = absurd (number-not-0 e h)
+answer-refused (suc r) n e h = refused-by e (suc r) (record { reply = Done; count = n }) (λ x. record { reply = Err x; count = 0 }) h
 
 answer-done : (r n k : ℕ) → r ≡ 0 → k ≡ n → record { reply = Done; count = k } ≡ answer r n
 answer-done zero n k e f = rw f
@@ -74,10 +78,10 @@ module _ (E : Edition) (I : List ℕ) (s : Shared) (h : Head) (table : List ℕ)
   read-sight = refl
 
   module _ (offset : ℕ) (buffer : List ℕ) where
-    module _ (k : ℕ) (e : k ≡ catch_up_refusal E I s h table false) (ne : k ≢ 0) where
-      pub read-refused : record { reply = Refused k; count = 0 } ≡ reading E I s h table offset (length buffer)
+    module _ (x : Refusal) (e : number x ≡ catch_up_refusal E I s h table false) where
+      pub read-refused : record { reply = Err x; count = 0 } ≡ reading E I s h table offset (length buffer)
       unfolding reading read_count
-      read-refused = answer-refused (read_refusal E I s h table) (min (length buffer) (file.size - offset)) k (e ∙ sym read-sight) ne
+      read-refused = answer-refused (read_refusal E I s h table) (min (length buffer) (file.size - offset)) x (e ∙ sym read-sight)
 
       no_bytes : read_count E I s h table offset (length buffer) ≡ 0
       unfolding reading
@@ -87,12 +91,12 @@ module _ (E : Edition) (I : List ℕ) (s : Shared) (h : Head) (table : List ℕ)
       unfolding buffer_after
       read-untouched = rw no_bytes
 
-    module _ (k : ℕ) (e : k ≡ catch_up_refusal E I s h table false) (z : k ≡ 0) (f : Mapped) (is : f ≡ file) (n : ℕ)
+    module _ (z : catch_up_refusal E I s h table false ≡ 0) (f : Mapped) (is : f ≡ file) (n : ℕ)
         (l : n ≡ min (length buffer) (f.size - offset)) where
       pub read_done : record { reply = Done; count = n } ≡ reading E I s h table offset (length buffer)
       unfolding reading read_count
       read_done =
-          answer-done (read_refusal E I s h table) (min (length buffer) (file.size - offset)) n (read-sight ∙ sym e ∙ z)
+          answer-done (read_refusal E I s h table) (min (length buffer) (file.size - offset)) n (read-sight ∙ z)
           (l ∙ ap (λ (g : Mapped). min (length buffer) (g.size - offset)) is)
 
       some_bytes : n ≡ read_count E I s h table offset (length buffer)
@@ -123,18 +127,19 @@ module _ (E : Edition) (I : List ℕ) (s : Shared) (h : Head) (table : List ℕ)
     locate-settled zero e ne = absurd (ne refl)
     locate-settled (suc k) e ne = sym (settled_before (catch-up-reasons E I s h table past) unmapped k (sym e))
 
-    pub locate-early : (k : ℕ) → k ≡ catch_up_refusal E I s h table past → k ≢ 0
-        → record { reply = Refused k; count = 0 } ≡ locating E I s h table v
+    pub locate-early : (x : Refusal) → number x ≡ catch_up_refusal E I s h table past
+        → record { reply = Err x; count = 0 } ≡ locating E I s h table v
     unfolding locating located
-    locate-early k e ne = answer-refused (locate_refusal E I s h table v) (get_or file.table v 0) k (locate-settled k e ne) ne
+    locate-early x e =
+        answer-refused (locate_refusal E I s h table v) (get_or file.table v 0) x (locate-settled (number x) e (number-not-0 x))
 
-    module _ (k : ℕ) (e : k ≡ catch_up_refusal E I s h table past) (z : k ≡ 0) where
+    module _ (z : catch_up_refusal E I s h table past ≡ 0) where
       pub locate-inside : v < 256
-      locate-inside = leb-false 256 v (catch-up-inside E I s h table past (sym e ∙ z))
+      locate-inside = leb-false 256 v (catch-up-inside E I s h table past z)
 
       locate-late : locate_refusal E I s h table v ≡ first unmapped
       unfolding locate_refusal
-      locate-late = failed-before (catch-up-reasons E I s h table past) unmapped (catch-up-passed E I s h table past (sym e ∙ z))
+      locate-late = failed-before (catch-up-reasons E I s h table past) unmapped (catch-up-passed E I s h table past z)
 
       module _ (f : Mapped) (is : f ≡ file) (b : ℕ) (at : b ≡ get_or f.table v 0) where
         index_is : b ≡ get_or file.table v 0
@@ -143,8 +148,8 @@ module _ (E : Edition) (I : List ℕ) (s : Shared) (h : Head) (table : List ℕ)
         locate-unmapped : b ≡ 0 → record { reply = Refused 22; count = 0 } ≡ locating E I s h table v
         unfolding locating located
         locate-unmapped n =
-            answer-refused (locate_refusal E I s h table v) (get_or file.table v 0) 22
-            (sym (locate-late ∙ first-settled 22 (is_zero (get_or file.table v 0)) [] (is-zero (get_or file.table v 0) (sym index_is ∙ n)))) (omega arith)
+            answer-refused (locate_refusal E I s h table v) (get_or file.table v 0) NotMapped
+            (sym (locate-late ∙ first-settled 22 (is_zero (get_or file.table v 0)) [] (is-zero (get_or file.table v 0) (sym index_is ∙ n))))
 
         locate-found : b ≢ 0 → record { reply = Done; count = b } ≡ locating E I s h table v
         unfolding locating located

@@ -10,6 +10,7 @@ use Rattle.words.specs.Edition.{Edition}
 use Rattle.words.specs.Memory.{Memory, memory}
 use Rattle.words.proofs.Choice.{choose-true, choose-false, chosen-zero, chosen-suc}
 use Rattle.block_log.specs.declared.Shared.{Shared}
+use Rattle.block_log.specs.Refusals.{refusal}
 use Rattle.block_log.specs.CatchUp.{Walk, ahead, broken}
 use Rattle.points.specs.declared.Write.{Write}
 use Rattle.points.specs.declared.Point.{Point}
@@ -31,15 +32,15 @@ module _ (E : Edition) (words : List ℕ) (s : Shared) (p : Point) where
     unfolding stepping
     read-kind = choose-true (is_reading p.head.write.phase) (read_step E words s p) _ r
 
-    pub read-refused : (k : ℕ) → step_refusal E words s p.head p.table ≡ suc k → stepping E words s p ≡ untouched s p (Refused (suc k))
+    pub read-refused : (k : ℕ) → step_refusal E words s p.head p.table ≡ suc k → stepping E words s p ≡ untouched s p (Refused (refusal (suc k)))
     unfolding read_step
     read-refused k e = read-kind
-        ∙ chosen-suc (step_refusal E words s p.head p.table) k (read_on E (memory E words) s p) (λ n. untouched s p (Refused (suc n))) e
+        ∙ chosen-suc (step_refusal E words s p.head p.table) k (read_on E (memory E words) s p) (λ n. untouched s p (Refused (refusal (suc n)))) e
 
     pub read_goes : step_refusal E words s p.head p.table ≡ 0 → stepping E words s p ≡ read_on E (memory E words) s p
     unfolding read_step
     read_goes e = read-kind
-        ∙ chosen-zero (step_refusal E words s p.head p.table) (read_on E (memory E words) s p) (λ n. untouched s p (Refused (suc n))) e
+        ∙ chosen-zero (step_refusal E words s p.head p.table) (read_on E (memory E words) s p) (λ n. untouched s p (Refused (refusal (suc n)))) e
 
 -- ---- a read's step that is not refused
 
@@ -65,25 +66,25 @@ module _ (E : Edition) (m : Memory) (s : Shared) (p : Point) where
   unfolding read_on
   finish-on e = choose-false (ltb w.position (range_words w)) (copy_word E m s p) (finish E m s p) e
 
-  pub stop-on : broken E s.blocks walked ≡ true → finish E m s p ≡ untouched s p (Refused 18)
+  pub stop-on : broken E s.blocks walked ≡ true → finish E m s p ≡ untouched s p (Refused (refusal 18))
   unfolding finish
-  stop-on e = choose-true (broken E s.blocks walked) (untouched s p (Refused 18)) _ e
+  stop-on e = choose-true (broken E s.blocks walked) (untouched s p (Refused (refusal 18))) _ e
 
   pub again-on : broken E s.blocks walked ≡ false → disturbed ≡ true → finish E m s p ≡ begin_again s p caught
   unfolding finish
-  again-on e f = choose-false (broken E s.blocks walked) (untouched s p (Refused 18)) _ e
+  again-on e f = choose-false (broken E s.blocks walked) (untouched s p (Refused (refusal 18))) _ e
       ∙ choose-true disturbed (begin_again s p caught) (answer_bytes s p caught) f
 
   pub bytes_on : broken E s.blocks walked ≡ false → disturbed ≡ false → finish E m s p ≡ answer_bytes s p caught
   unfolding finish
-  bytes_on e f = choose-false (broken E s.blocks walked) (untouched s p (Refused 18)) _ e
+  bytes_on e f = choose-false (broken E s.blocks walked) (untouched s p (Refused (refusal 18))) _ e
       ∙ choose-false disturbed (begin_again s p caught) (answer_bytes s p caught) f
 
   -- ---- whatever it does
 
   pub record EachRead (P : Outcome → Type 0) : Type 0 where
     pub copies : ltb w.position (range_words w) ≡ true → P (copy_word E m s p)
-    pub stops : broken E s.blocks walked ≡ true → P (untouched s p (Refused 18))
+    pub stops : broken E s.blocks walked ≡ true → P (untouched s p (Refused (refusal 18)))
     pub begins-again : ltb w.position (range_words w) ≡ false → disturbed ≡ true → P (begin_again s p caught)
     pub answers : ltb w.position (range_words w) ≡ false → disturbed ≡ false → P (answer_bytes s p caught)
 

@@ -25,6 +25,11 @@ use Rattle.points.specs.declared.plan.Reports.TheVariants.{NoReport, Standing}
 use Rattle.points.specs.declared.StepAnswer.{StepAnswer}
 use Rattle.points.specs.declared.StepAnswer.TheVariants.{Moved, Refused, Copied, Bytes}
 use Rattle.points.specs.declared.read_step.Ahead.{Ahead}
+use Rattle.block_log.specs.declared.Refusal.{Refusal}
+use Rattle.block_log.specs.Refusals.{Reply, Done, number, refusal}
+use Rattle.block_log.specs.Opening.{number_of}
+use Rattle.block_log.proofs.Replies.{ok-none, err-number, number-not-0, refusal-again}
+use Rattle.std.specs.Prelude.{Err}
 use Rattle.points.specs.Record.{no_write, no_text, head_of, is_idle, is_reading, run_first, run_blocks, range_words, file_at, point_of, unfit, caught_up}
 use Rattle.points.specs.Search.{shared_of, Known}
 use Rattle.points.specs.Plan.{Outcome, answered, untouched}
@@ -136,9 +141,9 @@ module _ (E : Edition) (m : Memory) (n : Numbers) (head : Head) (table text lent
   seen-sound : seen.broken ≡ false → broken E n.blocks walk ≡ false
   seen-sound e = sym is-broken ∙ e
 
-  pub finish-stops : seen.broken ≡ true → ReadTells (λ s. finish E m s p) n lent (leaving (Refused 18) head NoReport) table text lent
+  pub finish-stops : seen.broken ≡ true → ReadTells (λ s. finish E m s p) n lent (leaving (Refused (refusal 18)) head NoReport) table text lent
   finish-stops e =
-      told-by (λ taken reports known. stop-on E m (shared_of n taken reports) p (sym is-broken ∙ e)) (untouched-tells n head table text lent (Refused 18))
+      told-by (λ taken reports known. stop-on E m (shared_of n taken reports) p (sym is-broken ∙ e)) (untouched-tells n head table text lent (Refused (refusal 18)))
 
   module _ (later : List ℕ) (size : ℕ) (longer : Bool) (few : n.blocks ≤ 1024) (sound : seen.broken ≡ false)
       (is_later : n.blocks ≤ 1024 → broken E n.blocks walk ≡ false
@@ -195,24 +200,27 @@ pub record ReadFits (n : Numbers) (w : Write) : Type 0 where
   pub text : TextFits w
   pub blocks : n.blocks ≤ 1024
 
-module _ (words : List ℕ) (n : Numbers) (head : Head) (table : List ℕ) (reading : is_reading head.write.phase ≡ true) (reason : ℕ)
-    (is_reason : (taken reports : List ℕ) → Known n reports → reason ≡ unfit one words (shared_of n taken reports) head table) where
+module _ (words : List ℕ) (n : Numbers) (head : Head) (table : List ℕ) (reading : is_reading head.write.phase ≡ true)
+    (r : Reply) (is_reason : (taken reports : List ℕ) → Known n reports → number_of r ≡ unfit one words (shared_of n taken reports) head table) where
   abbrev more : List Reason
   more = 15 when is_idle head.write.phase ∷ []
 
-  pub step-refused : (text lent : List ℕ) → (reason ≡ 0 → ⊥)
-      → ReadTells (λ s. stepping one words s (point_of head table text)) n lent (leaving (Refused reason) head NoReport) table text lent
+  pub step-refused : (text lent : List ℕ) (e : Refusal) → r ≡ Err e
+      → ReadTells (λ s. stepping one words s (point_of head table text)) n lent (leaving (Refused e) head NoReport) table text lent
   unfolding step_refusal
-  step-refused text lent h = told-by (λ taken reports known. down reason (is_reason taken reports known) h) (untouched-tells n head table text lent (Refused reason))
+  step-refused text lent e i =
+      told-by (λ taken reports known. down (number e) refl (err-number (is_reason taken reports known) i)) (untouched-tells n head table text lent (Refused e))
     where
-      down : {s : Shared} (k : ℕ) → k ≡ unfit one words s head table → (k ≡ 0 → ⊥)
-          → stepping one words s (point_of head table text) ≡ untouched s (point_of head table text) (Refused k)
-      down zero e h = absurd (h refl)
-      down {s} (suc k) e h = read-refused one words s (point_of head table text) reading k (unfit-before one words s head table more k (sym e))
+      down : {s : Shared} (k : ℕ) → k ≡ number e → k ≡ unfit one words s head table
+          → stepping one words s (point_of head table text) ≡ untouched s (point_of head table text) (Refused e)
+      down zero f g = absurd (number-not-0 e (sym f))
+      down {s} (suc k) f g =
+          read-refused one words s (point_of head table text) reading k (unfit-before one words s head table more k (sym g))
+          ∙ ap (λ (x : Refusal). untouched s (point_of head table text) (Refused x)) (ap refusal f ∙ refusal-again e)
 
-  module _ (fit : reason ≡ 0) where
+  module _ (fit : r ≡ Done) where
     none-holds : (taken reports : List ℕ) → Known n reports → unfit one words (shared_of n taken reports) head table ≡ 0
-    none-holds taken reports known = sym (is_reason taken reports known) ∙ fit
+    none-holds taken reports known = ok-none (is_reason taken reports known) fit
 
     goes : (text taken reports : List ℕ) → Known n reports → let s = shared_of n taken reports in let p = point_of head table text in
         stepping one words s p ≡ read_on one (memory one words) s p

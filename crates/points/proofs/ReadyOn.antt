@@ -15,7 +15,7 @@ use Rattle.words.proofs.Tests.{nonzero, not-no}
 use Rattle.words.proofs.Choice.{chosen-zero, chosen-suc}
 use Rattle.block_log.specs.declared.Shared.{Shared}
 use Rattle.block_log.specs.CatchUp.{Walk, ahead, place_after}
-use Rattle.block_log.specs.declared.Reply.TheVariants.{Done}
+use Rattle.block_log.specs.Refusals.{Done}
 use Rattle.block_log.specs.Replay.{replay_on}
 use Rattle.block_log.proofs.CatchUp.{unbroken}
 use Rattle.points.specs.declared.Head.{Head}

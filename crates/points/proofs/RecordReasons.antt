@@ -1,6 +1,6 @@
 -- The reasons that calls with a record share: a call's list of reasons goes on where 10, 11 and 14 fail, and is settled where one holds.
 -- Assumes nothing.
-use Prim.Native.Nat.{ℕ, zero, suc}
+use Prim.Native.Nat.{ℕ, suc}
 use native.Mathlib.Omega.{arith}
 use mathlib.Core.Path.{◌≡◌, refl, sym, ◌∙◌}
 use mathlib.Core.Bool.{Bool, true, false, not}
@@ -45,12 +45,6 @@ gone-past (r ∷ rs) more n e = go r.holds refl (λ h. gone-past rs more (and_ri
         let f : not (is_zero r.number) ≡ false = rw z in
         absurd (no_true (and_left (not (is_zero r.number)) _ n) f)
     go false x ih = first-goes-on r.number r.holds (rs ++ more) x ∙ ih (sym (first-goes-on r.number r.holds rs x) ∙ e)
-
--- a call that is refused answers so, whatever it would do otherwise
-pub refused-so {ℓ} : {A : Type ℓ} (n : ℕ) (done : A) (refused : ℕ → A) → (n ≡ 0 → ⊥)
-    → (elim n [ zero ↦ done | suc k ↦ refused (suc k) ]) ≡ refused n
-refused-so zero done refused h = absurd (h refl)
-refused-so (suc n) done refused h = refl
 
 -- ---- 10, 11 and 14
 

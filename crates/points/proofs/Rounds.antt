@@ -7,7 +7,7 @@ use mathlib.Core.Bool.{Bool, true, false}
 use mathlib.Core.List.{List, [], ◌∷◌}
 use lib.ListN.{length}
 use Rattle.words.specs.Edition.{Edition}
-use Rattle.block_log.specs.declared.Reply.{Reply}
+use Rattle.block_log.specs.Refusals.{Reply}
 use Rattle.block_log.specs.Opening.{reply_of}
 use Rattle.block_log.proofs.Walk.{never}
 use Rattle.points.specs.Calls.{begin_refusal, beginning}

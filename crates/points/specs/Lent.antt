@@ -1,5 +1,5 @@
 -- For the contracts of the code, which is lent a record's parts: what it answers, what it settles, and what it asks for.
-use Rattle.std.specs.Prelude.{ℕ, zero, suc, ◌+◌, ◌-◌, ◌≤◌, ◌<◌, min, ◌≡◌, Bool, true, false, ◌&&◌, List, [], ◌∷◌, ◌++◌, length, get_or, leb, ltb, eqb}
+use Rattle.std.specs.Prelude.{Result, Ok, Err, IfOk, ℕ, zero, suc, ◌+◌, ◌-◌, ◌≤◌, ◌<◌, min, ◌≡◌, Bool, true, false, ◌&&◌, List, [], ◌∷◌, ◌++◌, length, get_or, leb, ltb, eqb}
 use Rattle.std.proofs.Math.Option.{Option, none}
 use Rattle.std.proofs.lemmas.List.Edits.{sets}
 use Rattle.words.specs.Edition.{Edition, one, blocks_max, file_blocks, file_end, chain_max}
@@ -8,8 +8,9 @@ use Rattle.words.specs.Word.{byte_of}
 use Rattle.words.specs.Memory.{Memory, Store, memory, block_at, word_at, after}
 use Rattle.block_log.specs.declared.Shared.{Shared}
 use Rattle.block_log.specs.declared.Place.{Place}
-use Rattle.block_log.specs.declared.Reply.{Reply}
-use Rattle.block_log.specs.declared.Reply.TheVariants.{Done, Refused}
+use Rattle.block_log.specs.declared.Refusal.{Refusal}
+use Rattle.block_log.specs.Refusals.{Reply, Done, Refused}
+use Rattle.block_log.specs.Opening.{number_of}
 use Rattle.block_log.specs.Entry.{legal}
 use Rattle.block_log.specs.Replay.{Mapped, file_byte}
 use Rattle.block_log.specs.CatchUp.{Walk, ahead, place_after, broken}
@@ -46,8 +47,8 @@ counted n false = n
 
 -- a beginning that is done reports where the point stands
 abbrev pub begun_shared : Reply → Head → Shared → Shared
-begun_shared Done h s = reporting_place h s
-begun_shared (Refused n) h s = s
+begun_shared (Ok x) h s = reporting_place h s
+begun_shared (Err e) h s = s
 
 abbrev pub begun_of : Numbers → LentBegun → List ℕ → List ℕ → List ℕ → List ℕ → Begun
 begun_of n left taken reports table text =
@@ -131,10 +132,10 @@ catch_up_refusal E words s h table past = first (record_reasons E words s h tabl
 abbrev pub at_tail : Edition → Memory → Place → Bool
 at_tail E m p = ltb p.slot E.block_words && eqb (word_at m p.block p.slot) 0
 
--- the reason, 0 for none; and where nothing is ahead, the file is as the record has it
-pub record Settles (words : List ℕ) (s : Shared) (h : Head) (table : List ℕ) (past : Bool) (reason : ℕ) (tail : Bool) : Type 0 where
-  pub refusal : reason ≡ catch_up_refusal one words s h table past
-  pub file : tail ≡ true → file_at h table ≡ seen one words s h table
+-- the reason; and where nothing is ahead, the file is as the record has it
+pub record Settles (words : List ℕ) (s : Shared) (h : Head) (table : List ℕ) (past : Bool) (r : Result Bool Refusal) : Type 0 where
+  pub refusal : number_of r ≡ catch_up_refusal one words s h table past
+  pub file : IfOk r (λ unchanged. unchanged ≡ true → file_at h table ≡ seen one words s h table)
 
 -- a table, where the length does not matter: bytes are found by it alone
 abbrev pub unsized : List ℕ → Mapped

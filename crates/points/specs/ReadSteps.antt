@@ -6,6 +6,7 @@ use Rattle.words.specs.Edition.{Edition}
 use Rattle.words.specs.Logic.{some_of, up_from, list_from}
 use Rattle.words.specs.Memory.{Memory}
 use Rattle.block_log.specs.declared.Shared.{Shared}
+use Rattle.block_log.specs.Refusals.{refusal}
 use Rattle.block_log.specs.Entry.{covers}
 use Rattle.block_log.specs.Replay.{Mapped, file_byte}
 use Rattle.block_log.specs.CatchUp.{ahead, broken}
@@ -97,7 +98,7 @@ module _ (E : Edition) (m : Memory) (s : Shared) (p : Point) where
       let walk = ahead E m s.blocks h.place in
       let c = caught_up E walk p in
       elim (broken E s.blocks walk) [
-        | true ↦ untouched s p (Refused 18)
+        | true ↦ untouched s p (Refused (refusal 18))
         | false ↦
             elim (covered E h.write walk.entries || lengthened h.write h.length c.head.length) [
               | true ↦ begin_again s p c

@@ -1,11 +1,10 @@
 -- Serving a list of points: "It begins all writes in list order, then gives each unfinished one a step a round" (document 02, K6).
-use Rattle.std.specs.Prelude.{ℕ, zero, suc, ◌+◌, ◌*◌, ◌-◌, Bool, true, false, ◌||◌, not, List, [], ◌∷◌, length, eqb}
+use Rattle.std.specs.Prelude.{Ok, Err, ℕ, zero, suc, ◌+◌, ◌*◌, ◌-◌, Bool, true, false, ◌||◌, not, List, [], ◌∷◌, length, eqb}
 use Rattle.words.specs.Edition.{Edition}
 use Rattle.words.specs.Logic.{between, member, first, ◌when◌}
 use Rattle.words.specs.Memory.{after}
 use Rattle.block_log.specs.declared.Shared.{Shared}
-use Rattle.block_log.specs.declared.Reply.{Reply}
-use Rattle.block_log.specs.declared.Reply.TheVariants.{Done, Refused as Stopped}
+use Rattle.block_log.specs.Refusals.{Reply, Done, Refused as Stopped}
 use Rattle.points.specs.declared.Point.{Point}
 use Rattle.points.specs.declared.StepAnswer.{StepAnswer}
 use Rattle.points.specs.declared.StepAnswer.TheVariants.{Stored, Moved, Extending, Committed, Refused, Copied, Bytes}
@@ -64,13 +63,13 @@ pub data Last : Type 0 where
 
 -- the same in numbers, those of a step's answer; 0 for a beginning that was done, which is no point's last in the end
 abbrev pub last_kind : Last → ℕ
-last_kind (begun Done) = 0
-last_kind (begun (Stopped n)) = step_kind (Refused n)
+last_kind (begun (Ok x)) = 0
+last_kind (begun (Err e)) = step_kind (Refused e)
 last_kind (stepped a) = step_kind a
 
 abbrev pub last_value : Last → ℕ
-last_value (begun Done) = 0
-last_value (begun (Stopped n)) = step_value (Refused n)
+last_value (begun (Ok x)) = 0
+last_value (begun (Err e)) = step_value (Refused e)
 last_value (stepped a) = step_value a
 
 -- a step after which the write goes on
@@ -79,14 +78,14 @@ step_goes_on Stored = true
 step_goes_on Moved = true
 step_goes_on Extending = true
 step_goes_on (Committed retries) = false
-step_goes_on (Refused n) = false
+step_goes_on (Refused e) = false
 step_goes_on Copied = true
 step_goes_on (Bytes n) = false
 
 -- "each unfinished one"; "one refused at its beginning or a step gets no further step"
 abbrev pub is_unfinished : Last → Bool
-is_unfinished (begun Done) = true
-is_unfinished (begun (Stopped n)) = false
+is_unfinished (begun (Ok x)) = true
+is_unfinished (begun (Err e)) = false
 is_unfinished (stepped a) = step_goes_on a
 
 -- a point of the list, from its beginning on

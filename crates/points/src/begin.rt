@@ -8,27 +8,17 @@ ghost use Rattle.points.specs.Search.{shared_of, Known};
 ghost use Rattle.points.specs.Lent.{begun_of};
 
 use crate::{Begun, Head, LentBegun, Numbers, Phase, Point, Write};
-use block_log::{Place, Reply, Shared};
+use block_log::{Place, Refusal, Shared};
 
-// What is settled before a beginning changes anything: the reason to refuse, 0 for none; the log place at the tail; the run's first block.
+// What is settled before a write's beginning changes anything: the log place at the tail; the run's first block.
 #[derive(Clone, Copy)]
 struct Start {
-    reason: u32,
     place: Place,
     run: u32,
 }
 
-fn refused(reason: u32) -> Start
-    ensures { result.reason ≡ reason }
-{
-    Start {
-        reason,
-        place: Place { block: 0, slot: 0 },
-        run: 0,
-    }
-}
-
-// The first reason that holds of those that a write and a read share, 18 being the last: the walk to the tail settles it. Nothing is changed.
+// The first reason that holds of those that a write and a read share, 18 being the last; where none does, the log place at the tail: the walk to it
+// settles both. Nothing is changed.
 fn settle(
     image: &[u64],
     numbers: Numbers,
@@ -36,34 +26,26 @@ fn settle(
     table: &[u16; 256],
     offset: usize,
     size: usize,
-) -> Start
-    ensures { Settled image.now numbers head table.now offset size result.reason result.place }
+) -> Result<Place, Refusal>
+    ensures { Settled image.now numbers head table.now offset size result }
 {
-    let reason = crate::record::unfit_numbers(image, numbers, head, table);
-    if reason != 0 {
-        return refused(reason);
-    }
+    crate::record::unfit_numbers(image, numbers, head, table)?;
     let write = head.write;
     let phase = write.phase;
     if !crate::record::is_idle(phase) {
-        return refused(crate::WRONG_PHASE);
+        return Err(Refusal::WrongPhase);
     }
     if crate::record::bad_text(size) {
-        return refused(crate::TEXT_SIZE);
+        return Err(Refusal::TextSize);
     }
     if crate::record::past_end(offset, size) {
-        return refused(crate::PAST_END);
+        return Err(Refusal::PastEnd);
     }
     let seen = block_log::ahead::look(image, numbers.blocks, head.place, 0, 0);
     if seen.broken {
-        return refused(block_log::LOG_BROKEN);
+        return Err(Refusal::LogBroken);
     }
-    let place = seen.place;
-    Start {
-        reason: 0,
-        place,
-        run: 0,
-    }
+    Ok(seen.place)
 }
 
 // The same for a write, with 19: the search settles it.
@@ -75,25 +57,17 @@ fn settle_write(
     table: &[u16; 256],
     offset: usize,
     size: usize,
-) -> Start
+) -> Result<Start, Refusal>
     ensures { (reports : List ℕ) → Known numbers reports → Started image.now (shared_of numbers taken.now reports) head
-        table.now offset size result.reason result.place result.run }
+        table.now offset size result }
 {
-    let start = settle(image, numbers, head, table, offset, size);
-    if start.reason != 0 {
-        return refused(start.reason);
-    }
+    let place = settle(image, numbers, head, table, offset, size)?;
     let span = crate::record::span(offset as u32, size as u32);
     let run = words::map::search(taken, numbers.blocks, span);
     if run == 0 {
-        return refused(crate::NO_RUN);
+        return Err(Refusal::NoRun);
     }
-    let place = start.place;
-    Start {
-        reason: 0,
-        place,
-        run,
-    }
+    Ok(Start { place, run })
 }
 
 // The record's array gets the text, and 0 after its end.
@@ -152,13 +126,15 @@ pub fn begin_lent(
         ≡ beginning one image.now (shared_of numbers taken.old reports) (point_of head table.old text.old)
         offset bytes.now }
 {
-    let start = settle_write(image, numbers, taken, head, table, offset, bytes.len());
-    if start.reason != 0 {
-        return LentBegun {
-            reply: Reply::Refused(start.reason),
-            head,
-        };
-    }
+    let start = match settle_write(image, numbers, taken, head, table, offset, bytes.len()) {
+        Ok(start) => start,
+        Err(refusal) => {
+            return LentBegun {
+                reply: Err(refusal),
+                head,
+            };
+        }
+    };
     let length = block_log::ahead::catch_up(image, numbers.blocks, head.place, table, head.length);
     put_text(text, bytes);
     let at = offset as u32;
@@ -166,7 +142,7 @@ pub fn begin_lent(
     let span = crate::record::span(at, size);
     words::map::take_run(taken, start.run as usize, span as usize);
     LentBegun {
-        reply: Reply::Done,
+        reply: Ok(()),
         head: crate::plan::head_of(
             head.number,
             length,
@@ -190,21 +166,23 @@ pub fn begin_read_lent(
         ≡ beginning_read one image.now (shared_of numbers taken reports) (point_of head table.old text.old)
         offset size }
 {
-    let start = settle(image, numbers, head, table, offset, size);
-    if start.reason != 0 {
-        return LentBegun {
-            reply: Reply::Refused(start.reason),
-            head,
-        };
-    }
+    let place = match settle(image, numbers, head, table, offset, size) {
+        Ok(place) => place,
+        Err(refusal) => {
+            return LentBegun {
+                reply: Err(refusal),
+                head,
+            };
+        }
+    };
     let length = block_log::ahead::catch_up(image, numbers.blocks, head.place, table, head.length);
     *text = crate::record::no_text();
     LentBegun {
-        reply: Reply::Done,
+        reply: Ok(()),
         head: crate::plan::head_of(
             head.number,
             length,
-            start.place,
+            place,
             new_read(offset as u32, size as u32),
         ),
     }

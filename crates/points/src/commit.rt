@@ -2,6 +2,7 @@
 ghost use Rattle.std.specs.Prelude.{◌≡◌, List, ℕ, ◌+◌, ◌<◌};
 ghost use Rattle.words.specs.Edition.{one};
 ghost use Rattle.words.specs.Memory.{Memory, memory};
+ghost use Rattle.block_log.specs.Refusals.{number};
 ghost use Rattle.points.specs.Record.{first_edge, last_edge};
 ghost use Rattle.points.specs.Search.{shared_of};
 ghost use Rattle.points.specs.Stepping.{refill, entry_for, commit, give_up, extend, at_end, move_on, committing};
@@ -9,6 +10,7 @@ ghost use Rattle.points.specs.Lent.{StepsOn, EntryFits};
 
 use crate::plan::{Frees, Kind, Plan, Reads, Reports};
 use crate::{Head, Numbers, Phase, StepAnswer, Write};
+use block_log::Refusal;
 
 // Whether the run's first block holds copied bytes.
 fn first_edge(write: Write) -> bool
@@ -60,7 +62,7 @@ fn move_on(image: &[u64], blocks: u32, head: Head) -> Plan
     let last = v + crate::record::span(write.offset, write.size) - 1;
     let seen = block_log::ahead::look(image, blocks, head.place, v, last);
     if seen.broken {
-        return crate::plan::refused(head, block_log::LOG_BROKEN);
+        return crate::plan::refused(head, Refusal::LogBroken);
     }
     let later = refill(
         first_edge(write) & seen.first,
@@ -122,11 +124,11 @@ fn commit(head: Head) -> Plan
 }
 
 // The write ends by 20 or 21: what it holds becomes free, and the point is idle.
-pub(crate) fn give_up(head: Head, number: u32) -> Plan
-    ensures { result ≡ give_up one head number }
+pub(crate) fn give_up(head: Head, refusal: Refusal) -> Plan
+    ensures { result ≡ give_up one head (number refusal) }
 {
     crate::plan::resting(
-        StepAnswer::Refused(number),
+        StepAnswer::Refused(refusal),
         head.place,
         crate::plan::no_write(),
         Reads::NoEntry,
@@ -160,11 +162,11 @@ fn at_end(numbers: Numbers, taken: &[u64; 16], head: Head) -> Plan
     ensures { (m : Memory) (reports : List ℕ) → result ≡ at_end one m head (shared_of numbers taken.now reports) }
 {
     if 64 <= numbers.chain {
-        return give_up(head, crate::LOG_FULL);
+        return give_up(head, Refusal::LogFull);
     }
     let b = words::map::search(taken, numbers.blocks, 1);
     if b == 0 {
-        return give_up(head, crate::NO_LOG_BLOCK);
+        return give_up(head, Refusal::NoLogBlock);
     }
     extend(head, b)
 }

@@ -1,29 +1,13 @@
 // The file as a point sees it: what reading, locating and viewing share.
-ghost use Rattle.std.specs.Prelude.{◌≡◌, false, List, ℕ, get_or};
+ghost use Rattle.std.specs.Prelude.{◌≡◌, Err, List, ℕ, get_or};
 ghost use Rattle.words.specs.Edition.{one};
 ghost use Rattle.words.specs.Memory.{memory};
+ghost use Rattle.block_log.specs.Refusals.{Done};
 ghost use Rattle.points.specs.Search.{shared_of, Known};
 ghost use Rattle.points.specs.Lent.{at_tail, Settles, part_of};
 
 use crate::{Count, Head, Numbers};
-use block_log::{Place, Reply};
-
-// Why the file is not read, 0 where it is; and whether it is the file as the record has it, nothing being ahead.
-#[derive(Clone, Copy)]
-pub(crate) struct Current {
-    pub reason: u32,
-    pub tail: bool,
-}
-
-// A reason, 0 for none, where the word at the log place is not known to be empty.
-fn settled(reason: u32) -> Current
-    ensures { (result.reason ≡ reason) × (result.tail ≡ false) }
-{
-    Current {
-        reason,
-        tail: false,
-    }
-}
+use block_log::{Place, Refusal};
 
 // Whether the word at a log place is empty.
 fn at_tail(image: &[u64], place: Place) -> bool
@@ -34,36 +18,31 @@ fn at_tail(image: &[u64], place: Place) -> bool
     (slot < 64) & (words::image::word(part, slot) == 0)
 }
 
-// The first of 10, 11, 14, 17 where the block asked for lies past the file, and 18. Where the word at the log place is empty there is no walk.
+// The first of 10, 11, 14, 17 where the block asked for lies past the file, and 18; where none holds, whether the file is known to be as the record has
+// it. Where the word at the log place is empty there is no walk.
 pub(crate) fn settle(
     image: &[u64],
     numbers: Numbers,
     head: Head,
     table: &[u16; 256],
     past: bool,
-) -> Current
+) -> Result<bool, Refusal>
     ensures { (taken reports : List ℕ) → Known numbers reports
-        → Settles image.now (shared_of numbers taken reports) head table.now past result.reason result.tail }
+        → Settles image.now (shared_of numbers taken reports) head table.now past result }
 {
-    let reason = crate::record::unfit_numbers(image, numbers, head, table);
-    if reason != 0 {
-        return settled(reason);
-    }
+    crate::record::unfit_numbers(image, numbers, head, table)?;
     if past {
-        return settled(crate::PAST_END);
+        return Err(Refusal::PastEnd);
     }
     let place = head.place;
     if at_tail(image, place) {
-        return Current {
-            reason: 0,
-            tail: true,
-        };
+        return Ok(true);
     }
     let ahead = block_log::ahead::look(image, numbers.blocks, place, 0, 0);
     if ahead.broken {
-        return settled(block_log::LOG_BROKEN);
+        return Err(Refusal::LogBroken);
     }
-    settled(0)
+    Ok(false)
 }
 
 // The logical block of a virtual one; 0 where nothing is mapped, and past the table.
@@ -87,21 +66,21 @@ pub(crate) fn part(image: &[u64], b: usize) -> &[u64]
 }
 
 // "a refused read or locating answers 0".
-pub(crate) fn refused(reason: u32) -> Count
-    ensures { result ≡ record { reply = Reply.Refused reason; count = 0 } }
+pub(crate) fn refused(refusal: Refusal) -> Count
+    ensures { result ≡ record { reply = Err refusal; count = 0 } }
 {
     Count {
-        reply: Reply::Refused(reason),
+        reply: Err(refusal),
         count: 0,
     }
 }
 
 // A count that is answered.
 pub(crate) fn counted(count: u32) -> Count
-    ensures { result ≡ record { reply = Reply.Done; count = count } }
+    ensures { result ≡ record { reply = Done; count = count } }
 {
     Count {
-        reply: Reply::Done,
+        reply: Ok(()),
         count,
     }
 }

@@ -6,6 +6,7 @@ ghost use Rattle.points.specs.Stepping.{zero_out, link, linking, give_back, exte
 
 use crate::plan::{Frees, Kind, Plan, Reads, Reports};
 use crate::{Head, Phase, StepAnswer};
+use block_log::Refusal;
 
 // A word of the log block to come becomes 0.
 fn zero_out(head: Head) -> Plan
@@ -72,7 +73,7 @@ fn linking(chain: u32, head: Head) -> Plan
     ensures { result ≡ linking one head chain }
 {
     if 64 <= chain {
-        return crate::commit::give_up(head, crate::LOG_FULL);
+        return crate::commit::give_up(head, Refusal::LogFull);
     }
     link(head)
 }

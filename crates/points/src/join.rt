@@ -2,11 +2,12 @@
 ghost use Rattle.std.specs.Prelude.{◌≡◌};
 ghost use Rattle.words.specs.Edition.{one};
 ghost use Rattle.words.specs.Memory.{memory};
+ghost use Rattle.block_log.specs.Opening.{number_of};
 ghost use Rattle.points.specs.Record.{idle_at};
 ghost use Rattle.points.specs.Calls.{bad_first, join_refusal, joining};
 
 use crate::{Joined, Point};
-use block_log::{Place, Reply, Shared};
+use block_log::{Place, Refusal, Reply, Shared};
 
 // 18. The first log index is 0 or lies outside the image.
 fn bad_first(image: &[u64], blocks: u32) -> bool
@@ -16,23 +17,23 @@ fn bad_first(image: &[u64], blocks: u32) -> bool
     (first == 0) | (blocks as u64 <= first)
 }
 
-// The first of the reasons 10, 12, 13 and 18 that holds, 0 for none.
-fn join_refusal(image: &[u64], shared: Shared, number: u32) -> u32
-    ensures { result ≡ join_refusal one image.now shared number }
+// The first of the reasons 10, 12, 13 and 18 that holds.
+fn join_refusal(image: &[u64], shared: Shared, number: u32) -> Reply
+    ensures { number_of result ≡ join_refusal one image.now shared number }
 {
     if crate::record::bad_shared(image, shared) {
-        return crate::SHARED_UNFIT;
+        return Err(Refusal::SharedUnfit);
     }
     if 31 < number {
-        return crate::NUMBER_ABOVE;
+        return Err(Refusal::NumberAbove);
     }
     if crate::record::is_joined(shared.joined, number) {
-        return crate::ALREADY_JOINED;
+        return Err(Refusal::AlreadyJoined);
     }
     if bad_first(image, shared.blocks) {
-        return block_log::LOG_BROKEN;
+        return Err(Refusal::LogBroken);
     }
-    0
+    Ok(())
 }
 
 // An idle record at a log place: its length and its write fields are 0.
@@ -52,10 +53,9 @@ fn idle_at(number: u32, place: Place) -> Point
 pub fn join(image: &[u64], shared: Shared, number: u32) -> Joined
     ensures { result ≡ joining one image.now shared number }
 {
-    let reason = join_refusal(image, shared, number);
-    if reason != 0 {
+    if let Err(refusal) = join_refusal(image, shared, number) {
         return Joined {
-            reply: Reply::Refused(reason),
+            reply: Err(refusal),
             shared,
             point: idle_at(0, Place { block: 0, slot: 0 }),
         };
@@ -66,7 +66,7 @@ pub fn join(image: &[u64], shared: Shared, number: u32) -> Joined
         crate::shared::with_point(shared.joined, number),
     );
     Joined {
-        reply: Reply::Done,
+        reply: Ok(()),
         shared: crate::shared::reporting(joined, number, first),
         point: idle_at(
             number,

@@ -5,16 +5,15 @@ ghost use Rattle.points.specs.Calls.{leaving};
 ghost use Rattle.points.specs.Record.{point_of};
 
 use crate::{Head, Left, Point};
-use block_log::{Reply, Shared};
+use block_log::Shared;
 
 // Leaving, with the record's table lent: what the point holds becomes free, and the point is joined no more and reports no log block.
 pub fn leave_lent(image: &[u64], shared: Shared, head: Head, table: &[u16; 256]) -> Left
     ensures { (text : List ℕ) → result ≡ leaving one image.now shared (point_of head table.now text) }
 {
-    let reason = crate::record::unfit(image, shared, head, table);
-    if reason != 0 {
+    if let Err(refusal) = crate::record::unfit(image, shared, head, table) {
         return Left {
-            reply: Reply::Refused(reason),
+            reply: Err(refusal),
             shared,
         };
     }
@@ -26,7 +25,7 @@ pub fn leave_lent(image: &[u64], shared: Shared, head: Head, table: &[u16; 256])
         crate::shared::without_point(shared.joined, head.number),
     );
     Left {
-        reply: Reply::Done,
+        reply: Ok(()),
         shared: crate::shared::reporting(unjoined, head.number, 0),
     }
 }

@@ -6,7 +6,7 @@ ghost use Rattle.points.specs.Search.{shared_of, Known};
 ghost use Rattle.points.specs.Lent.{found_at};
 
 use crate::{Count, Head, Numbers, Point};
-use block_log::Shared;
+use block_log::{Refusal, Shared};
 
 pub(crate) fn wide(b: u16) -> u32
     ensures { result ≡ b }
@@ -21,7 +21,7 @@ fn find(table: &[u16; 256], v: usize) -> Count
 {
     let b = wide(table[v]);
     if b == 0 {
-        return crate::current::refused(crate::NOT_MAPPED);
+        return crate::current::refused(Refusal::NotMapped);
     }
     crate::current::counted(b)
 }
@@ -37,11 +37,11 @@ pub fn locate_lent(
     ensures { (taken reports : List ℕ) → Known numbers reports
         → result ≡ locating one image.now (shared_of numbers taken reports) head table.now v }
 {
-    let current = crate::current::settle(image, numbers, head, table, 256 <= v);
-    if current.reason != 0 {
-        return crate::current::refused(current.reason);
-    }
-    if current.tail {
+    let unchanged = match crate::current::settle(image, numbers, head, table, 256 <= v) {
+        Ok(unchanged) => unchanged,
+        Err(refusal) => return crate::current::refused(refusal),
+    };
+    if unchanged {
         return find(table, v);
     }
     let place = head.place;

@@ -1,12 +1,13 @@
 // What a step settles before it stores: a plan, a field for each thing that it does.
 ghost use Rattle.std.specs.Prelude.{◌≡◌, false, ◌<◌};
 ghost use Rattle.words.specs.Edition.{one};
+ghost use Rattle.block_log.specs.Refusals.{number};
 ghost use Rattle.points.specs.Record.{run_words, no_write, head_of};
 ghost use Rattle.points.specs.Plan.{storing, resting};
 ghost use Rattle.points.specs.Stepping.{refused, turned, to_commit, retried, next_slot, entering};
 
 use crate::{Head, Phase, StepAnswer, Write};
-use block_log::Place;
+use block_log::{Place, Refusal};
 
 // What the record takes in: nothing, the entry that the plan stores, all entries ahead.
 #[derive(Clone, Copy)]
@@ -119,11 +120,11 @@ pub(crate) fn resting(
 }
 
 // A step that is refused changes nothing.
-pub(crate) fn refused(head: Head, number: u32) -> Plan
-    ensures { result ≡ refused one head number }
+pub(crate) fn refused(head: Head, refusal: Refusal) -> Plan
+    ensures { result ≡ refused one head (number refusal) }
 {
     resting(
-        StepAnswer::Refused(number),
+        StepAnswer::Refused(refusal),
         head.place,
         head.write,
         Reads::NoEntry,

@@ -174,11 +174,11 @@ pub fn read_lent(
         → ReadLeaves image.now (shared_of numbers taken reports) head table.now offset buffer.old
         result buffer.new }
 {
-    let current = crate::current::settle(image, numbers, head, table, false);
-    if current.reason != 0 {
-        return crate::current::refused(current.reason);
-    }
-    if current.tail {
+    let unchanged = match crate::current::settle(image, numbers, head, table, false) {
+        Ok(unchanged) => unchanged,
+        Err(refusal) => return crate::current::refused(refusal),
+    };
+    if unchanged {
         return fill_from(image, table, head.length, offset, buffer);
     }
     let place = head.place;

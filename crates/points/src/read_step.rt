@@ -10,7 +10,7 @@ ghost use Rattle.points.specs.Lent.{TextFits, ahead_of, ReadTells};
 
 use crate::plan::Reports;
 use crate::{Head, LentStepped, Numbers, Phase, StepAnswer, Write};
-use block_log::Place;
+use block_log::{Place, Refusal};
 
 fn lesser(a: usize, b: usize) -> usize
     ensures { result ≡ min a b }
@@ -122,7 +122,7 @@ fn finish(
     let seen = look(image, numbers.blocks, head);
     if seen.broken {
         return LentStepped {
-            step: StepAnswer::Refused(block_log::LOG_BROKEN),
+            step: StepAnswer::Refused(Refusal::LogBroken),
             head,
             word: 0,
             reports: Reports::NoReport,
@@ -166,10 +166,9 @@ pub(crate) fn step(
         ReadTells (λ s. stepping one image.now s p) numbers bytes.old result table.new text.new
         bytes.new }
 {
-    let reason = crate::record::unfit_numbers(image, numbers, head, table);
-    if reason != 0 {
+    if let Err(refusal) = crate::record::unfit_numbers(image, numbers, head, table) {
         return LentStepped {
-            step: StepAnswer::Refused(reason),
+            step: StepAnswer::Refused(refusal),
             head,
             word: 0,
             reports: Reports::NoReport,

@@ -3,13 +3,14 @@ ghost use Rattle.std.specs.Prelude.{◌≡◌, false, List, ℕ, ◌%◌, ◌<�
 ghost use Rattle.words.specs.Edition.{one, block_bytes};
 ghost use Rattle.words.specs.Logic.{between};
 ghost use Rattle.words.specs.Word.{bit};
+ghost use Rattle.block_log.specs.Opening.{number_of};
 ghost use Rattle.points.specs.Record.{no_text, phase_number, phase_of, is_idle, is_zeroing, is_reading, is_writing, bad_shared, bad_text, past_end, inside};
 ghost use Rattle.points.specs.Record.{span, run_first, range_words, place_fits, zeroing_fits, write_fits};
 ghost use Rattle.points.specs.Record.{range_fits, work_fits, head_fits, all_below, fits, unfit};
 ghost use Rattle.points.specs.Search.{shared_of, Known};
 
 use crate::{Head, Numbers, Phase, Write};
-use block_log::{Place, Shared};
+use block_log::{Place, Refusal, Reply, Shared};
 
 // The text of a record without a write: a filled array of zeros.
 pub fn no_text() -> [u8; 1024]
@@ -322,44 +323,44 @@ pub(crate) fn fits_unread(blocks: u32, head: Head, table: &[u16; 256]) -> bool
     write_fits(blocks, head.place, write)
 }
 
-// The first of 10, 11 and 14 that holds, 0 for none.
-pub fn unfit_numbers(image: &[u64], numbers: Numbers, head: Head, table: &[u16; 256]) -> u32
+// The first of 10, 11 and 14 that holds.
+pub fn unfit_numbers(image: &[u64], numbers: Numbers, head: Head, table: &[u16; 256]) -> Reply
     ensures { (taken reports : List ℕ) → Known numbers reports
-        → result ≡ unfit one image.now (shared_of numbers taken reports) head table.now }
+        → number_of result ≡ unfit one image.now (shared_of numbers taken reports) head table.now }
 {
     if bad_numbers(image, numbers) {
-        return crate::SHARED_UNFIT;
+        return Err(Refusal::SharedUnfit);
     }
     if !fits(numbers.blocks, head, table) {
-        return crate::RECORD_UNFIT;
+        return Err(Refusal::RecordUnfit);
     }
     if !is_joined(numbers.joined, head.number) {
-        return crate::NOT_JOINED;
+        return Err(Refusal::NotJoined);
     }
-    0
+    Ok(())
 }
 
 // The same of a record without a read.
-pub(crate) fn unfit_unread(image: &[u64], numbers: Numbers, head: Head, table: &[u16; 256]) -> u32
+pub(crate) fn unfit_unread(image: &[u64], numbers: Numbers, head: Head, table: &[u16; 256]) -> Reply
     requires { is_reading head.write.phase ≡ false }
     ensures { (taken reports : List ℕ) → Known numbers reports
-        → result ≡ unfit one image.now (shared_of numbers taken reports) head table.now }
+        → number_of result ≡ unfit one image.now (shared_of numbers taken reports) head table.now }
 {
     if bad_numbers(image, numbers) {
-        return crate::SHARED_UNFIT;
+        return Err(Refusal::SharedUnfit);
     }
     if !fits_unread(numbers.blocks, head, table) {
-        return crate::RECORD_UNFIT;
+        return Err(Refusal::RecordUnfit);
     }
     if !is_joined(numbers.joined, head.number) {
-        return crate::NOT_JOINED;
+        return Err(Refusal::NotJoined);
     }
-    0
+    Ok(())
 }
 
 // The same with a whole shared record.
-pub fn unfit(image: &[u64], shared: Shared, head: Head, table: &[u16; 256]) -> u32
-    ensures { result ≡ unfit one image.now shared head table.now }
+pub fn unfit(image: &[u64], shared: Shared, head: Head, table: &[u16; 256]) -> Reply
+    ensures { number_of result ≡ unfit one image.now shared head table.now }
 {
     unfit_numbers(image, crate::shared::numbers(shared), head, table)
 }

@@ -65,8 +65,8 @@ pub(crate) fn begun(shared: Shared, reply: Reply, head: Head) -> Shared
     ensures { result ≡ begun_shared reply head shared }
 {
     match reply {
-        Reply::Done => reporting(shared, head.number, head.place.block),
-        Reply::Refused(n) => shared,
+        Ok(()) => reporting(shared, head.number, head.place.block),
+        Err(_) => shared,
     }
 }
 

@@ -11,7 +11,7 @@ ghost use Rattle.points.specs.Lent.{Plans, Readable, StepsOn, TextFits, Lengthen
 
 use crate::plan::{Kind, Plan, Reads, Reports};
 use crate::{Head, LentStepped, Numbers, Point, Stepped};
-use block_log::{Place, Shared};
+use block_log::{Place, Refusal, Shared};
 
 // Word k of the run is filled.
 fn fill<'a>(image: &[u64], head: Head, table: &'a [u16; 256], text: &'a [u8; 1024], k: u32) -> Plan
@@ -86,14 +86,13 @@ fn settle<'a>(
     ensures { (reports : List ℕ) → Known numbers reports → result
         ≡ planned one image.now (shared_of numbers taken.now reports) (point_of head table.now text.now) }
 {
-    let reason = crate::record::unfit_unread(image, numbers, head, table);
-    if reason != 0 {
-        return crate::plan::refused(head, reason);
+    if let Err(refusal) = crate::record::unfit_unread(image, numbers, head, table) {
+        return crate::plan::refused(head, refusal);
     }
     let write = head.write;
     let phase = write.phase;
     if crate::record::is_idle(phase) {
-        return crate::plan::refused(head, crate::WRONG_PHASE);
+        return crate::plan::refused(head, Refusal::WrongPhase);
     }
     write_on(image, numbers, taken, head, table, text)
 }

@@ -1,5 +1,4 @@
 -- `points::begin::settle` meets its contract: each reason is asked where the ones before it failed. Assumes nothing.
-use native.Mathlib.Omega.{arith}
 use mathlib.Core.Path.{◌≡◌, sym, ◌∙◌, ap}
 use mathlib.Core.Bool.{true, false}
 use mathlib.Core.List.{List}
@@ -12,13 +11,16 @@ use Rattle.block_log.specs.CatchUp.{ahead, broken}
 use Rattle.block_log.specs.Look.{lookahead_of}
 use Rattle.points.specs.Record.{is_idle, bad_text, past_end, unfit}
 use Rattle.points.specs.Search.{shared_of, Known}
+use Rattle.block_log.specs.declared.Refusal.TheVariants.{WrongPhase, TextSize, PastEnd, LogBroken}
+use Rattle.std.proofs.lemmas.Result.{err_from_is_err_and}
+use Rattle.block_log.proofs.Replies.{ok-none, err-number, number-not-0}
 use Rattle.points.proofs.Begins.{settled-refused, begin-unfit, begin-15, begin-16, begin-17, begin-18, begin-0}
 use Rattle.points.proofs.begin.settle.Goals as goal
-use Rattle.points.proofs.begin.settle.Goals.{Else-bad_text, Else-not-is_idle, Else-past_end, Else-reason-ne0, Else-seen}
+use Rattle.points.proofs.begin.settle.Goals.{Else-bad_text, Else-not-is_idle, Else-past_end, Else-seen, In_ok-unfit_numbers}
 
-not-14 : (c : Else-reason-ne0) → let a = c.args in (taken reports : List ℕ) → Known a.numbers reports
+not-14 : (c : In_ok-unfit_numbers) → let a = c.args in (taken reports : List ℕ) → Known a.numbers reports
     → unfit one a.image.now (shared_of a.numbers taken reports) a.head a.table.now ≡ 0
-not-14 c taken reports known = sym (c.unfit_numbers-reason.ensures taken reports known) ∙ c.if-reason-ne0.false
+not-14 c taken reports known = ok-none (c.unfit_numbers.ensures taken reports known) c.in_ok-unfit_numbers.was
 
 not-15 : (c : Else-not-is_idle) → is_idle c.args.head.write.phase ≡ true
 not-15 c = sym c.is_idle.ensures ∙ not-false _ c.if-not-is_idle.false-raw
@@ -34,39 +36,39 @@ not-18 : (c : Else-seen) → let a = c.args in
 unfolding lookahead_of
 not-18 c = ap (λ (k : Lookahead). k.broken) (sym c.look-seen.ensures) ∙ c.if-seen.false
 
-pub returns-then-reason-ne0 : goal.returns-then-reason-ne0
-returns-then-reason-ne0 c = let a = c.args in
-    let u = c.unfit_numbers-reason in
-    settled-refused a.image.now a.numbers a.head a.table.now a.offset a.size _ u.result _ c.refused.ensures c.if-reason-ne0.true
-    (λ taken reports known. begin-unfit one a.image.now (shared_of a.numbers taken reports) a.head a.table.now a.offset a.size
-    u.result (u.ensures taken reports known) c.if-reason-ne0.true)
+pub returns-in_err-unfit_numbers : goal.returns-in_err-unfit_numbers
+returns-in_err-unfit_numbers c = let a = c.args in
+    let p = err_from_is_err_and c.from_residual.result c.from_residual.ensures.1 in
+    rw (p.1, p.2) (settled-refused a.image.now a.numbers a.head a.table.now a.offset a.size _
+    (λ taken reports known. let e = err-number (c.unfit_numbers.ensures taken reports known) c.in_err-unfit_numbers.was in
+    begin-unfit one a.image.now (shared_of a.numbers taken reports) a.head a.table.now a.offset a.size _ e (number-not-0 _)))
 
 pub returns-then-not-is_idle : goal.returns-then-not-is_idle
 returns-then-not-is_idle c = let a = c.args in
-    settled-refused a.image.now a.numbers a.head a.table.now a.offset a.size _ 15 _ c.refused-then-not-is_idle.ensures (λ z. omega arith)
-    (λ taken reports known. begin-15 one a.image.now (shared_of a.numbers taken reports) a.head a.table.now a.offset a.size (not-14 (goal.at.returns-then-not-is_idle c).Else-reason-ne0 taken reports known)
+    settled-refused a.image.now a.numbers a.head a.table.now a.offset a.size WrongPhase
+    (λ taken reports known. begin-15 one a.image.now (shared_of a.numbers taken reports) a.head a.table.now a.offset a.size (not-14 (goal.at.returns-then-not-is_idle c).In_ok-unfit_numbers taken reports known)
     (sym c.is_idle.ensures ∙ not-true _ c.if-not-is_idle.true-raw))
 
 pub returns-then-bad_text : goal.returns-then-bad_text
 returns-then-bad_text c = let a = c.args in
-    settled-refused a.image.now a.numbers a.head a.table.now a.offset a.size _ 16 _ c.refused-then-bad_text.ensures (λ z. omega arith)
+    settled-refused a.image.now a.numbers a.head a.table.now a.offset a.size TextSize
     (λ taken reports known. begin-16 one a.image.now (shared_of a.numbers taken reports) a.head a.table.now a.offset a.size
-    (not-14 (goal.at.returns-then-bad_text c).Else-reason-ne0 taken reports known) (not-15 (goal.at.returns-then-bad_text c).Else-not-is_idle)
+    (not-14 (goal.at.returns-then-bad_text c).In_ok-unfit_numbers taken reports known) (not-15 (goal.at.returns-then-bad_text c).Else-not-is_idle)
     (sym c.bad_text.ensures ∙ c.if-bad_text.true))
 
 pub returns-then-past_end : goal.returns-then-past_end
 returns-then-past_end c = let a = c.args in
-    settled-refused a.image.now a.numbers a.head a.table.now a.offset a.size _ 17 _ c.refused-then-past_end.ensures (λ z. omega arith)
+    settled-refused a.image.now a.numbers a.head a.table.now a.offset a.size PastEnd
     (λ taken reports known. begin-17 one a.image.now (shared_of a.numbers taken reports) a.head a.table.now a.offset a.size
-    (not-14 (goal.at.returns-then-past_end c).Else-reason-ne0 taken reports known) (not-15 (goal.at.returns-then-past_end c).Else-not-is_idle) (not_16 (goal.at.returns-then-past_end c).Else-bad_text)
+    (not-14 (goal.at.returns-then-past_end c).In_ok-unfit_numbers taken reports known) (not-15 (goal.at.returns-then-past_end c).Else-not-is_idle) (not_16 (goal.at.returns-then-past_end c).Else-bad_text)
     (sym c.past_end.ensures ∙ c.if-past_end.true))
 
 pub returns-then-seen : goal.returns-then-seen
 unfolding lookahead_of
 returns-then-seen c = let a = c.args in
-    settled-refused a.image.now a.numbers a.head a.table.now a.offset a.size _ 18 _ c.refused-then-seen.ensures (λ z. omega arith)
+    settled-refused a.image.now a.numbers a.head a.table.now a.offset a.size LogBroken
     (λ taken reports known. begin-18 one a.image.now (shared_of a.numbers taken reports) a.head a.table.now a.offset a.size
-    (not-14 (goal.at.returns-then-seen c).Else-reason-ne0 taken reports known) (not-15 (goal.at.returns-then-seen c).Else-not-is_idle) (not_16 (goal.at.returns-then-seen c).Else-bad_text) (not-17 (goal.at.returns-then-seen c).Else-past_end)
+    (not-14 (goal.at.returns-then-seen c).In_ok-unfit_numbers taken reports known) (not-15 (goal.at.returns-then-seen c).Else-not-is_idle) (not_16 (goal.at.returns-then-seen c).Else-bad_text) (not-17 (goal.at.returns-then-seen c).Else-past_end)
     (ap (λ (k : Lookahead). k.broken) (sym c.look-seen.ensures) ∙ c.if-seen.true))
 
 pub returns : goal.returns
@@ -75,6 +77,6 @@ returns c = let a = c.args in
     record {
       refusal = λ taken reports known.
           begin-0 one a.image.now (shared_of a.numbers taken reports) a.head a.table.now a.offset a.size
-          (not-14 (goal.at.returns c).Else-reason-ne0 taken reports known) (not-15 (goal.at.returns c).Else-not-is_idle) (not_16 (goal.at.returns c).Else-bad_text) (not-17 (goal.at.returns c).Else-past_end) (not-18 (goal.at.returns c).Else-seen);
-      tail = λ z. ap (λ (k : Lookahead). k.place) c.look-seen.ensures;
+          (not-14 (goal.at.returns c).In_ok-unfit_numbers taken reports known) (not-15 (goal.at.returns c).Else-not-is_idle) (not_16 (goal.at.returns c).Else-bad_text) (not-17 (goal.at.returns c).Else-past_end) (not-18 (goal.at.returns c).Else-seen);
+      tail = ap (λ (k : Lookahead). k.place) c.look-seen.ensures;
     }

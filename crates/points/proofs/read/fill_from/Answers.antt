@@ -5,7 +5,7 @@ use lib.Seq.{sets}
 use Rattle.words.specs.Edition.{one}
 use Rattle.words.specs.Logic.{list_from}
 use Rattle.words.specs.Memory.{memory}
-use Rattle.block_log.specs.declared.Reply.TheVariants.{Done}
+use Rattle.block_log.specs.Refusals.{Done}
 use Rattle.block_log.specs.Replay.{file_byte}
 use Rattle.points.specs.declared.Count.{Count}
 use Rattle.points.specs.Lent.{unsized}

@@ -2,35 +2,35 @@
 use native.Mathlib.Omega.{arith}
 use Rattle.points.proofs.ReadEnds.{ReadFits, read_fits, step-refused, step-copies, step-finishes}
 use Rattle.points.proofs.read_step.step.Goals as goal
-use Rattle.points.proofs.read_step.step.Goals.{Else-reason-ne0}
+use Rattle.points.proofs.read_step.step.Goals.{In_default}
 
 -- what is known there
-known : (c : Else-reason-ne0) → let a = c.args in
+known : (c : In_default) → let a = c.args in
     ReadFits a.numbers a.head.write
 known c =
     let a = c.args in
-    let u = c.unfit_numbers-reason in
-    read_fits a.image.now a.numbers a.head a.table.now c.requires u.result u.ensures c.if-reason-ne0.false
+    let u = c.unfit_numbers in
+    read_fits a.image.now a.numbers a.head a.table.now c.requires u.result u.ensures c.in_default.is
 
-pub returns-then-reason-ne0 : goal.returns-then-reason-ne0
-returns-then-reason-ne0 c = let a = c.args in
-    let u = c.unfit_numbers-reason in
-    step-refused a.image.now a.numbers a.head a.table.now c.requires u.result u.ensures a.text.now a.bytes.now c.if-reason-ne0.true
+pub returns-in-Err : goal.returns-in-Err
+returns-in-Err c = let a = c.args in
+    let u = c.unfit_numbers in
+    step-refused a.image.now a.numbers a.head a.table.now c.requires u.result u.ensures a.text.now a.bytes.now _ c.in-Err.is
 
 pub copy_word-requires : goal.copy_word-requires
-copy_word-requires c = ((known (goal.at.copy_word-requires c).Else-reason-ne0).text, omega arith)
+copy_word-requires c = ((known (goal.at.copy_word-requires c).In_default).text, omega arith)
 
 pub returns-then-write-range_words : goal.returns-then-write-range_words
 returns-then-write-range_words c = let a = c.args in
-    let u = c.unfit_numbers-reason in
-    step-copies a.image.now a.numbers a.head a.table.now c.requires u.result u.ensures c.if-reason-ne0.false a.text.now a.bytes.now _ _
+    let u = c.unfit_numbers in
+    step-copies a.image.now a.numbers a.head a.table.now c.requires u.result u.ensures c.in_default.is a.text.now a.bytes.now _ _
     (omega arith) (rw c.copied_on-more.ensures at c.head_of.ensures) c.copy_word.ensures
 
 pub finish-requires : goal.finish-requires
-finish-requires c = let k = known (goal.at.finish-requires c).Else-reason-ne0 in (k.text, k.blocks)
+finish-requires c = let k = known (goal.at.finish-requires c).In_default in (k.text, k.blocks)
 
 pub returns : goal.returns
 returns c = let a = c.args in
-    let u = c.unfit_numbers-reason in
-    step-finishes a.image.now a.numbers a.head a.table.now c.requires u.result u.ensures c.if-reason-ne0.false a.text.now a.bytes.now
+    let u = c.unfit_numbers in
+    step-finishes a.image.now a.numbers a.head a.table.now c.requires u.result u.ensures c.in_default.is a.text.now a.bytes.now
     (omega arith) c.finish.ensures

@@ -1,5 +1,5 @@
 -- `points::shared::begun`: by the reply. Assumes nothing.
 use Rattle.points.proofs.shared.begun.Goals as goal
 
-pub returns-in-Done : goal.returns-in-Done
-returns-in-Done c = rw c.in-Done.is c.reporting.ensures
+pub returns-in-Ok : goal.returns-in-Ok
+returns-in-Ok c = rw c.in-Ok.is c.reporting.ensures
