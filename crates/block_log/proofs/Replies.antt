@@ -1,21 +1,22 @@
 -- A reason and its number, a reply and its number; a call that goes by its refusal's number replies that number, and so does opening. Assumes nothing.
 use mathlib.Core.Path.{◌≡◌, refl, sym, ap, ◌∙◌}
 use mathlib.Core.Bool.{Bool, true}
-use mathlib.Core.List.{List}
+use mathlib.Core.List.{List, [], ◌∷◌}
 use Prim.Native.Nat.{ℕ, zero, suc, ◌≤◌}
 use native.Mathlib.Omega.{arith}
 use lib.Dec.{eqb}
 use borrow.Author.Tests.{eqb-true}
 use Rattle.std.specs.Prelude.{Result, Ok, Err}
 use Rattle.words.specs.Edition.{Edition}
-use Rattle.words.specs.Logic.{Reason, first, all_of}
+use Rattle.words.specs.Logic.{Reason, ◌when◌, first, all_of}
+use Rattle.words.specs.Memory.{memory, block_count, wrong_size}
 use Rattle.block_log.specs.declared.Refusal.{Refusal}
 use Rattle.block_log.specs.declared.Refusal.TheVariants.{ImageSize, ScratchShort, SuperblockWrong, LogIndexOutside, ChainEndless, LogBlockWrong, EntryWrong, BlockShared, EndNotZero}
 use Rattle.block_log.specs.declared.Refusal.TheVariants.{SharedUnfit, RecordUnfit, NumberAbove, AlreadyJoined, NotJoined, WrongPhase, TextSize, PastEnd, LogBroken}
 use Rattle.block_log.specs.declared.Refusal.TheVariants.{NoRun, LogFull, NoLogBlock, NotMapped, NotOneEach, ListedTwice}
 use Rattle.block_log.specs.declared.Opened.{Opened}
 use Rattle.block_log.specs.Refusals.{Reply, Done, Refused, number, refusal}
-use Rattle.block_log.specs.Opening.{reply_of, number_of, open_refusal, opened, opened_with}
+use Rattle.block_log.specs.Opening.{reply_of, number_of, short_scratch, content_reasons, open_refusal, opened, opened_with}
 use Rattle.words.proofs.Tests.{first-is}
 
 -- a reason is the one with its number, which is not 0
@@ -85,12 +86,15 @@ abbrev pub known : ℕ → Bool
 known n = eqb (number (refusal n)) n
 
 -- the first of such reasons replies its number
+pub known-back : (rs : List Reason) → all_of (λ (r : Reason). known r.number) rs ≡ true → (k : ℕ) → first rs ≡ suc k → number (refusal (suc k)) ≡ suc k
+known-back rs a k e = eqb-true _ _ (first-is known rs a k e)
+
 pub number-back : (rs : List Reason) → all_of (λ (r : Reason). known r.number) rs ≡ true → number_of (reply_of (first rs)) ≡ first rs
 number-back rs a = go (first rs) refl
   where
     go : (n : ℕ) → first rs ≡ n → number_of (reply_of n) ≡ n
     go zero e = refl
-    go (suc k) e = eqb-true _ _ (first-is known rs a k e)
+    go (suc k) e = known-back rs a k e
 
 pub none-done : (n : ℕ) → number_of (reply_of n) ≡ 0 → n ≡ 0
 none-done zero e = refl
@@ -124,3 +128,9 @@ replies reply (suc n) x y a b = b n
 pub opened-replies : (E : Edition) (words scratch : List ℕ) → (opened E words scratch).reply ≡ reply_of (open_refusal E words scratch)
 unfolding opened opened_with
 opened-replies E words scratch = replies (λ (o : Opened). o.reply) (open_refusal E words scratch) _ _ refl (λ k. refl)
+
+pub opened-number : (E : Edition) (words scratch : List ℕ) → number_of (opened E words scratch).reply ≡ open_refusal E words scratch
+unfolding open_refusal content_reasons
+opened-number E words scratch =
+    ap number_of (opened-replies E words scratch)
+    ∙ number-back (1 when wrong_size E words ∷ 2 when short_scratch scratch ∷ content_reasons E (block_count E words) (memory E words)) refl

@@ -12,7 +12,7 @@ use Rattle.words.specs.Edition.{Edition, block_bytes, file_blocks}
 use Rattle.words.specs.Logic.{◌when◌, is_zero, list_from}
 use Rattle.words.specs.Memory.{Memory, memory, block_count}
 use Rattle.block_log.specs.declared.Opened.{Opened}
-use Rattle.block_log.specs.declared.Reply.TheVariants.{Refused}
+use Rattle.block_log.specs.Refusals.{Refused}
 use Rattle.block_log.specs.Replay.{Mapped, mapped_byte, file_byte, file_bytes, replay_on}
 use Rattle.block_log.specs.CatchUp as K
 use Rattle.block_log.specs.Opening.{open_refusal, opened, opened_with, no_shared, file_of, opened_file}

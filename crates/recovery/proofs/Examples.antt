@@ -12,7 +12,7 @@ use Rattle.words.specs.Edition.{one}
 use Rattle.words.specs.Logic.{all_of, list_from, one_if, member}
 use Rattle.words.specs.Memory.{memory}
 use Rattle.words.specs.BlockMap.{taken}
-use Rattle.block_log.specs.declared.Reply.TheVariants.{Done}
+use Rattle.block_log.specs.Refusals.{Done}
 use Rattle.block_log.specs.Chain.{log}
 use Rattle.block_log.specs.Entry.{entry_of}
 use Rattle.points.specs.Record.{no_point}

@@ -32,8 +32,7 @@ use Rattle.recovery.specs.History.{calls_before, refusal, step_refused, is_fault
 use Rattle.recovery.specs.Claim.{NoFault}
 use Rattle.words.proofs.Tests.{no_true}
 use Rattle.recovery.proofs.Opening.Opens.{first_some, first-inside}
-use Rattle.block_log.proofs.Replies.{number-back}
-use Rattle.points.proofs.Replies.{join-replies, begin-replies, begin-read-replies, leave-replies, step-answers}
+use Rattle.points.proofs.Replies.{step-answers, joining-number, beginning-number, beginning-read-number, leaving-number, step-number, ends-number}
 use Rattle.recovery.proofs.Calls.Mapping.{Tied, handed-newest, handed-number}
 use Rattle.recovery.proofs.Calls.NotRefused.{shared-ok, record-passed, step-on, not-broken}
 use Rattle.recovery.proofs.Claim.{opens-enough, same_start, bytes_before}
@@ -77,7 +76,7 @@ write-safe E m s p sound = each-plan E m s p SafePlan (record {
   links = λ l. refl;
   gives_back = refl;
   extends = λ b. refl;
-  gives_up = not-fault;
+  gives_up = λ k e. rw (ends-number k e) (not-fault k e);
   stops = λ e. absurd (no_true e sound);
   moves = refl;
 })
@@ -171,24 +170,21 @@ module _ {E : Edition} {L : List ℕ} (w : W.World) (bk : Book) (h : Tied E L w 
 
   pub call-safe : (c : Call) → by_joined w c ≡ true → is_fault (refusal (serve E w c).event) ≡ false
   unfolding serve
-  call-safe (join n) j = rw (join-replies E I s n, number-back (join_refusal E I s n)) (join-safe n)
+  call-safe (join n) j = rw (joining-number E I s n) (join-safe n)
   call-safe (begin n q o text) j = rw (
     handed-newest w n q j,
-    begin-replies E I s (w.newest n) o text,
-    number-back (begin_refusal E I s (w.newest n).head (w.newest n).table o (length text)),
+    beginning-number E I s (w.newest n) o text,
   )
       (begin-safe n j o (length text))
   call-safe (begin_read n q o size) j = rw (
     handed-newest w n q j,
-    begin-read-replies E I s (w.newest n) o size,
-    number-back (begin_read_refusal E I s (w.newest n).head (w.newest n).table o size),
+    beginning-read-number E I s (w.newest n) o size,
   )
       (begin-read-safe n j o size)
   call-safe (step n q) j = rw (handed-newest w n q j) (step-safe n j)
   call-safe (leave n q) j = rw (
     handed-newest w n q j,
-    leave-replies E I s (w.newest n),
-    number-back (unfit E I s (w.newest n).head (w.newest n).table),
+    leaving-number E I s (w.newest n),
   )
       (leave-safe n j)
 
@@ -229,20 +225,20 @@ module _ {E : Edition} {L : List ℕ} (w : W.World) (bk : Book) (h : Tied E L w 
         go : (k : ℕ) → step_refusal E I s y.head y.table ≡ k → (b : Bool) → is_reading y.head.write.phase ≡ b
             → is_strange (step_refused (stepping E I s y).step) ≡ true
         go zero e b r = let z : is_strange 0 ≡ true = rw e at refused-strange in absurd (no_true z refl)
-        go (suc k) e true r = rw (read-refused E I s y r k e) (rw e at refused-strange)
-        go (suc k) e false r = rw (step-answers E I s y r, refused-on E I s y k e) (rw e at refused-strange)
+        go (suc k) e true r = rw (read-refused E I s y r k e, step-number E I s y k e) (rw e at refused-strange)
+        go (suc k) e false r = rw (step-answers E I s y r, refused-on E I s y k e, step-number E I s y k e) (rw e at refused-strange)
 
   pub call-strange : (c : Call) → by_joined w c ≡ false → is_strange (refusal (serve E w c).event) ≡ true
   unfolding serve
   call-strange (join n) j = absurd (no_true refl j)
   call-strange (begin n q o text) j =
-      rw (begin-replies E I s (handed w n q) o text, number-back (begin_refusal E I s (y n q j).head (y n q j).table o (length text)))
+      rw (beginning-number E I s (handed w n q) o text)
       (begin-strange n q j o (length text))
   call-strange (begin_read n q o size) j =
-      rw (begin-read-replies E I s (handed w n q) o size, number-back (begin_read_refusal E I s (y n q j).head (y n q j).table o size))
+      rw (beginning-read-number E I s (handed w n q) o size)
       (begin-read-strange n q j o size)
   call-strange (step n q) j = step-strange n q j
-  call-strange (leave n q) j = rw (leave-replies E I s (handed w n q), number-back (unfit E I s (y n q j).head (y n q j).table)) (leave-strange n q j)
+  call-strange (leave n q) j = rw (leaving-number E I s (handed w n q)) (leave-strange n q j)
 
 pub no-fault : (E : Edition) → NoFault E
 unfolding NoFault

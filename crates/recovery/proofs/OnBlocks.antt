@@ -16,6 +16,7 @@ use Rattle.words.specs.Edition.{Edition, blocks_min, blocks_max, chain_max}
 use Rattle.words.specs.Logic.{between, any, every, first, ◌when◌}
 use Rattle.words.specs.Memory.{Memory, cut, memory, block_count, Store, put, put_in, after}
 use Rattle.block_log.specs.declared.Shared.{Shared}
+use Rattle.block_log.specs.Refusals.{refusal}
 use Rattle.points.specs.declared.Write.{Write}
 use Rattle.points.specs.declared.Head.{Head}
 use Rattle.points.specs.declared.Point.{Point}
@@ -102,7 +103,7 @@ refusal_in E n fit s h =
 unfoldable pub step_in : Edition → Memory → ℕ → Bool → Shared → Point → Outcome
 step_in E m n fit s p =
     elim (is_reading p.head.write.phase) [
-      | true ↦ elim (refusal_in E n fit s p.head) [ zero ↦ read_on E m s p | suc k ↦ untouched s p (Refused (suc k)) ]
+      | true ↦ elim (refusal_in E n fit s p.head) [ zero ↦ read_on E m s p | suc k ↦ untouched s p (Refused (refusal (suc k))) ]
       | false ↦ carried_out E m s p (elim (refusal_in E n fit s p.head) [ zero ↦ write_on E m s p | suc k ↦ refused E p.head (suc k) ])
     ]
 

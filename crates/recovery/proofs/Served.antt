@@ -5,7 +5,7 @@ use mathlib.Core.List.{List}
 use lib.ListN.{length}
 use Rattle.words.specs.Edition.{one}
 use Rattle.block_log.specs.declared.Shared.{Shared}
-use Rattle.block_log.specs.declared.Reply.{Reply}
+use Rattle.block_log.specs.Refusals.{Reply}
 use Rattle.block_log.specs.declared.Opened.{Opened}
 use Rattle.block_log.specs.Opening.{open_refusal, opened}
 use Rattle.points.specs.declared.Head.{Head}
@@ -18,7 +18,8 @@ use Rattle.points.specs.declared.Left.{Left}
 use Rattle.points.specs.Calls.{joining, beginning, beginning_read, leaving}
 use Rattle.points.specs.Stepping.{stepping, StepLeaves}
 use Rattle.points.specs.Reading.{ReadLeaves, locate_refusal, locating}
-use Rattle.block_log.proofs.Replies.{number-back, done_none, opened-replies}
+use Rattle.block_log.proofs.Replies.{done_none, opened-replies}
+use Rattle.points.proofs.Replies.{locating-number}
 use Rattle.recovery.specs.World.{serve}
 use Rattle.recovery.specs.Claim.{Answered, NoFault}
 use Rattle.recovery.specs.Served.{OpenServed, JoinServed, BeginServed, BeginReadServed, StepServed, LeaveServed, ReadServed, LocateServed}
@@ -75,6 +76,6 @@ module _ (words : List ℕ) (s : Shared) where
   locate-served head table v r e h n at =
       let f = (answered one h).1 n at.is_in in
       let safe = rw (at.image, at.shared, at.head_is, at.table_is) at ((no-fault one h).2 n v at.is_in) in (
-        rw (e, number-back (locate_refusal one words s head table v)) safe,
+        rw (e, locating-number one words s head table v) safe,
         λ q l k. rw e (rw (at.image, at.shared, at.head_is, at.table_is) at (f.locates v q l k)),
       )

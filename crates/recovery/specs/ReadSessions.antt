@@ -4,6 +4,7 @@ use Rattle.std.specs.Prelude.{ℕ, ◌+◌, ◌*◌, ◌-◌, ◌%◌, ◌≡◌
 use Rattle.words.specs.Edition.{one}
 use Rattle.words.specs.Logic.{some_of, list_from}
 use Rattle.words.specs.BlockMap.{free_count}
+use Rattle.block_log.specs.Refusals.{refusal}
 use Rattle.points.specs.declared.StepAnswer.TheVariants.{Refused as Stopped, Copied, Bytes}
 use Rattle.points.specs.Record.{no_point}
 use Rattle.recovery.specs.World.{World, Call, join, begin, begin_read, step, leave, Event, joined, begun, begun_read, stepped, left, world, events}
@@ -77,7 +78,7 @@ refused_calls =
 
 abbrev pub refused_cases : List Event → World → List Case
 refused_cases es w =
-    (map code es is done ∷ 16 ∷ 16 ∷ 17 ∷ done ∷ 15 ∷ 15 ∷ done ∷ step_code (Stopped 11) ∷ []) ∷ (free_count w.shared.taken 8 ∷ [] is 6 ∷ []) ∷ []
+    (map code es is done ∷ 16 ∷ 16 ∷ 17 ∷ done ∷ 15 ∷ 15 ∷ done ∷ step_code (Stopped (refusal 11)) ∷ []) ∷ (free_count w.shared.taken 8 ∷ [] is 6 ∷ []) ∷ []
 
 -- ---- the bound of the lone read is met
 

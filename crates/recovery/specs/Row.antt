@@ -1,10 +1,9 @@
 -- The call that serves a list of points, as the row of calls that it is in a list: "demand 3 counts it as that row, with a cut between any two" (document
 -- 02, K6).
-use Rattle.std.specs.Prelude.{ℕ, zero, suc, Bool, true, false, List, [], ◌∷◌, ◌++◌, map, length, eqb}
+use Rattle.std.specs.Prelude.{Ok, Err, ℕ, zero, suc, Bool, true, false, List, [], ◌∷◌, ◌++◌, map, length, eqb}
 use Rattle.std.proofs.Math.Option.{Option, some}
 use Rattle.words.specs.Edition.{Edition}
-use Rattle.block_log.specs.declared.Reply.{Reply}
-use Rattle.block_log.specs.declared.Reply.TheVariants.{Done, Refused}
+use Rattle.block_log.specs.Refusals.{Reply}
 use Rattle.points.specs.declared.Point.{Point}
 use Rattle.points.specs.Serving.{Request, Last, step_goes_on, serve_rounds, begun as last_begun, stepped as last_stepped}
 use Rattle.recovery.specs.World.{World, Call, begin, step, Event, joined, begun, begun_read, stepped, left, world, events}
@@ -23,8 +22,8 @@ step_of t = step t.number t.given
 
 -- "one refused at its beginning or a step gets no further step"
 abbrev pub reply_goes_on : Reply → Bool
-reply_goes_on Done = true
-reply_goes_on (Refused n) = false
+reply_goes_on (Ok x) = true
+reply_goes_on (Err e) = false
 
 abbrev pub goes_on : Event → Bool
 goes_on (joined n r) = false

@@ -2,12 +2,13 @@
 -- shared record that it was lent and in which the point hands in the record that it was given. So the claims hold of the code. Opening makes the world
 -- that a list begins with; reading at once and locating, which are no calls of the list, show the book's file. The call that serves a list of points is a row
 -- of them: crate dispatch has it with records, where its contract is `serving`, which `ServeServed` is about; of the one with numbers c_served says it.
-use Rattle.std.specs.Prelude.{ℕ, ◌+◌, ◌*◌, ◌<◌, ◌≡◌, true, false, List, [], ◌∷◌, ◌++◌, map, length, get_or, drop}
+use Rattle.std.specs.Prelude.{Err, ℕ, ◌+◌, ◌*◌, ◌<◌, ◌≡◌, true, false, List, [], ◌∷◌, ◌++◌, map, length, get_or, drop}
 use Rattle.std.proofs.Math.Option.{none, some}
 use Rattle.words.specs.Edition.{Edition, block_bytes, file_blocks}
 use Rattle.words.specs.Memory.{memory}
 use Rattle.words.specs.Logic.{member}
-use Rattle.block_log.specs.declared.Reply.TheVariants.{Done, Refused}
+use Rattle.block_log.specs.declared.Refusal.{Refusal}
+use Rattle.block_log.specs.Refusals.{Done}
 use Rattle.block_log.specs.Replay.{mapped_byte}
 use Rattle.block_log.specs.Opening.{open_refusal, number_of, reply_of}
 use Rattle.block_log.specs.declared.Shared.{Shared}
@@ -133,4 +134,4 @@ ServeServed E words s points requests r =
     (r.reply ≡ reply_of (serve_refusal (point_numbers points) (length requests)))
     × (r.reply ≡ Done → (w : World) → w.words ≡ words → w.shared ≡ s → (ts : List Turn) → TurnsOf w words s ts points requests
     → let calls = row_calls E w ts in RowServed w (world E w calls) (events E w calls) ts r)
-    × ((n : ℕ) → r.reply ≡ Refused n → (r.common ≡ record { words = words; shared = s }) × (r.points ≡ points) × (r.lasts ≡ []))
+    × ((e : Refusal) → r.reply ≡ Err e → (r.common ≡ record { words = words; shared = s }) × (r.points ≡ points) × (r.lasts ≡ []))

@@ -26,7 +26,7 @@ use Rattle.block_log.specs.CatchUp as K
 use Rattle.block_log.specs.CatchUp.{ahead, broken}
 use Rattle.block_log.specs.Entry.{covers}
 use Rattle.block_log.specs.Replay.{Mapped, file_byte}
-use Rattle.block_log.specs.declared.Reply.TheVariants.{Done, Refused}
+use Rattle.block_log.specs.Refusals.{Done, Refused}
 use Rattle.block_log.proofs.Cover.{View, apply_all, Clear}
 use Rattle.block_log.proofs.Shown.{shown, byte-view}
 use Rattle.points.specs.declared.Point as PP

@@ -7,7 +7,7 @@ use mathlib.Core.Option.{Option, some}
 use lib.Dec.{eqb}
 use borrow.Author.Tests.{eq-eqb, ne_eqb}
 use Rattle.words.proofs.Choice.{choose-true, choose-false}
-use Rattle.block_log.specs.declared.Reply.{Reply}
+use Rattle.block_log.specs.Refusals.{Reply}
 use Rattle.points.specs.declared.Head.{Head}
 use Rattle.points.specs.declared.StepAnswer.{StepAnswer}
 use Rattle.points.specs.Serving.{Last, Listed, lasts_of, begun as last_begun, stepped as last_stepped}

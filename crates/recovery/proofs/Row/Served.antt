@@ -1,4 +1,5 @@
 -- The call that serves a list of points is the row of calls: its beginnings go together with those of the row, then its rounds (Row.Together).
+use Rattle.std.specs.Prelude.{Ok, Err}
 use Prim.Native.Nat.{ℕ, zero, suc}
 use native.Mathlib.Omega.{arith}
 use mathlib.Core.Path.{◌≡◌, refl, sym, ap, ap₂, ◌∙◌, subst}
@@ -15,8 +16,8 @@ use Rattle.words.specs.Logic.{between, ◌when◌}
 use Rattle.words.proofs.Tests.{no_true, passes}
 use Rattle.words.proofs.Choice.{chosen-zero, chosen-suc}
 use Rattle.block_log.specs.declared.Shared.{Shared}
-use Rattle.block_log.specs.declared.Reply.{Reply}
-use Rattle.block_log.specs.declared.Reply.TheVariants.{Done, Refused}
+use Rattle.block_log.specs.Refusals.{Reply}
+use Rattle.block_log.specs.Refusals.{Done, Refused}
 use Rattle.block_log.specs.Opening.{reply_of}
 use Rattle.points.specs.declared.Begun.{Begun}
 use Rattle.points.specs.declared.Point.{Point}
@@ -80,8 +81,8 @@ module _ (E : Edition) where
       let i : v.words ≡ c.words = ap (λ (y : Common). y.words) e in let s : v.shared ≡ c.shared = ap (λ (y : Common). y.shared) e in rw (h, i, s)
 
   same-reply : (r : Reply) → reply_goes_on r ≡ is_unfinished (answered r)
-  same-reply Done = refl
-  same-reply (Refused n) = refl
+  same-reply (Ok tt) = refl
+  same-reply (Err e) = refl
 
   -- one whose write is begun is joined
   begun-joined : (words : List ℕ) (s : Shared) (p : Point) (o : ℕ) (text : List ℕ) → reply_goes_on (beginning E words s p o text).reply ≡ true

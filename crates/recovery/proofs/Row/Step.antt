@@ -24,6 +24,7 @@ use Rattle.points.specs.Search.{search}
 use Rattle.points.specs.Plan.{Outcome}
 use Rattle.points.specs.Serving.{step_goes_on}
 use Rattle.points.specs.Stepping.{stepping, refill, refill_after}
+use Rattle.points.proofs.Replies.{ends-number}
 use Rattle.points.proofs.CarriedOut.{after_fill, after_commit, after_give_up, after_extend, after_link, after_give_back, after_zero, after_move}
 use Rattle.recovery.specs.World.{World}
 use Rattle.recovery.specs.Book.{Book}
@@ -276,6 +277,6 @@ module _ {E : Edition} {L : List ℕ} (w : World) (bk : Book) (h : Tied E L w bk
     loses = lost-fair;
     commits = λ z filled l e. ends refl refl (inr (commit-grown w bk h n j busy_phase filled z l e));
     extends = extend-fair;
-    gives_up = λ k e. ends e refl (inl (unstored-still w bk h n j busy_phase (after_give_up E m s p k) refl refl));
+    gives_up = λ k e. ends (rw (ends-number k e) e) refl (inl (unstored-still w bk h n j busy_phase (after_give_up E m s p k) refl refl));
     moves = λ z e f. moved-fair z (not_at e f);
   })
