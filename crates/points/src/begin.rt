@@ -45,7 +45,7 @@ fn settle(
     }
     let write = head.write;
     let phase = write.phase;
-    if !crate::record::is_idle(phase) {
+    if !phase.is_idle() {
         return refused(crate::WRONG_PHASE);
     }
     if crate::record::bad_text(size) {
@@ -102,9 +102,7 @@ fn put_text(kept: &mut [u8; 1024], text: &[u8])
     ensures { kept.new ≡ text_of text.now }
 {
     *kept = crate::record::no_text();
-    for i in 0..text.len() {
-        kept[i] = text[i];
-    }
+    kept[..text.len()].copy_from_slice(text);
 }
 
 // The write as it begins.
