@@ -1,6 +1,6 @@
 -- Rounds by rows: what the rows leave of the image is what rounds of steps leave, and each point whose write goes on is so many words on.
 use mathlib.Core.Path.{◌≡◌, refl, sym, ap, ◌∙◌, subst}
-use mathlib.Core.Logic.{◌≢◌, inl, inr}
+use mathlib.Core.Logic.{inl, inr}
 use mathlib.Core.Bool.{Bool, true, false}
 use mathlib.Core.List.{List, [], ◌∷◌}
 use Prim.Native.Nat.{ℕ, zero, suc, ◌+◌, ◌*◌, ◌-◌, ◌/◌, ◌≤◌, ◌<◌}
@@ -16,6 +16,8 @@ use Rattle.words.proofs.Choice.{choose-true, choose-false}
 use Rattle.points.specs.declared.Phase.TheVariants.{Zeroing}
 use Rattle.points.specs.declared.Point.{Point}
 use Rattle.points.specs.declared.serve.Row.{Row}
+use Rattle.points.specs.declared.serve.Due.{Due}
+use Rattle.std.specs.Prelude.{Option, Some, None}
 use Rattle.points.specs.Record.{is_zeroing, run_first, run_words}
 use Rattle.points.specs.Serving.{rounds}
 use Rattle.points.specs.Batch.{row_of, row_stored, round_stored, rounds_stored, RowHolds, RowsFit}
@@ -24,7 +26,7 @@ use Rattle.points.proofs.Ready.{Ready, tests, ready-run, ready-zeroing, ready-te
 use Rattle.points.proofs.Rows.{few_words, in_row, stored-off, stored-filled, stored-zero}
 use Rattle.c_lent.specs.Numbers.{SharedLent, PointLent, shared_in, lend_point}
 use Rattle.c_lent.specs.Serving.{CommonLent, ListedLent, common_lent, listed_lent, point_as, turn_left, listed, listed_at, kind_goes_on, step_turn_for}
-use Rattle.c_lent.specs.Batch.{ReadyAt, AllReady, PlainAt, Plain, row_from, RowFor, RowOn, RowIs, one_on, words_on, NextWords, StoresNext, Lengths}
+use Rattle.c_lent.specs.Batch.{ReadyAt, AllReady, PlainAt, Plain, RowFor, RowOn, RowIs, one_on, words_on, NextWords, StoresNext, Lengths}
 use Rattle.c_lent.proofs.Places.{same-list}
 use Rattle.c_lent.proofs.Turns.{rounds-next, rounds-over}
 use Rattle.c_lent.proofs.ReadyAt.{is-ready}
@@ -38,36 +40,35 @@ abbrev pub Goes : ListedLent → Type 0
 Goes x = kind_goes_on (get_or x.answer 0 0) ≡ true
 
 -- by the row go the point's next m words, the first of which is word r after the row's
-pub record Follows (r m : ℕ) (row : List ℕ) (x : ListedLent) : Type 0 where
+pub record Follows (r m : ℕ) (row : Due) (x : ListedLent) : Type 0 where
   pub words : NextWords m row x
-  pub on : get_or row 5 0 ≢ 0
-  pub next : get_or x.point.head 8 0 ≡ get_or row 4 0 + r
+  pub next : get_or x.point.head 8 0 ≡ row.next + r
   pub zeroes :
       get_or x.point.head 7 0 ≡ 5
-      → (get_or row 0 0 ≡ get_or x.point.head 9 0) × (get_or row 1 0 ≡ 0) × (get_or row 2 0 ≡ 4096) × (get_or row 3 0 ≡ 4096)
+      → (row.row.run ≡ get_or x.point.head 9 0) × (row.row.from ≡ 0) × (row.row.lead ≡ 4096) × (row.row.end ≡ 4096)
 
--- where its write goes on; otherwise the row stores nothing
-pub record Served (r m : ℕ) (row text : List ℕ) (x : ListedLent) : Type 0 where
-  pub on : Goes x → Follows r m row x
-  pub off : kind_goes_on (get_or x.answer 0 0) ≡ false → get_or row 5 0 ≡ 0
+-- where its write goes on; otherwise there is no row
+pub record Served (r m : ℕ) (row : Option Due) (text : List ℕ) (x : ListedLent) : Type 0 where
+  pub on : Goes x → (d : Due) × (row ≡ Some d) × Follows r m d x
+  pub off : kind_goes_on (get_or x.answer 0 0) ≡ false → row ≡ None
   pub same : x.point.text ≡ text
 
-stores : {c : CommonLent} {x : ListedLent} → ReadyAt c x → Goes x → (r m : ℕ) (row : List ℕ) → 0 < m → Follows r m row x
+stores : {c : CommonLent} {x : ListedLent} → ReadyAt c x → Goes x → (r m : ℕ) (row : Due) (some : Option Due) → some ≡ Some row → 0 < m → Follows r m row x
     → StoresNext c.image row (get_or x.point.head 7 0) (get_or x.point.head 9 0) (get_or x.point.head 8 0) x.point.text
-    (row_stored r row x.point.text c.image)
-stores {c} {x} d g r m row l w =
+    (row_stored r some x.point.text c.image)
+stores {c} {x} d g r m row some on l w =
     let k = get_or x.point.head 8 0 in
     let small = next_small d g (next_one m row x l w.words) in
     record {
       zeroed = λ e.
           let z = w.zeroes e in
-          stored-zero r k row x.point.text c.image w.on w.next z.1 (omega (arith, z.2, small))
+          stored-zero r k row some x.point.text c.image on w.next z.1 (omega (arith, z.2, small))
           ∙ ap (λ (b : ℕ). put one c.image (record { block = b; word = k; value = 0 })) z.0;
-      filled = λ e h table p. stored-filled r k row x.point.text c.image h table w.on w.next p;
+      filled = λ e h table p. stored-filled r k row some x.point.text c.image h table on w.next p;
     }
 
 -- what the row leaves is what the point's turn leaves
-turned : {c : CommonLent} {x : ListedLent} (r m : ℕ) (row text : List ℕ) → 0 < m → Served r m row text x → (Goes x → ReadyAt c x)
+turned : {c : CommonLent} {x : ListedLent} (r m : ℕ) (row : Option Due) (text : List ℕ) → 0 < m → Served r m row text x → (Goes x → ReadyAt c x)
     → turn_left (common_lent (row_stored r row text c.image) c.shared) (one_on x) ≡ step_turn_for c x
 turned {c} {x} r m row text l s d = go (kind_goes_on (get_or x.answer 0 0)) refl
   where
@@ -76,7 +77,7 @@ turned {c} {x} r m row text l s d = go (kind_goes_on (get_or x.answer 0 0)) refl
     go true g =
         let w = s.on g in
         ap (λ (t : List ℕ). turn_left (common_lent (row_stored r row t c.image) c.shared) (one_on x)) (sym s.same)
-        ∙ plain-turned (d g) g (next_one m row x l w.words) _ (stores (d g) g r m row l w)
+        ∙ plain-turned (d g) g (next_one m w.0 x l w.2.words) _ (stores (d g) g r m w.0 row w.1 l w.2)
     go false g =
         ap (λ (i : List ℕ). turn_left (common_lent i c.shared) (one_on x)) (stored-off r row text c.image (s.off g))
         ∙ plain-none c.image c.shared x g
@@ -97,44 +98,43 @@ text_same x = go (kind_goes_on (get_or x.answer 0 0)) refl
     go true g = ap (λ (y : ListedLent). y.point.text) (one_on_lem x.point x.answer g)
     go false g = ap (λ (y : ListedLent). y.point.text) (none-on x g)
 
-follows-own : (r m : ℕ) (row a : List ℕ) (p : Point) → kind_goes_on (get_or a 0 0) ≡ true → NextWords (m - 1) row (one_on (listed_lent (lend_point p) a))
+follows-own : (r m : ℕ) (row : Due) (a : List ℕ) (p : Point) → kind_goes_on (get_or a 0 0) ≡ true → NextWords (m - 1) row (one_on (listed_lent (lend_point p) a))
     → Follows r m row (listed_lent (lend_point p) a) → Follows (r + 1) (m - 1) row (one_on (listed_lent (lend_point p) a))
 follows-own r m row a p g fewer w =
     let e = one_on_lem (lend_point p) a g in
-    let k : p.head.write.position ≡ get_or row 4 0 + r = w.next in
-    let n : p.head.write.position + 1 ≡ get_or row 4 0 + (r + 1) = omega (arith, k) in
+    let k : p.head.write.position ≡ row.next + r = w.next in
+    let n : p.head.write.position + 1 ≡ row.next + (r + 1) = omega (arith, k) in
     record {
       words = fewer;
-      on = w.on;
       next = ap (λ (x : ListedLent). get_or x.point.head 8 0) e ∙ n;
       zeroes = λ q.
           let z = w.zeroes (sym (ap (λ (x : ListedLent). get_or x.point.head 7 0) e) ∙ q) in
           (z.0 ∙ sym (ap (λ (x : ListedLent). get_or x.point.head 9 0) e), z.1, z.2, z.3);
     }
 
-follows_next : {c : CommonLent} {x : ListedLent} → ReadyAt c x → (r m : ℕ) (row : List ℕ) → 0 < m → Goes x → Follows r m row x
+follows_next : {c : CommonLent} {x : ListedLent} → ReadyAt c x → (r m : ℕ) (row : Due) → 0 < m → Goes x → Follows r m row x
     → Follows (r + 1) (m - 1) row (one_on x)
 follows_next {c} {x} d r m row l g w =
     subst (λ (y : PointLent). NextWords (m - 1) row (one_on (listed_lent y x.answer)) → Follows r m row (listed_lent y x.answer)
     → Follows (r + 1) (m - 1) row (one_on (listed_lent y x.answer))) (sym d.is)
     (follows-own r m row x.answer d.point g) (next-fewer d m row l g w.words) w
 
-served-next : {c : CommonLent} {x : ListedLent} (r m : ℕ) (row text : List ℕ) → 0 < m → Served r m row text x → (Goes x → ReadyAt c x)
+served-next : {c : CommonLent} {x : ListedLent} (r m : ℕ) (row : Option Due) (text : List ℕ) → 0 < m → Served r m row text x → (Goes x → ReadyAt c x)
     → Served (r + 1) (m - 1) row text (one_on x)
 served-next {c} {x} r m row text l s d =
     record {
-      on = λ g. let g' = sym (goes_same x) ∙ g in follows_next (d g') r m row l g' (s.on g');
+      on = λ g. let g' = sym (goes_same x) ∙ g in let w = s.on g' in (w.0, w.1, follows_next (d g') r m w.0 l g' w.2);
       off = λ g. s.off (sym (goes_same x) ∙ g);
       same = text_same x ∙ s.same;
     }
 
 -- ---- before the first
 
-pub follows-start : {c : CommonLent} {x : ListedLent} → ReadyAt c x → (m : ℕ) (row : List ℕ) → Plain m x → RowOn row x.point.head x.point.table
+pub follows-start : {c : CommonLent} {x : ListedLent} → ReadyAt c x → (m : ℕ) (row : Due) → Plain m x → RowOn row x.point.head x.point.table
     → Follows 0 m row x
 follows-start {c} {x} d m row p o =
     let n = o.next in
-    record { words = record { plain = p; row_is = go p }; on = o.on; next = omega (arith, n); zeroes = o.zeroes }
+    record { words = record { plain = p; row_is = go p }; next = omega (arith, n); zeroes = o.zeroes }
   where
     go : Plain m x → RowFor m row x
     go (inl f) = row_made d m row (inl f) (o.fills (λ q. absurd (omega (arith, f.0, q))))
@@ -142,28 +142,28 @@ follows-start {c} {x} d m row p o =
 
 -- ---- the rows fit
 
-holds-own : (words : List ℕ) (s : SharedLent) (p : Point) (a row : List ℕ) (m : ℕ) → Ready one words (shared_in s) p → 0 < m
+holds-own : (words : List ℕ) (s : SharedLent) (p : Point) (a : List ℕ) (row : Due) (m : ℕ) → Ready one words (shared_in s) p → 0 < m
     → Follows 0 m row (listed_lent (lend_point p) a)
-    → RowHolds (length words) (get_or row 0 0) (get_or row 1 0) (get_or row 2 0) (get_or row 3 0) (get_or row 4 0) m
+    → RowHolds (length words) row m
 holds-own words s p a row m r l w = go w.words.plain
   where
-    next : p.head.write.position ≡ get_or row 4 0
-    next = let n : p.head.write.position ≡ get_or row 4 0 + 0 = w.next in omega (arith, n)
+    next : p.head.write.position ≡ row.next
+    next = let n : p.head.write.position ≡ row.next + 0 = w.next in omega (arith, n)
 
     size : 64 * (shared_in s).blocks ≡ length words
     size = (tests r).shared.whole
 
     go : Plain m (listed_lent (lend_point p) a)
-        → RowHolds (length words) (get_or row 0 0) (get_or row 1 0) (get_or row 2 0) (get_or row 3 0) (get_or row 4 0) m
+        → RowHolds (length words) row m
     go (inl f) =
         let t = tests r in
         let far : p.head.write.position + m ≤ run_words one p.head.write = f.2 in
         let zero' : p.head.write.position + 0 ≡ p.head.write.position = omega arith in
-        let is : row_from row ≡ row_of one p.head p.table p.head.write.position = rw zero' at (w.words.row_is f.0 0 l) in
-        let inside = in_row (row_from row) p.head p.table p.head.write.position (is, (ready-text r, omega (arith, far))) in
-        let to : get_or row 0 0 ≡ p.head.write.run = ap (λ (x : Row). x.run) is in
+        let is : row.row ≡ row_of one p.head p.table p.head.write.position = rw zero' at (w.words.row_is f.0 0 l) in
+        let inside = in_row row.row p.head p.table p.head.write.position (is, (ready-text r, omega (arith, far))) in
+        let to : row.row.run ≡ p.head.write.run = ap (λ (x : Row). x.run) is in
         let v = run_first one p.head.write + p.head.write.position / one.block_words in
-        let from : get_or row 1 0 ≡ get_or p.table v 0 = ap (λ (x : Row). x.from) is in
+        let from : row.row.from ≡ get_or p.table v 0 = ap (λ (x : Row). x.from) is in
         let some : 4 ≤ (shared_in s).blocks = t.shared.some-blocks in
         let below : get_or p.table v 0 < (shared_in s).blocks = table-inside (shared_in s).blocks p.table (omega (arith, some)) t.file.table v in
         let run : p.head.write.run ≤ (shared_in s).blocks = omega (arith, (ready-run r).run_inside) in
@@ -172,16 +172,16 @@ holds-own words s p a row m r l w = go w.words.plain
         let ph : p.head.write.phase ≡ Zeroing = phase-is _ 5 z.0 in
         let near : p.head.write.position + m ≤ 64 = z.1 in
         let zr = w.zeroes z.0 in
-        let to : get_or row 0 0 ≡ p.head.write.zeroing = zr.0 in
+        let to : row.row.run ≡ p.head.write.zeroing = zr.0 in
         let some : 4 ≤ (shared_in s).blocks = (tests r).shared.some-blocks in
         let zeroing : p.head.write.zeroing < (shared_in s).blocks = (ready-zeroing r (ap is_zeroing ph)).zeroing-inside in
         (omega (arith, zr.2, zr.3), omega (arith, next, near), omega (arith, to, zeroing, size), omega (arith, zr.1, some, size))
 
-pub row-holds : {c : CommonLent} {x : ListedLent} → ReadyAt c x → (m : ℕ) (row : List ℕ) → 0 < m → Follows 0 m row x
-    → RowHolds (length c.image) (get_or row 0 0) (get_or row 1 0) (get_or row 2 0) (get_or row 3 0) (get_or row 4 0) m
+pub row-holds : {c : CommonLent} {x : ListedLent} → ReadyAt c x → (m : ℕ) (row : Due) → 0 < m → Follows 0 m row x
+    → RowHolds (length c.image) row m
 row-holds {c} {x} d m row l =
     subst (λ (y : PointLent). Follows 0 m row (listed_lent y x.answer)
-    → RowHolds (length c.image) (get_or row 0 0) (get_or row 1 0) (get_or row 2 0) (get_or row 3 0) (get_or row 4 0) m) (sym d.is)
+    → RowHolds (length c.image) row m) (sym d.is)
     (holds-own c.image c.shared d.point x.answer row m (is-ready d) l)
 
 -- ---- all of them
@@ -196,10 +196,10 @@ abbrev pub on_by : ℕ → ListedLent → ListedLent
 on_by zero x = x
 on_by (suc r) x = one_on (on_by r x)
 
-abbrev pub AllServed : ℕ → ℕ → List (List ℕ) → List (List ℕ) → ℕ → (ℕ → ListedLent) → Type 0
-AllServed r m rows texts n f = (i : ℕ) → i < n → Served r m (get_or rows i []) (get_or texts i []) (f i)
+abbrev pub AllServed : ℕ → ℕ → List (Option Due) → List (List ℕ) → ℕ → (ℕ → ListedLent) → Type 0
+AllServed r m rows texts n f = (i : ℕ) → i < n → Served r m (get_or rows i None) (get_or texts i []) (f i)
 
-module _ (s : SharedLent) (rows texts : List (List ℕ)) (n : ℕ) where
+module _ (s : SharedLent) (rows : List (Option Due)) (texts : List (List ℕ)) (n : ℕ) where
   round-passed : (words : List ℕ) (r m : ℕ) (f : ℕ → ListedLent) → 0 < m → AllReady (common_lent words s) n f → AllServed r m rows texts n f → (i : ℕ) → i ≤ n
       → Passed (common_lent words s) f n i (common_lent (round_stored r i rows texts words) s) (up_to i f)
   unfolding round_stored
@@ -207,12 +207,12 @@ module _ (s : SharedLent) (rows texts : List (List ℕ)) (n : ℕ) where
   round-passed words r m f some ready served (suc i) l =
       let p = round-passed words r m f some ready served i (omega arith) in
       let same : up_to i f i ≡ f i = p.later i (omega arith) in
-      let sv = subst (Served r m (get_or rows i []) (get_or texts i [])) (sym same) (served i (omega arith)) in
-      let c' = common_lent (row_stored r (get_or rows i []) (get_or texts i []) (round_stored r i rows texts words)) s in
+      let sv = subst (Served r m (get_or rows i None) (get_or texts i [])) (sym same) (served i (omega arith)) in
+      let c' = common_lent (row_stored r (get_or rows i None) (get_or texts i []) (round_stored r i rows texts words)) s in
       let up : i + 1 ≡ suc i = omega arith in
       subst (λ (k : ℕ). Passed (common_lent words s) f n k c' (up_to (suc i) f)) up
       (passed-next p (omega arith) c' (up_to (suc i) f)
-      (turned r m (get_or rows i []) (get_or texts i []) some sv (λ g. p.ready i (omega arith) g))
+      (turned r m (get_or rows i None) (get_or texts i []) some sv (λ g. p.ready i (omega arith) g))
       (choose-true (eqb i i) _ _ (eq-eqb i i refl) ∙ ap one_on (sym same))
       (λ j d. choose-false (eqb j i) _ _ (ne_eqb j i d)))
 
@@ -236,7 +236,7 @@ module _ (s : SharedLent) (rows texts : List (List ℕ)) (n : ℕ) where
         record {
           reached = ap (λ (k : ℕ). rounds k step_turn_for (common_lent words s) (list_from 0 n f)) (sym e);
           all-ready = ready;
-          all-served = λ i k. subst (λ (j : ℕ). Served 0 j (get_or rows i []) (get_or texts i []) (f i)) (sym e) (served i k);
+          all-served = λ i k. subst (λ (j : ℕ). Served 0 j (get_or rows i None) (get_or texts i []) (f i)) (sym e) (served i k);
         }
     gone (suc r) l =
         let p = gone r (omega arith) in
@@ -253,9 +253,9 @@ module _ (s : SharedLent) (rows texts : List (List ℕ)) (n : ℕ) where
               ∙ ap (λ (k : ℕ). rounds k step_turn_for (left (suc r)) (list_from 0 n (on (suc r)))) fewer;
           all-ready = λ j k g. subst (ReadyAt (left (suc r))) (e.1 j k)
               (e.2 j k (subst Goes (sym (e.1 j k)) g));
-          all-served = λ j k. subst (λ (i : ℕ). Served i (m - suc r) (get_or rows j []) (get_or texts j []) (on (suc r) j)) up
-              (subst (λ (i : ℕ). Served (r + 1) i (get_or rows j []) (get_or texts j []) (on (suc r) j)) fewer
-              (served-next {c = left r} r (m - r) (get_or rows j []) (get_or texts j []) some (p.all-served j k) (λ g. p.all-ready j k g)));
+          all-served = λ j k. subst (λ (i : ℕ). Served i (m - suc r) (get_or rows j None) (get_or texts j []) (on (suc r) j)) up
+              (subst (λ (i : ℕ). Served (r + 1) i (get_or rows j None) (get_or texts j []) (on (suc r) j)) fewer
+              (served-next {c = left r} r (m - r) (get_or rows j None) (get_or texts j []) some (p.all-served j k) (λ g. p.all-ready j k g)));
         }
 
 -- ---- where a point is then
@@ -325,38 +325,39 @@ are-next m heads₀ answers₀ heads answers h a i lh la p e =
 
 -- ---- a batch
 
-module _ (words : List ℕ) (s : SharedLent) (rows heads tables texts answers : List (List ℕ)) (m : ℕ)
+module _ (words : List ℕ) (s : SharedLent) (rows : List (Option Due)) (heads tables texts answers : List (List ℕ)) (m : ℕ)
     (lengths : Lengths (length heads) heads tables texts answers) (some : 0 < m)
     (ready : AllReady (common_lent words s) (length heads) (listed_at heads tables texts answers))
     (plain : (i : ℕ) → i < length heads → GoesAt answers i → PlainAt m (get_or heads i []))
-    (is : (i : ℕ) → i < length heads → RowIs (get_or (get_or answers i []) 0 0) (get_or rows i []) (get_or heads i []) (get_or tables i [])) where
+    (is : (i : ℕ) → i < length heads → RowIs (get_or (get_or answers i []) 0 0) (get_or rows i None) (get_or heads i []) (get_or tables i [])) where
   abbrev f : ℕ → ListedLent
   f = listed_at heads tables texts answers
 
   all-served : AllServed 0 m rows texts (length heads) f
   all-served i l =
       record {
-        on = λ g. follows-start (ready i l g) m (get_or rows i []) (plain i l g) ((is i l).on g);
+        on = λ g. let w = (is i l).on g in (w.0, w.1, follows-start (ready i l g) m w.0 (plain i l g) w.2);
         off = (is i l).off;
         same = refl;
       }
 
-  holds : (i : ℕ) (l : i < length heads) → GoesAt answers i
-      → RowHolds (length words) (get_or (get_or rows i []) 0 0) (get_or (get_or rows i []) 1 0) (get_or (get_or rows i []) 2 0) (get_or (get_or rows i []) 3 0)
-      (get_or (get_or rows i []) 4 0) m
-  holds i l g = row-holds (ready i l g) m (get_or rows i []) some ((all-served i l).on g)
+  holds : (i : ℕ) (l : i < length heads) (g : GoesAt answers i) → RowHolds (length words) ((is i l).on g).0 m
+  unfolding all-served
+  holds i l g = row-holds (ready i l g) m ((is i l).on g).0 some ((all-served i l).on g).2
 
   pub rows_fit : length heads ≤ length rows → RowsFit (length words) m rows texts
-  rows_fit enough = (omega (arith, lengths.2), λ i l on. go i (omega (arith, lengths.2)) on (kind_goes_on (get_or (get_or answers i []) 0 0)) refl)
+  rows_fit enough = (omega (arith, lengths.2), λ i l d e. go i (omega (arith, lengths.2)) d e (kind_goes_on (get_or (get_or answers i []) 0 0)) refl)
     where
-      go : (i : ℕ) → i < length heads → get_or (get_or rows i []) 5 0 ≢ 0 → (b : Bool) → kind_goes_on (get_or (get_or answers i []) 0 0) ≡ b
-          → RowHolds (length words) (get_or (get_or rows i []) 0 0) (get_or (get_or rows i []) 1 0) (get_or (get_or rows i []) 2 0) (get_or (get_or rows i []) 3 0)
-          (get_or (get_or rows i []) 4 0) m
-      go i l on true g = holds i l g
-      go i l on false g = absurd (on ((is i l).off g))
+      go : (i : ℕ) → i < length heads → (d : Due) → get_or rows i None ≡ Some d → (b : Bool) → kind_goes_on (get_or (get_or answers i []) 0 0) ≡ b
+          → RowHolds (length words) d m
+      go i l d e true g =
+          let w = (is i l).on g in
+          let same : w.0 ≡ d = cc (w.1, e) in
+          subst (λ (k : Due). RowHolds (length words) k m) same (holds i l g)
+      go i l d e false g = let off = (is i l).off g in cc (off, e)
 
   pub words-few : (i : ℕ) → i < length heads → GoesAt answers i → get_or (get_or heads i []) 8 0 + m ≤ 192
-  words-few i l g = let n = ((is i l).on g).next in omega (arith, n, (holds i l g).1)
+  words-few i l g = let n = ((is i l).on g).2.next in omega (arith, n, (holds i l g).1)
 
   pub rounds-made : (left : List ℕ) (heads' answers' : List (List ℕ)) → length heads' ≡ length heads
       → left ≡ rounds_stored m (length texts) rows texts words

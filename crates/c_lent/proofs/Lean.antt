@@ -10,8 +10,7 @@ use Rattle.words.specs.Memory.{after}
 use Rattle.words.proofs.Tests.{no_true}
 use Rattle.points.specs.declared.Head.{Head}
 use Rattle.points.specs.declared.Point.{Point}
-use Rattle.points.specs.declared.serve.MovedByOne.{MovedByOne}
-use Rattle.points.specs.declared.serve.CommittedByHead.{CommittedByHead}
+use Rattle.std.specs.Prelude.{Option, Some, None}
 use Rattle.points.specs.Record.{point_of}
 use Rattle.points.specs.Plan.{Outcome}
 use Rattle.points.specs.Search.{reporting_place}
@@ -69,49 +68,49 @@ module _ {words : List ℕ} {s : SharedLent} {p : PointLent} (r : Steps words s 
 
 -- ---- the ways out of the code
 
-module _ {words numbers head table : List ℕ} {h : Head} (eh : h ≡ head_from head) {blocks : ℕ} (eb : blocks ≡ get_or numbers 0 0) {r : MovedByOne} {table' : List ℕ}
+module _ {words numbers head table : List ℕ} {h : Head} (eh : h ≡ head_from head) {blocks : ℕ} (eb : blocks ≡ get_or numbers 0 0) {r : Option Head} {table' : List ℕ}
     (m : MovesByOne words blocks h table r table') where
   -- it has moved on
-  pub moves-done : r.done ≡ true → (numbers' head' : List ℕ) → ((taken : List ℕ) → numbers' ≡ shared_numbers (reporting_place r.head (shared_from numbers taken)))
-      → head' ≡ head_numbers r.head → MovesOn words numbers head table true numbers' head' table'
-  moves-done d numbers' head' en eh' =
+  pub moves-done : (left : Head) → r ≡ Some left → (numbers' head' : List ℕ) → ((taken : List ℕ) → numbers' ≡ shared_numbers (reporting_place left (shared_from numbers taken)))
+      → head' ≡ head_numbers left → MovesOn words numbers head table true numbers' head' table'
+  moves-done left d numbers' head' en eh' =
       record {
         moved = λ e taken text a steps g.
             let s = shared_from numbers taken in
             let free : step_refusal one words s h table ≡ 0 = rw eh (not_refused steps) in
-            let st : stepping one words s (point_of (head_from head) table text) ≡ passed_by s r.head table' text =
-            subst (λ (k : Head). stepping one words s (point_of k table text) ≡ passed_by s r.head table' text) eh (m.moved d s text (sym eb) free) in
-            rw eh' (moved-turn steps a g r.head table' numbers' st (en taken));
+            let st : stepping one words s (point_of (head_from head) table text) ≡ passed_by s left table' text =
+            subst (λ (k : Head). stepping one words s (point_of k table text) ≡ passed_by s left table' text) eh (m.moved left d s text (sym eb) free) in
+            rw eh' (moved-turn steps a g left table' numbers' st (en taken));
         stayed = λ e. absurd (no_true refl e);
       }
 
   -- it has not
-  pub moves_not : r.done ≡ false → MovesOn words numbers head table false numbers head table'
-  moves_not d = record { moved = λ e. absurd (no_true e refl); stayed = λ e. (refl, refl, (m.stayed d).1) }
+  pub moves_not : r ≡ None → MovesOn words numbers head table false numbers head table'
+  moves_not d = record { moved = λ e. absurd (no_true e refl); stayed = λ e. (refl, refl, m.stayed d) }
 
-module _ {words taken head table text : List ℕ} {h : Head} (eh : h ≡ head_from head) {r : CommittedByHead} {words' taken' table' text' : List ℕ}
+module _ {words taken head table text : List ℕ} {h : Head} (eh : h ≡ head_from head) {r : Option Head} {words' taken' table' text' : List ℕ}
     (k : CommitsByHead words taken h table text r words' taken' table' text') where
   -- it has committed
-  pub commits-done : r.done ≡ true → (head' : List ℕ) → head' ≡ head_numbers r.head
+  pub commits-done : (left : Head) → r ≡ Some left → (head' : List ℕ) → head' ≡ head_numbers left
       → CommitsOn words taken head table text true words' taken' head' table' text'
-  commits-done d head' eh' =
+  commits-done left d head' eh' =
       record {
         committed = λ e numbers a steps g.
             let s = shared_from numbers taken in
             let free : step_refusal one words s h table ≡ 0 = rw eh (not_refused steps) in
-            let st : stepping one words s (point_of (head_from head) table text) ≡ committed_by one s (head_from head) taken' r.head table' text' =
-            subst (λ (x : Head). stepping one words s (point_of x table text) ≡ committed_by one s x taken' r.head table' text') eh (k.committed d s refl free) in
+            let st : stepping one words s (point_of (head_from head) table text) ≡ committed_by one s (head_from head) taken' left table' text' =
+            subst (λ (x : Head). stepping one words s (point_of x table text) ≡ committed_by one s x taken' left table' text') eh (k.committed left d s refl free) in
             let w : words' ≡ after one words (some (entry_store one (head_from head))) =
-            subst (λ (x : Head). words' ≡ after one words (some (entry_store one x))) eh (k.stored d) in
-            rw eh' (committed-turn steps a g r.head words' taken' table' text' st w);
+            subst (λ (x : Head). words' ≡ after one words (some (entry_store one x))) eh (k.stored left d) in
+            rw eh' (committed-turn steps a g left words' taken' table' text' st w);
         stayed = λ e. absurd (no_true refl e);
       }
 
   -- it has not
-  pub commits-not : r.done ≡ false → CommitsOn words taken head table text false words' taken' head table' text'
+  pub commits-not : r ≡ None → CommitsOn words taken head table text false words' taken' head table' text'
   commits-not d =
       let e = k.stayed d in
-      record { committed = λ t. absurd (no_true t refl); stayed = λ t. (e.1, e.2, refl, e.3, e.4) }
+      record { committed = λ t. absurd (no_true t refl); stayed = λ t. (e.0, e.1, refl, e.2, e.3) }
 
 -- one after the other: what has not moved on may commit, what has not committed makes a whole step
 module _ {words numbers taken head table text : List ℕ} (steps : Steps words (shared_as numbers taken) (point_as head table text)) (a : List ℕ)

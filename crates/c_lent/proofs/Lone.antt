@@ -74,7 +74,7 @@ module _ {m : ℕ} {words : List ℕ} {s : SharedLent} {p : Point} (l : Lone (su
   lone-turn a g =
       ready-turn (lone-ready l a) g ∙ ap (outcome_turn words) (fill-turn l.ready l.filling some_left)
       ∙ ap (λ (t : SharedLent). turn_left (common_lent stored t) (listed_lent (lend_point next) (1 ∷ 0 ∷ [])))
-      (shared_same words s p a [] words l.numbers l.ready g)
+      (shared_same s p l.numbers)
 
 -- its next m words
 pub lone-rounds : (m : ℕ) {words : List ℕ} {s : SharedLent} {p : Point} (a : List ℕ) → kind_goes_on (get_or a 0 0) ≡ true → Lone m words s p

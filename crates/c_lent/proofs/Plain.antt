@@ -13,6 +13,7 @@ use Rattle.words.proofs.Choice.{choose-true, choose-false}
 use Rattle.points.specs.declared.Phase.{Phase}
 use Rattle.points.specs.declared.Phase.TheVariants.{Filling, Zeroing}
 use Rattle.points.specs.declared.Point.{Point}
+use Rattle.points.specs.declared.serve.Due.{Due}
 use Rattle.points.specs.Record.{phase_number, phase_of, run_words}
 use Rattle.points.specs.Stepping.{stepping}
 use Rattle.points.specs.Batch.{filled_at, row_of}
@@ -22,7 +23,7 @@ use Rattle.points.proofs.Turns.{fill-turn, zero_turn}
 use Rattle.points.proofs.Rows.{few_words}
 use Rattle.c_lent.specs.Numbers.{SharedLent, PointLent, shared_in, lend_shared, lend_point, shared_as}
 use Rattle.c_lent.specs.Serving.{CommonLent, ListedLent, common_lent, listed_lent, point_as, turn_left, kind_goes_on, step_turn_for}
-use Rattle.c_lent.specs.Batch.{ReadyAt, Plain, one_on, row_from, NextWords, StoresNext}
+use Rattle.c_lent.specs.Batch.{ReadyAt, Plain, one_on, NextWords, StoresNext}
 use Rattle.c_lent.proofs.Heads.{phase-back}
 use Rattle.c_lent.proofs.Shared.{numbers-same}
 use Rattle.c_lent.proofs.Turns.{turn-off}
@@ -44,13 +45,13 @@ phase-is p n e = sym (phase-back p) ∙ ap phase_of e
 
 -- ---- a record's own turn
 
-module _ (words : List ℕ) (s : SharedLent) (p : Point) (a row left : List ℕ) (long : 3 ≤ length s.numbers) (r : Ready one words (shared_in s) p)
+pub shared_same : (s : SharedLent) (p : Point) → 3 ≤ length s.numbers → lend_shared (shared_in s) ≡ s
+shared_same s p long = ap (λ (n : List ℕ). shared_as n s.taken) (sym (numbers-same s.taken p.head s.numbers long))
+
+module _ (words : List ℕ) (s : SharedLent) (p : Point) (a : List ℕ) (row : Due) (left : List ℕ) (long : 3 ≤ length s.numbers) (r : Ready one words (shared_in s) p)
     (g : kind_goes_on (get_or a 0 0) ≡ true) where
   abbrev x : ListedLent
   x = listed_lent (lend_point p) a
-
-  pub shared_same : lend_shared (shared_in s) ≡ s
-  shared_same = ap (λ (n : List ℕ). shared_as n s.taken) (sym (numbers-same s.taken p.head s.numbers long))
 
   abbrev T : Type 0
   T = Turned CommonLent ListedLent
@@ -67,19 +68,19 @@ module _ (words : List ℕ) (s : SharedLent) (p : Point) (a row left : List ℕ)
           let ph : p.head.write.phase ≡ Filling = phase-is _ 1 f.0 in
           let few : k < run_words one p.head.write = omega (arith, f.2) in
           let zero' : k + 0 ≡ k = omega arith in
-          let row' : row_from row ≡ row_of one p.head p.table k = rw zero' at (w.row_is f.0 0 (omega arith)) in
+          let row' : row.row ≡ row_of one p.head p.table k = rw zero' at (w.row_is f.0 0 (omega arith)) in
           let l : left ≡ filled_at one p.head p.table p.text k words =
           st.filled (λ q. absurd (omega (arith, f.0, q))) p.head p.table (row', (ready-text r, few)) in
-          rw (one_on_lem (lend_point p) a g, fill-turn r ph few, shared_same, l, add-one)
+          rw (one_on_lem (lend_point p) a g, fill-turn r ph few, shared_same s p long, l, add-one)
       go (inr z) =
           let k = p.head.write.position in
           let ph : p.head.write.phase ≡ Zeroing = phase-is _ 5 z.0 in
           let few : k < one.block_words = omega (arith, z.1) in
-          rw (one_on_lem (lend_point p) a g, zero_turn r ph few, shared_same, st.zeroed z.0, ph, add-one)
+          rw (one_on_lem (lend_point p) a g, zero_turn r ph few, shared_same s p long, st.zeroed z.0, ph, add-one)
 
 -- ---- a listed point's
 
-module _ {c : CommonLent} {x : ListedLent} (r : ReadyAt c x) (g : kind_goes_on (get_or x.answer 0 0) ≡ true) {row : List ℕ} (w : NextWords 1 row x) where
+module _ {c : CommonLent} {x : ListedLent} (r : ReadyAt c x) (g : kind_goes_on (get_or x.answer 0 0) ≡ true) {row : Due} (w : NextWords 1 row x) where
   pub plain-turned : (left : List ℕ)
       → StoresNext c.image row (get_or x.point.head 7 0) (get_or x.point.head 9 0) (get_or x.point.head 8 0) x.point.text left
       → turn_left (common_lent left c.shared) (one_on x) ≡ step_turn_for c x

@@ -13,6 +13,7 @@ use Rattle.points.specs.declared.Point.{Point}
 use Rattle.points.specs.Serving.{Turned, in_turn}
 use Rattle.c_lent.specs.Numbers.{PointLent, lend_point}
 use Rattle.c_lent.specs.Serving.{CommonLent, ListedLent, listed_lent, point_as, turn_left, listed_at, kind_goes_on, step_turn_for}
+use Rattle.points.specs.declared.serve.Due.{Due}
 use Rattle.c_lent.specs.Batch.{ReadyAt, AllReady, Plain, one_on, NextWords, Lengths}
 use Rattle.c_lent.proofs.InTurn.{Reached, reached-start, reached-next, reached-end}
 use Rattle.c_lent.proofs.Turns.{listed_same, listed-other}
@@ -76,7 +77,7 @@ passed-end {c₀} {c} {f₀} {f} {n} {i} p l m =
 
 -- ---- more of them
 
-next-own : (m : ℕ) (row a : List ℕ) (p : Point) → 0 < m → kind_goes_on (get_or a 0 0) ≡ true → NextWords m row (listed_lent (lend_point p) a)
+next-own : (m : ℕ) (row : Due) (a : List ℕ) (p : Point) → 0 < m → kind_goes_on (get_or a 0 0) ≡ true → NextWords m row (listed_lent (lend_point p) a)
     → NextWords (m - 1) row (one_on (listed_lent (lend_point p) a))
 next-own m row a p l g w =
     let k = p.head.write.position in
@@ -94,13 +95,13 @@ next-own m row a p l g w =
     go (inr z) = let near = z.1 in inr (z.0, omega arith)
 
 -- one word fewer is left
-pub next-fewer : {c : CommonLent} {x : ListedLent} → ReadyAt c x → (m : ℕ) (row : List ℕ) → 0 < m → kind_goes_on (get_or x.answer 0 0) ≡ true
+pub next-fewer : {c : CommonLent} {x : ListedLent} → ReadyAt c x → (m : ℕ) (row : Due) → 0 < m → kind_goes_on (get_or x.answer 0 0) ≡ true
     → NextWords m row x → NextWords (m - 1) row (one_on x)
 next-fewer {c} {x} r m row l g =
     subst (λ (y : PointLent). NextWords m row (listed_lent y x.answer) → NextWords (m - 1) row (one_on (listed_lent y x.answer))) (sym r.is)
     (next-own m row x.answer r.point l g)
 
-pub next_one : (m : ℕ) (row : List ℕ) (x : ListedLent) → 0 < m → NextWords m row x → NextWords 1 row x
+pub next_one : (m : ℕ) (row : Due) (x : ListedLent) → 0 < m → NextWords m row x → NextWords 1 row x
 next_one m row x l w = record { plain = go w.plain; row_is = λ e j d. w.row_is e j (omega arith) }
   where
     go : Plain m x → Plain 1 x

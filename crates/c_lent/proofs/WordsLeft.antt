@@ -2,7 +2,7 @@
 use mathlib.Core.Path.{◌≡◌, refl, sym, ◌∙◌, subst}
 use mathlib.Core.Logic.{inl, inr}
 use mathlib.Core.Bool.{true}
-use mathlib.Core.List.{List, [], ◌∷◌}
+use mathlib.Core.List.{List, []}
 use Prim.Native.Nat.{ℕ, ◌+◌, ◌*◌, ◌-◌, ◌/◌, ◌%◌, ◌≤◌, ◌<◌}
 use native.Mathlib.Omega.{arith}
 use native.Mathlib.Decide.{ℕ_discrete}
@@ -11,6 +11,8 @@ use lib.Seq.{get_or-set_same, get_or-set_other}
 use Rattle.words.specs.Edition.{one}
 use Rattle.points.specs.declared.Head.{Head}
 use Rattle.points.specs.declared.serve.Row.{Row}
+use Rattle.points.specs.declared.serve.Due.{Due}
+use Rattle.std.specs.Prelude.{Option, None}
 use Rattle.points.specs.Record.{span}
 use Rattle.points.specs.Lent.{TextFits}
 use Rattle.points.specs.Batch.{row_of, Fillable}
@@ -54,34 +56,33 @@ words-next heads answers i least r before le here some j l g = go (ℕ_discrete 
 
 -- ---- rows
 
-row-numbers : (known : Head) (h table : List ℕ) (r : Row) → known ≡ head_from h
-    → (Fillable known (get_or h 8 0) → r ≡ row_of one known table (get_or h 8 0)) → RowAt (r.run ∷ r.from ∷ r.lead ∷ r.end ∷ get_or h 8 0 ∷ 1 ∷ []) h table
-row-numbers known h table r e f = subst (λ (x : Head). Fillable x (get_or h 8 0) → r ≡ row_of one x table (get_or h 8 0)) e f
-
-no_one : ◌≡◌ {A = ℕ} 1 0 → ⊥
-no_one q = omega (arith, q)
+row-numbers : (known : Head) (h table : List ℕ) (d : Due) → known ≡ head_from h
+    → (Fillable known (get_or h 8 0) → d.row ≡ row_of one known table (get_or h 8 0)) → RowAt d h table
+row-numbers known h table d e f = subst (λ (x : Head). Fillable x (get_or h 8 0) → d.row ≡ row_of one x table (get_or h 8 0)) e f
 
 -- that of a log block that is zeroed, and that of a run
-pub zero_row : (h table : List ℕ) → get_or h 7 0 ≡ 5 → RowOn (get_or h 9 0 ∷ 0 ∷ 4096 ∷ 4096 ∷ get_or h 8 0 ∷ 1 ∷ []) h table
-zero_row h table e = record { on = no_one; next = refl; zeroes = λ d. (refl, refl, refl, refl); fills = λ d. absurd (d e) }
+pub zero_row : (h table : List ℕ) → get_or h 7 0 ≡ 5
+    → RowOn (record { row = record { run = get_or h 9 0; from = 0; lead = 4096; end = 4096 }; next = get_or h 8 0 }) h table
+zero_row h table e = record { next = refl; zeroes = λ d. (refl, refl, refl, refl); fills = λ d. absurd (d e) }
 
 pub fill-row : (known : Head) (h table : List ℕ) (r : Row) → known ≡ head_from h
     → (Fillable known (get_or h 8 0) → r ≡ row_of one known table (get_or h 8 0)) → (get_or h 7 0 ≡ 5 → ⊥)
-    → RowOn (r.run ∷ r.from ∷ r.lead ∷ r.end ∷ get_or h 8 0 ∷ 1 ∷ []) h table
-fill-row known h table r e f other = record { on = no_one; next = refl; zeroes = λ d. absurd (other d); fills = λ d. row-numbers known h table r e f }
+    → RowOn (record { row = r; next = get_or h 8 0 }) h table
+fill-row known h table r e f other =
+    record { next = refl; zeroes = λ d. absurd (other d); fills = λ d. row-numbers known h table (record { row = r; next = get_or h 8 0 }) e f }
 
-pub rows-set : (heads tables answers rows : List (List ℕ)) (row : List ℕ) (i : ℕ) → i < length rows
-    → ((j : ℕ) → j < i → RowIs (get_or (get_or answers j []) 0 0) (get_or rows j []) (get_or heads j []) (get_or tables j []))
+pub rows-set : (heads tables answers : List (List ℕ)) (rows : List (Option Due)) (row : Option Due) (i : ℕ) → i < length rows
+    → ((j : ℕ) → j < i → RowIs (get_or (get_or answers j []) 0 0) (get_or rows j None) (get_or heads j []) (get_or tables j []))
     → RowIs (get_or (get_or answers i []) 0 0) row (get_or heads i []) (get_or tables i [])
-    → (j : ℕ) → j < i + 1 → RowIs (get_or (get_or answers j []) 0 0) (get_or (set rows i row) j []) (get_or heads j []) (get_or tables j [])
+    → (j : ℕ) → j < i + 1 → RowIs (get_or (get_or answers j []) 0 0) (get_or (set rows i row) j None) (get_or heads j []) (get_or tables j [])
 rows-set heads tables answers rows row i l before here j k = go (ℕ_discrete j i)
   where
-    go : Dec (j ≡ i) → RowIs (get_or (get_or answers j []) 0 0) (get_or (set rows i row) j []) (get_or heads j []) (get_or tables j [])
+    go : Dec (j ≡ i) → RowIs (get_or (get_or answers j []) 0 0) (get_or (set rows i row) j None) (get_or heads j []) (get_or tables j [])
     go (yes q) =
-        subst (λ (m : ℕ). RowIs (get_or (get_or answers m []) 0 0) (get_or (set rows i row) m []) (get_or heads m []) (get_or tables m [])) (sym q)
-        (subst (λ (x : List ℕ). RowIs (get_or (get_or answers i []) 0 0) x (get_or heads i []) (get_or tables i [])) (sym (get_or-set_same rows i row [] l)) here)
+        subst (λ (m : ℕ). RowIs (get_or (get_or answers m []) 0 0) (get_or (set rows i row) m None) (get_or heads m []) (get_or tables m [])) (sym q)
+        (subst (λ (x : Option Due). RowIs (get_or (get_or answers i []) 0 0) x (get_or heads i []) (get_or tables i [])) (sym (get_or-set_same rows i row None l)) here)
     go (no q) =
-        subst (λ (x : List ℕ). RowIs (get_or (get_or answers j []) 0 0) x (get_or heads j []) (get_or tables j [])) (sym (get_or-set_other rows i j row [] q))
+        subst (λ (x : Option Due). RowIs (get_or (get_or answers j []) 0 0) x (get_or heads j []) (get_or tables j [])) (sym (get_or-set_other rows i j row None q))
         (before j (omega arith))
 
 -- ---- what a batch asks for
@@ -91,7 +92,7 @@ text-fits : {c : CommonLent} {x : ListedLent} → ReadyAt c x → TextFits (head
 text-fits r = subst (λ (y : PointLent). TextFits (head_from y.head).write) (sym r.is) (ready-text (is-ready r))
 
 -- the row of the next word is that of all m
-pub row_made : {c : CommonLent} {x : ListedLent} → ReadyAt c x → (m : ℕ) (row : List ℕ) → Plain m x → RowAt row x.point.head x.point.table → RowFor m row x
+pub row_made : {c : CommonLent} {x : ListedLent} → ReadyAt c x → (m : ℕ) (row : Due) → Plain m x → RowAt row x.point.head x.point.table → RowFor m row x
 row_made {c} {x} r m row (inl f) at e j l =
     let h = x.point.head in
     let k = get_or h 8 0 in

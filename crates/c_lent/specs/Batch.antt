@@ -1,10 +1,10 @@
 -- For the contracts of the code that serves a list of points in batches: parts of contracts, nothing here is promised. `Serving` has what is.
-use Rattle.std.specs.Prelude.{ℕ, ◌+◌, ◌%◌, ◌≤◌, ◌<◌, ◌≡◌, ◌≢◌, ◌⊎◌, Bool, true, false, List, [], ◌∷◌, length, get_or, set}
+use Rattle.std.specs.Prelude.{ℕ, ◌+◌, ◌%◌, ◌≤◌, ◌<◌, ◌≡◌, ◌⊎◌, Bool, true, false, List, [], ◌∷◌, length, get_or, set, Option, Some, None}
 use Rattle.words.specs.Edition.{one}
 use Rattle.words.specs.Memory.{put}
 use Rattle.points.specs.declared.Head.{Head}
 use Rattle.points.specs.declared.Point.{Point}
-use Rattle.points.specs.declared.serve.Row.{Row}
+use Rattle.points.specs.declared.serve.Due.{Due}
 use Rattle.points.specs.Record.{is_reading, run_words}
 use Rattle.points.specs.Stepping.{step_refusal}
 use Rattle.points.specs.Batch.{row_of, Fillable, Prepared, filled_at}
@@ -80,44 +80,40 @@ one_on x =
       | false ↦ x
     ]
 
--- a row in numbers; that of the next m words of a point whose run is being filled
-abbrev pub row_from : List ℕ → Row
-row_from r = record { run = get_or r 0 0; from = get_or r 1 0; lead = get_or r 2 0; end = get_or r 3 0 }
-
-abbrev pub RowFor : ℕ → List ℕ → ListedLent → Type 0
+-- the row of the next m words of a point whose run is being filled
+abbrev pub RowFor : ℕ → Due → ListedLent → Type 0
 RowFor m r x =
     let h = x.point.head in
-    get_or h 7 0 ≡ 1 → (j : ℕ) → j < m → row_from r ≡ row_of one (head_from h) x.point.table (get_or h 8 0 + j)
+    get_or h 7 0 ≡ 1 → (j : ℕ) → j < m → r.row ≡ row_of one (head_from h) x.point.table (get_or h 8 0 + j)
 
 -- that of the next word alone, where there is one
-abbrev pub RowAt : List ℕ → List ℕ → List ℕ → Type 0
-RowAt r h table = Fillable (head_from h) (get_or h 8 0) → row_from r ≡ row_of one (head_from h) table (get_or h 8 0)
+abbrev pub RowAt : Due → List ℕ → List ℕ → Type 0
+RowAt r h table = Fillable (head_from h) (get_or h 8 0) → r.row ≡ row_of one (head_from h) table (get_or h 8 0)
 
 -- the next m steps of a point are such ones, and its row is at hand
-pub record NextWords (m : ℕ) (row : List ℕ) (x : ListedLent) : Type 0 where
+pub record NextWords (m : ℕ) (row : Due) (x : ListedLent) : Type 0 where
   pub plain : Plain m x
   pub row_is : RowFor m row x
 
 -- what the store of such a step leaves of an image
-pub record StoresNext (words row : List ℕ) (phase block k : ℕ) (text left : List ℕ) : Type 0 where
+pub record StoresNext (words : List ℕ) (row : Due) (phase block k : ℕ) (text left : List ℕ) : Type 0 where
   pub zeroed : phase ≡ 5 → left ≡ put one words (record { block = block; word = k; value = 0 })
   pub filled :
-      (phase ≡ 5 → ⊥) → (h : Head) (table : List ℕ) → Prepared (row_from row) h table k → left ≡ filled_at one h table text k words
+      (phase ≡ 5 → ⊥) → (h : Head) (table : List ℕ) → Prepared row.row h table k → left ≡ filled_at one h table text k words
 
 -- the four lists of n points
 abbrev pub Lengths : ℕ → List (List ℕ) → List (List ℕ) → List (List ℕ) → List (List ℕ) → Type 0
 Lengths n heads tables texts answers = (length heads ≡ n) × (length tables ≡ n) × (length texts ≡ n) × (length answers ≡ n)
 
--- the row of a point whose write goes on: its numbers, the next word, and that it stores; one that stores nothing for another
-pub record RowOn (r h table : List ℕ) : Type 0 where
-  pub on : get_or r 5 0 ≢ 0
-  pub next : get_or h 8 0 ≡ get_or r 4 0
-  pub zeroes : get_or h 7 0 ≡ 5 → (get_or r 0 0 ≡ get_or h 9 0) × (get_or r 1 0 ≡ 0) × (get_or r 2 0 ≡ 4096) × (get_or r 3 0 ≡ 4096)
+-- the row of a point whose write goes on, and its next word; none for another
+pub record RowOn (r : Due) (h table : List ℕ) : Type 0 where
+  pub next : get_or h 8 0 ≡ r.next
+  pub zeroes : get_or h 7 0 ≡ 5 → (r.row.run ≡ get_or h 9 0) × (r.row.from ≡ 0) × (r.row.lead ≡ 4096) × (r.row.end ≡ 4096)
   pub fills : (get_or h 7 0 ≡ 5 → ⊥) → RowAt r h table
 
-pub record RowIs (kind : ℕ) (r h table : List ℕ) : Type 0 where
-  pub on : kind_goes_on kind ≡ true → RowOn r h table
-  pub off : kind_goes_on kind ≡ false → get_or r 5 0 ≡ 0
+pub record RowIs (kind : ℕ) (r : Option Due) (h table : List ℕ) : Type 0 where
+  pub on : kind_goes_on kind ≡ true → (d : Due) × (r ≡ Some d) × RowOn d h table
+  pub off : kind_goes_on kind ≡ false → r ≡ None
 
 -- a point after m such steps
 unfoldable pub words_on : ℕ → ListedLent → ListedLent

@@ -1,11 +1,13 @@
 // Rounds of the serving call in which each point whose write goes on only stores its next word: so many at once, without tests.
-ghost use Rattle.std.specs.Prelude.{◌≡◌, true, false, List, [], ◌∷◌, ℕ, ◌+◌, ◌-◌, ◌≤◌, ◌<◌, length, get_or, set};
+ghost use Rattle.std.specs.Prelude.{◌≡◌, true, false, List, [], ◌∷◌, ℕ, ◌+◌, ◌-◌, ◌≤◌, ◌<◌, length, get_or, set, None};
 ghost use Rattle.words.specs.Edition.{one};
 ghost use Rattle.points.specs.Batch.{filled_on, InOneBlock};
 ghost use Rattle.points.specs.Serving.{rounds};
 ghost use Rattle.c_lent.specs.Numbers.{shared_lent, head_from, is_known};
 ghost use Rattle.c_lent.specs.Serving.{kind_goes_on, step_turn_for, listed, listed_at, common_lent, turn_left, listed_lent, point_as};
 ghost use Rattle.c_lent.specs.Batch.{AllReady, FillsAlone, PlainAt, RowIs, Lengths, words_on};
+
+use points::serve::{Due, Row};
 
 // How many words a point has left to store, one by one, in one block: of its run, or of its log block. 0 where its next step is another.
 fn words_left(offset: u32, size: u32, phase: u32, k: u32) -> u32
@@ -57,28 +59,40 @@ fn plain_words(heads: &[[u32; 11]], answers: &[[u32; 2]]) -> u32
     least
 }
 
-// The row of a point's next words, of its run or of its log block; where its write does not go on, one that stores nothing.
-fn row_for(kind: u32, head: &[u32; 11], table: &[u16; 256]) -> [u32; 6]
+// The row of a point's next words, of its run or of its log block; none where its write does not go on.
+fn row_for(kind: u32, head: &[u32; 11], table: &[u16; 256]) -> Option<Due>
     requires { kind_goes_on kind ≡ true → is_known head.now ≡ true }
     ensures { RowIs kind result head.now table.now }
 {
     if !crate::turn::goes_on(kind) {
-        return [0, 0, 0, 0, 0, 0];
+        return None;
     }
+    let next = head[8];
     if head[7] == 5 {
-        return [head[9], 0, 4096, 4096, head[8], 1];
+        let row = Row {
+            run: head[9],
+            from: 0,
+            lead: 4096,
+            end: 4096,
+        };
+        return Some(Due { row, next });
     }
     let known = crate::numbers::head(head);
-    let row = points::serve::row_at(known, table, head[8]);
-    [row.run, row.from, row.lead, row.end, head[8], 1]
+    let row = points::serve::row_at(known, table, next);
+    Some(Due { row, next })
 }
 
 // The rows of all.
-fn rows_for(heads: &[[u32; 11]], tables: &[[u16; 256]], answers: &[[u32; 2]], rows: &mut [[u32; 6]])
+fn rows_for(
+    heads: &[[u32; 11]],
+    tables: &[[u16; 256]],
+    answers: &[[u32; 2]],
+    rows: &mut [Option<Due>],
+)
     requires { (length tables.now ≡ length heads.now) × (length answers.now ≡ length heads.now) × (length heads.now ≤ length rows.old)
         × ((i : ℕ) → i < length heads.now → kind_goes_on (get_or (get_or answers.now i []) 0 0) ≡ true → is_known (get_or heads.now i []) ≡ true) }
     ensures { (i : ℕ) → i < length heads.now → RowIs (get_or (get_or answers.now i []) 0 0)
-        (get_or rows.new i []) (get_or heads.now i []) (get_or tables.now i []) }
+        (get_or rows.new i None) (get_or heads.now i []) (get_or tables.now i []) }
 {
     for i in 0..heads.len() {
         rows[i] = row_for(answers[i][0], &heads[i], &tables[i]);
@@ -131,7 +145,7 @@ fn by_rows(
         (listed heads.old tables.now texts.now answers.old))
         × AllReady c (length heads.old) (listed_at heads.new tables.now texts.now answers.new) }
 {
-    let mut rows = [[0u32; 6]; 32];
+    let mut rows: [Option<Due>; 32] = [None; 32];
     rows_for(heads, tables, answers, &mut rows);
     points::serve::fill_rounds(image, &rows, texts, m);
     all_go_on(heads, answers, m);

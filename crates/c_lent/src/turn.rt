@@ -95,10 +95,9 @@ fn moves_on(
         shared.new head.new table.new }
 {
     let moved = points::serve::move_by_one(image, shared[0], crate::numbers::head(head), table);
-    if !moved.done {
+    let Some(left) = moved else {
         return false;
-    }
-    let left = moved.head;
+    };
     crate::numbers::put_reported(shared, points::plan::Reports::Standing, left);
     *head = crate::numbers::of_head(left);
     true
@@ -123,10 +122,9 @@ fn commits(
         table,
         text,
     );
-    if !committed.done {
+    let Some(left) = committed else {
         return false;
-    }
-    let left = committed.head;
+    };
     *head = crate::numbers::of_head(left);
     true
 }

@@ -5,6 +5,7 @@ use native.Mathlib.Omega.{arith}
 use mathlib.Core.Path.{◌≡◌, refl, sym, ap, ◌∙◌}
 use mathlib.Core.Bool.{true, false}
 use mathlib.Core.List.{List}
+use Rattle.std.specs.Prelude.{Some, None}
 use Rattle.words.specs.Edition.{Edition, one}
 use Rattle.words.specs.Memory.{memory, word_at, put, after}
 use Rattle.words.specs.BlockMap.{set_all}
@@ -13,7 +14,6 @@ use Rattle.block_log.specs.declared.Shared.{Shared}
 use Rattle.block_log.specs.Parts.{Mappable}
 use Rattle.block_log.specs.Replay.{Mapped, apply}
 use Rattle.block_log.proofs.Entry.{legal-mappable}
-use Rattle.block_log.proofs.Walk.{never}
 use Rattle.points.specs.declared.Write.{Write}
 use Rattle.points.specs.declared.Head.{Head}
 use Rattle.points.specs.declared.Point.{Point}
@@ -84,21 +84,22 @@ pub commits-by-head :
     → record { table = table'; size = length } ≡ apply one (file_at h table) e → text' ≡ no_text
     → words' ≡ put one words (record { block = h.place.block; word = h.place.slot; value = e })
     → place ≡ next_slot h.place → w ≡ no_write → g ≡ head_of h.number length place w
-    → CommitsByHead words taken h table text (record { done = true; head = g }) words' taken' table' text'
+    → CommitsByHead words taken h table text (Some g) words' taken' table' text'
 unfolding after
 commits-by-head words words' taken taken' h g table table' text text' e length place w x ee et ef ec es ep ew eg =
     record {
-      committed = λ d s b r.
+      committed = λ g' d s b r.
+          let same : g' ≡ head_of h.number length place w = cc in
           let unread : is_reading h.write.phase ≡ false = rw x.ready.filling in
           commit-turn {p = point_of h table text} (record { unrefused = r; unread = unread }) x.ready x.slot x.empty
-          ∙ rw (eg, ew, ep, ec, et, b)
+          ∙ rw (same, ew, ep, ec, et, b)
           (ap (λ (y : Mapped). committed_by one s h (set_all false taken (replaced one h.write table)) (standing h y.size (next_slot h.place) no_write)
           y.table no_text) (sym (rw ee at ef)));
-      stored = λ d. es ∙ rw ee;
-      stayed = λ d. never (sym d);
+      stored = λ g' d. es ∙ rw ee;
+      stayed = λ d. cc;
     }
 
 pub uncommitted :
     (words taken : List ℕ) (h : Head) (table text : List ℕ)
-    → CommitsByHead words taken h table text (record { done = false; head = h }) words taken table text
-uncommitted words taken h table text = record { committed = λ d. never d; stored = λ d. never d; stayed = λ d. (refl, refl, refl, refl, refl) }
+    → CommitsByHead words taken h table text None words taken table text
+uncommitted words taken h table text = record { committed = λ g d. cc; stored = λ g d. cc; stayed = λ d. (refl, refl, refl, refl) }

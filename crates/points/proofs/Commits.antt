@@ -1,18 +1,18 @@
 -- Committing: the entry of a write that fits keeps the entry's rules, and the blocks that it replaces become free one after the other.
 use Prim.Native.Nat.{ℕ, zero, suc, ◌+◌, ◌*◌, ◌-◌, ◌/◌, ◌%◌, ◌^◌, ◌≤◌, ◌<◌}
+use native.Mathlib.Numerals.{add-one}
 use native.Mathlib.Omega.{arith}
-use native.Mathlib.Decide.{dec_lt}
 use mathlib.Core.Path.{◌≡◌, refl, sym, ap, ap₂, ◌∙◌}
 use mathlib.Core.Bool.{Bool, true, false, ◌&&◌, ◌||◌}
 use mathlib.Core.List.{List, [], ◌∷◌}
-use lib.ListN.{length, get_or, take, drop, get_or-eq_default, drop_of_length-le}
+use lib.ListN.{length, get_or, drop, drop_of_length-le}
 use lib.Seq.{drop-cons}
 use lib.Dec.{ltb}
 use borrow.Author.Tests.{lt-ltb, ltb-true}
 use Rattle.words.specs.Edition.{Edition, block_bytes, file_end}
 use Rattle.words.proofs.Sizes.{sized, split-byte}
 use Rattle.words.specs.BlockMap.{set_block, set_all}
-use Rattle.words.proofs.Logic.{take_none, agree}
+use Rattle.words.proofs.Logic.{agree}
 use Rattle.block_log.specs.Entry.{entry_of, legal}
 use Rattle.points.specs.declared.Write.{Write}
 use Rattle.points.specs.declared.Head.{Head}
@@ -106,40 +106,14 @@ unfolding set_all
 free-cons map zero bs = refl
 free-cons map (suc b) bs = refl
 
--- at a place of a table; past its end there is 0, and nothing
-pub free-at :
-    (map table : List ℕ) (at n : ℕ)
-    → set_all false map (take (suc n) (drop at table)) ≡ set_all false (set_all false map (get_or table at 0 ∷ [])) (take n (drop (suc at) table))
-unfolding set_all
-free-at map table at n = go (dec_lt at (length table))
-  where
-    go :
-        Dec (at < length table)
-        → set_all false map (take (suc n) (drop at table)) ≡ set_all false (set_all false map (get_or table at 0 ∷ [])) (take n (drop (suc at) table))
-    go (yes h) =
-        ap (λ (l : List ℕ). set_all false map (take (suc n) l)) (drop-cons table at 0 h) ∙ free-cons map (get_or table at 0) (take n (drop (suc at) table))
-    go (no h) =
-        let z : get_or table at 0 ≡ 0 = get_or-eq_default table 0 (omega arith) in
-        let d : drop at table ≡ [] = drop_of_length-le table {i = at} (omega arith) in
-        let e : drop (suc at) table ≡ [] = drop_of_length-le table {i = suc at} (omega arith) in
-        rw (z, d, e, take_none n)
-
--- what is left to free, after one more
-pub freed-one :
-    (start map more table : List ℕ) (n v left at : ℕ) → 0 < left
-    → set_all false start (take n (drop v table)) ≡ set_all false map (take left (drop at table))
-    → more ≡ set_all false map (get_or table at 0 ∷ [])
-    → set_all false start (take n (drop v table)) ≡ set_all false more (take (left - 1) (drop (at + 1) table))
-freed-one start map more table n v left at h inv e =
-    let l : suc (left - 1) ≡ left = omega arith in
-    let a : suc at ≡ at + 1 = omega arith in
-    inv ∙ rw (e, ← a) (rw l at (free-at map table at (left - 1)))
+-- what is left to free of a list, after one more, and at its end
+pub freed-next :
+    (start map more bs : List ℕ) (i : ℕ) → i < length bs → set_all false start bs ≡ set_all false map (drop i bs)
+    → more ≡ set_all false map (get_or bs i 0 ∷ []) → set_all false start bs ≡ set_all false more (drop (i + 1) bs)
+freed-next start map more bs i h inv e =
+    inv ∙ rw (e, add-one) (ap (set_all false map) (drop-cons bs i 0 h) ∙ free-cons map (get_or bs i 0) (drop (suc i) bs))
 
 pub freed-all :
-    (start map table : List ℕ) (n v left at : ℕ) → left ≤ 0
-    → set_all false start (take n (drop v table)) ≡ set_all false map (take left (drop at table))
-    → map ≡ set_all false start (take n (drop v table))
+    (start map bs : List ℕ) (i : ℕ) → length bs ≤ i → set_all false start bs ≡ set_all false map (drop i bs) → map ≡ set_all false start bs
 unfolding set_all
-freed-all start map table n v left at h inv =
-    let z : left ≡ 0 = omega arith in
-    sym (inv ∙ rw z)
+freed-all start map bs i h inv = sym (inv ∙ ap (set_all false map) (drop_of_length-le bs {i = i} h))

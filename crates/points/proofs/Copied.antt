@@ -3,9 +3,12 @@
 use Prim.Native.Nat.{ℕ, zero, suc, ◌+◌, ◌*◌, ◌-◌, ◌/◌, ◌%◌, ◌≤◌, ◌<◌}
 use native.Mathlib.Omega.{arith}
 use mathlib.Core.Path.{◌≡◌, refl, sym, ap, ap₂, ◌∙◌}
-use mathlib.Core.List.{List, [], ◌∷◌, ◌++◌, append-nil}
-use lib.ListN.{length, get_or, take, drop, set, take-append-drop, length-drop, drop_of_length-le}
-use lib.Seq.{sets, sets-eq, length-sets, take-set-le, drop-set-add, get_or-take, get_or-drop, take_all, length-take-le}
+use mathlib.Core.List.{List, [], ◌∷◌, ◌++◌, append-nil, append_assoc}
+use lib.ListN.{length, get_or, take, drop, set, take-append-drop, length-drop, drop_of_length-le, replicate}
+use lib.Seq.{sets, sets-eq, length-sets, take-set-le, drop-set-add, get_or-take, get_or-drop, take_all, length-take-le, drop-drop}
+use borrow.Rule.Slice.PartMut.{put_mid}
+use mir.Syntax.{w64}
+use Rattle.std.specs.Int.{to_le_bytes}
 use Rattle.words.specs.Logic.{list_from}
 use Rattle.words.specs.Word.{byte_of}
 use Rattle.words.specs.Memory.{byte_in}
@@ -148,3 +151,19 @@ module _ (part xs : List ℕ) (a i w n : ℕ) (inside : i + w ≤ length part) (
       rw (none, append-nil ys, e, lent-whole, lent-words, ← same)
       (part-sets a xs 0 (list_from 0 (8 * w) (byte_in (take w (drop i part))))
       ∙ rw z (ap (sets xs a) (bytes-lent part i w ∙ words-aligned (byte_in part) p i w aligned)))
+
+-- a part that is written whole
+pub part-put : (at k : ℕ) (xs ys : List ℕ) → length ys ≡ k → at + k ≤ length xs → put_mid at k xs ys ≡ sets xs at ys
+part-put at k xs ys l h =
+    rw (drop-drop, ← l) (sym (sets-eq ys xs at (omega arith) ∙ append_assoc (take at xs) ys (drop (at + length ys) xs)))
+
+pub part-length : (at k : ℕ) (xs : List ℕ) → at + k ≤ length xs → length (take k (drop at xs)) ≡ k
+part-length at k xs h = length-take-le k (drop at xs) (omega (arith, length-drop at xs))
+
+pub zeros-list : (n i : ℕ) → replicate {A = ℕ} n 0 ≡ list_from i n (λ _. 0)
+zeros-list zero i = refl
+zeros-list (suc n) i = ap (λ (xs : List ℕ). 0 ∷ xs) (zeros-list n (suc i))
+
+-- a word's bytes, lowest first
+pub low_bytes : (w : ℕ) → to_le_bytes w64 w ≡ list_from 0 8 (byte_of w)
+low_bytes w = let e : w / 1 ≡ w = omega arith in rw e

@@ -7,6 +7,7 @@ use mathlib.Core.Logic.{◌≢◌}
 use mathlib.Core.Bool.{Bool, true, false, ◌&&◌, ◌||◌, not, and-true, and_assoc, or-false, or_assoc}
 use mathlib.Core.List.{List, [], ◌∷◌}
 use lib.ListN.{length, get_or, drop}
+use Rattle.std.specs.List.{fold}
 use lib.Seq.{drop-cons, drop-length}
 use lib.Dec.{leb, ltb, eqb}
 use lib.Pow.{shr_lt, pow_mono}
@@ -214,11 +215,19 @@ below_both a b n = go (dec_lt a n) (dec_lt b n)
     go (yes l) (no k) = let k : n ≤ b = omega arith in rw (lt-ltb a n l, le-ltb b n k) (le-ltb (max a b) n (omega arith))
     go (no l) d = let l : n ≤ a = omega arith in rw (le-ltb a n l) (le-ltb (max a b) n (omega arith))
 
-pub table-first : (blocks : ℕ) (table : List ℕ) → 0 < length table → all_below blocks table ≡ ltb 0 blocks && all_below blocks (drop 0 table)
+fold-below : (n a : ℕ) (xs : List ℕ) → ltb (fold max a xs) n ≡ (ltb a n && all_below n xs)
 unfolding all_below
-table-first blocks [] h = absurd (omega arith)
-table-first zero (x ∷ xs) h = rw (le-ltb x 0 (omega arith))
-table-first (suc n) (x ∷ xs) h = rw (lt-ltb 0 (suc n) (omega arith))
+fold-below n a [] = sym (and-true (ltb a n))
+fold-below n a (x ∷ xs) =
+    fold-below n (max a x) xs ∙ ap (λ (t : Bool). t && all_of (λ b. ltb b n) xs) (below_both a x n)
+    ∙ and_assoc (ltb a n) (ltb x n) (all_of (λ b. ltb b n) xs)
+
+-- a table with an entry
+pub greatest-below : (n : ℕ) (table : List ℕ) → 0 < length table → ltb (fold max 0 table) n ≡ all_below n table
+unfolding all_below
+greatest-below n [] h = absurd (omega arith)
+greatest-below zero (x ∷ xs) h = fold-below 0 0 (x ∷ xs) ∙ rw (le-ltb x 0 (omega arith))
+greatest-below (suc n) (x ∷ xs) h = fold-below (suc n) 0 (x ∷ xs) ∙ rw (lt-ltb 0 (suc n) (omega arith))
 
 -- ---- the end of the file, and bits past a number's width
 

@@ -10,6 +10,7 @@ use mathlib.Core.List.{List, [], ◌∷◌}
 use lib.ListN.{length}
 use lib.Dec.{leb}
 use borrow.Author.Tests.{lt-leb, le-ltb}
+use Rattle.std.specs.Prelude.{Some, None}
 use Rattle.words.specs.Edition.{Edition, one}
 use Rattle.words.specs.Logic.{any}
 use Rattle.words.specs.Memory.{Memory, memory, block_at}
@@ -20,7 +21,7 @@ use Rattle.block_log.specs.Entry.{entry_v, entry_b, entry_n, entry_end, legal, c
 use Rattle.block_log.specs.Opening.{bad_entry}
 use Rattle.block_log.specs.Replay.{Mapped, map_run, apply, replay_on}
 use Rattle.block_log.specs.CatchUp.{ended, ahead, broken}
-use Rattle.block_log.proofs.Walk.{here, walk-stop, never}
+use Rattle.block_log.proofs.Walk.{here, walk-stop}
 use Rattle.points.specs.declared.Write.{Write}
 use Rattle.points.specs.declared.Head.{Head}
 use Rattle.points.specs.declared.Point.{Point}
@@ -105,19 +106,20 @@ pass-turn {E} {words} {s} {p} r e x =
 pub moves-by-one :
     (words : List ℕ) (blocks : ℕ) (h g : Head) (table left : List ℕ) (e length : ℕ) → Passes one (memory one words) blocks h e
     → record { table = left; size = length } ≡ apply one (file_at h table) e → g ≡ passing one h length
-    → MovesByOne words blocks h table (record { done = true; head = g }) left
+    → MovesByOne words blocks h table (Some g) left
 moves-by-one words blocks h g table left e length x f k =
     record {
-      moved = λ d s text b r.
+      moved = λ g' d s text b r.
+          let same : g' ≡ passing one h length = cc in
           let unread : is_reading h.write.phase ≡ false = rw x.ready.filling in
           pass-turn {p = point_of h table text} (record { unrefused = r; unread = unread }) e (rw b x)
           ∙ ap (λ (y : Mapped). passed_by s (passing one h y.size) y.table text) (sym f)
-          ∙ rw k;
-      stayed = λ d. never (sym d);
+          ∙ rw same;
+      stayed = λ d. cc;
     }
 
-pub stays : (words : List ℕ) (blocks : ℕ) (h : Head) (table : List ℕ) → MovesByOne words blocks h table (record { done = false; head = h }) table
-stays words blocks h table = record { moved = λ d. never d; stayed = λ d. (refl, refl) }
+pub stays : (words : List ℕ) (blocks : ℕ) (h : Head) (table : List ℕ) → MovesByOne words blocks h table None table
+stays words blocks h table = record { moved = λ g d. cc; stayed = λ d. refl }
 
 -- an entry taken in, by its fields
 pub taken_in :

@@ -8,25 +8,24 @@ use mathlib.Core.Logic.{◌≢◌, ◌⊎◌, inl, inr}
 use mathlib.Core.List.{List, []}
 use lib.ListN.{length, get_or, take, drop}
 use lib.Seq.{get_or-take, get_or-drop}
-use lib.Dec.{eqb}
-use borrow.Author.Tests.{eq-eqb, ne_eqb}
 use Rattle.words.specs.Edition.{Edition, one, block_bytes}
 use Rattle.words.specs.Logic.{list_from}
 use Rattle.words.specs.Word.{byte_of, from_bytes}
 use Rattle.words.specs.Memory.{Memory, memory, block_at, put, after}
-use Rattle.words.proofs.Choice.{choose-true, choose-false}
 use Rattle.words.proofs.Memory.{block-part}
 use Rattle.words.proofs.Sizes.{word_in}
 use Rattle.block_log.specs.Replay.{mapped_byte}
 use Rattle.points.specs.declared.Phase.{Phase}
 use Rattle.points.specs.declared.Head.{Head}
 use Rattle.points.specs.declared.serve.Row.{Row}
+use Rattle.points.specs.declared.serve.Due.{Due}
+use Rattle.std.specs.Prelude.{Option, Some, None}
 use Rattle.points.specs.Record.{run_first, run_blocks, run_words, text_max, writing}
 use Rattle.points.specs.Fill.{new_word}
 use Rattle.points.specs.Stepping.{turned}
 use Rattle.points.specs.Lent.{TextFits, mixed_byte}
 use Rattle.points.specs.Batch.{filled_at, filled_on, row_of, Fillable, Prepared, InRow, InOneBlock}
-use Rattle.points.specs.Batch.{copied_word, mixed_word, row_word, row_put, row_from, row_stored, round_stored, rounds_stored, RowFits}
+use Rattle.points.specs.Batch.{copied_word, mixed_word, row_word, row_put, row_stored, round_stored, rounds_stored, RowFits}
 use Rattle.points.proofs.Spans.{lies}
 use Rattle.points.proofs.Planned.{word-from-put}
 use Rattle.points.proofs.NewWord.{Laid, new_word_lem, new-word-text, same_bytes, word_bytes}
@@ -189,56 +188,57 @@ row_new words r h table text k p =
 
 -- ---- what a row leaves of an image
 
-pub stored-off : (r : ℕ) (row text words : List ℕ) → get_or row 5 0 ≡ 0 → row_stored r row text words ≡ words
+pub stored-off : (r : ℕ) (row : Option Due) (text words : List ℕ) → row ≡ None → row_stored r row text words ≡ words
 unfolding row_stored
-stored-off r row text words e = choose-true (eqb (get_or row 5 0) 0) _ _ (eq-eqb (get_or row 5 0) 0 e)
+stored-off r row text words e = rw e
 
-pub stored_on : (r : ℕ) (row text words : List ℕ) → get_or row 5 0 ≢ 0 → row_stored r row text words ≡ row_put (row_from row) text (get_or row 4 0 + r) words
+pub stored_on : (r : ℕ) (d : Due) (row : Option Due) (text words : List ℕ) → row ≡ Some d
+    → row_stored r row text words ≡ row_put d.row text (d.next + r) words
 unfolding row_stored
-stored_on r row text words e = choose-false (eqb (get_or row 5 0) 0) _ _ (ne_eqb (get_or row 5 0) 0 e)
+stored_on r d row text words e = rw e
 
 -- word k of a run is filled; word k of a block becomes 0
-pub stored-filled : (r k : ℕ) (row text words : List ℕ) (h : Head) (table : List ℕ) → get_or row 5 0 ≢ 0 → k ≡ get_or row 4 0 + r
-    → Prepared (row_from row) h table k → row_stored r row text words ≡ filled_at one h table text k words
-stored-filled r k row text words h table on e p =
-    stored_on r row text words on ∙ ap (λ (j : ℕ). row_put (row_from row) text j words) (sym e)
-    ∙ filled_put words (row_from row) h table text k _ p (row_new words (row_from row) h table text k p)
+pub stored-filled : (r k : ℕ) (d : Due) (row : Option Due) (text words : List ℕ) (h : Head) (table : List ℕ) → row ≡ Some d → k ≡ d.next + r
+    → Prepared d.row h table k → row_stored r row text words ≡ filled_at one h table text k words
+stored-filled r k d row text words h table on e p =
+    stored_on r d row text words on ∙ ap (λ (j : ℕ). row_put d.row text j words) (sym e)
+    ∙ filled_put words d.row h table text k _ p (row_new words d.row h table text k p)
 
-pub stored-zero : (r k : ℕ) (row text words : List ℕ) → get_or row 5 0 ≢ 0 → k ≡ get_or row 4 0 + r → get_or row 1 0 ≡ 0 → 8 * k + 8 ≤ get_or row 2 0
-    → row_stored r row text words ≡ put one words (record { block = get_or row 0 0; word = k; value = 0 })
-stored-zero r k row text words on e none far =
+pub stored-zero : (r k : ℕ) (d : Due) (row : Option Due) (text words : List ℕ) → row ≡ Some d → k ≡ d.next + r → d.row.from ≡ 0 → 8 * k + 8 ≤ d.row.lead
+    → row_stored r row text words ≡ put one words (record { block = d.row.run; word = k; value = 0 })
+stored-zero r k d row text words on e none far =
     let i = k % one.block_words in
-    let z : copied_word words (get_or row 1 0) i ≡ 0 = ap (λ (b : ℕ). copied_word words b i) none ∙ copied_none words i in
-    let v : row_word words (row_from row) text k ≡ 0 =
-    ap (λ (c : ℕ). mixed_word c (row_from row) text k) z ∙ mixed-none 0 (row_from row) text k (omega arith) (inl far) in
-    stored_on r row text words on ∙ ap (λ (j : ℕ). row_put (row_from row) text j words) (sym e)
-    ∙ ap (λ (x : ℕ). put one words (record { block = get_or row 0 0; word = k; value = x })) v
+    let z : copied_word words d.row.from i ≡ 0 = ap (λ (b : ℕ). copied_word words b i) none ∙ copied_none words i in
+    let v : row_word words d.row text k ≡ 0 =
+    ap (λ (c : ℕ). mixed_word c d.row text k) z ∙ mixed-none 0 d.row text k (omega arith) (inl far) in
+    stored_on r d row text words on ∙ ap (λ (j : ℕ). row_put d.row text j words) (sym e)
+    ∙ ap (λ (x : ℕ). put one words (record { block = d.row.run; word = k; value = x })) v
 
 -- one row more, one round more
-pub round-none : (r : ℕ) (rows texts : List (List ℕ)) (words : List ℕ) → words ≡ round_stored r 0 rows texts words
+pub round-none : (r : ℕ) (rows : List (Option Due)) (texts : List (List ℕ)) (words : List ℕ) → words ≡ round_stored r 0 rows texts words
 unfolding round_stored
 round-none r rows texts words = refl
 
-pub round-next : (r i : ℕ) (rows texts : List (List ℕ)) (words now left : List ℕ) → now ≡ round_stored r i rows texts words
-    → left ≡ row_stored r (get_or rows i []) (get_or texts i []) now → left ≡ round_stored r (i + 1) rows texts words
+pub round-next : (r i : ℕ) (rows : List (Option Due)) (texts : List (List ℕ)) (words now left : List ℕ) → now ≡ round_stored r i rows texts words
+    → left ≡ row_stored r (get_or rows i None) (get_or texts i []) now → left ≡ round_stored r (i + 1) rows texts words
 unfolding round_stored
 round-next r i rows texts words now left e f =
-    rw add-one (f ∙ ap (λ (w : List ℕ). row_stored r (get_or rows i []) (get_or texts i []) w) e)
+    rw add-one (f ∙ ap (λ (w : List ℕ). row_stored r (get_or rows i None) (get_or texts i []) w) e)
 
-pub rounds-none : (n : ℕ) (rows texts : List (List ℕ)) (words : List ℕ) → words ≡ rounds_stored 0 n rows texts words
+pub rounds-none : (n : ℕ) (rows : List (Option Due)) (texts : List (List ℕ)) (words : List ℕ) → words ≡ rounds_stored 0 n rows texts words
 unfolding rounds_stored
 rounds-none n rows texts words = refl
 
-pub rounds-next : (r n : ℕ) (rows texts : List (List ℕ)) (words now left : List ℕ) → now ≡ rounds_stored r n rows texts words
+pub rounds-next : (r n : ℕ) (rows : List (Option Due)) (texts : List (List ℕ)) (words now left : List ℕ) → now ≡ rounds_stored r n rows texts words
     → left ≡ round_stored r n rows texts now → left ≡ rounds_stored (r + 1) n rows texts words
 unfolding rounds_stored
 rounds-next r n rows texts words now left e f = rw add-one (f ∙ ap (λ (w : List ℕ). round_stored r n rows texts w) e)
 
 -- one row more fits
-pub fits_next : (size m i : ℕ) (rows : List (List ℕ)) → ((j : ℕ) → j < i → RowFits size m (get_or rows j [])) → RowFits size m (get_or rows i [])
-    → (j : ℕ) → j < i + 1 → RowFits size m (get_or rows j [])
+pub fits_next : (size m i : ℕ) (rows : List (Option Due)) → ((j : ℕ) → j < i → RowFits size m (get_or rows j None)) → RowFits size m (get_or rows i None)
+    → (j : ℕ) → j < i + 1 → RowFits size m (get_or rows j None)
 fits_next size m i rows before here j l = go (ℕ_discrete j i)
   where
-    go : Dec (j ≡ i) → RowFits size m (get_or rows j [])
-    go (yes q) = subst (λ (k : ℕ). RowFits size m (get_or rows k [])) (sym q) here
+    go : Dec (j ≡ i) → RowFits size m (get_or rows j None)
+    go (yes q) = subst (λ (k : ℕ). RowFits size m (get_or rows k None)) (sym q) here
     go (no q) = before j (omega arith)

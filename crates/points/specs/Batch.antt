@@ -1,5 +1,6 @@
 -- For the contracts of the code that serves a list of points in batches: parts of contracts, nothing here is promised. `Serving` has what is.
-use Rattle.std.specs.Prelude.{ℕ, zero, suc, ◌+◌, ◌*◌, ◌/◌, ◌%◌, ◌≤◌, ◌<◌, ◌≡◌, ◌≢◌, ◌⊎◌, true, false, List, [], length, get_or, eqb}
+use Rattle.std.specs.Prelude.{ℕ, zero, suc, ◌+◌, ◌*◌, ◌/◌, ◌%◌, ◌≤◌, ◌<◌, ◌≡◌, ◌≢◌, ◌⊎◌, true, false, List, [], length, get_or}
+use Rattle.std.specs.Prelude.{Option, Some, None}
 use Rattle.std.proofs.Math.Option.{none, some}
 use Rattle.words.specs.Edition.{Edition, one, block_bytes, blocks_max}
 use Rattle.words.specs.Logic.{list_from}
@@ -14,8 +15,7 @@ use Rattle.points.specs.declared.Head.{Head}
 use Rattle.points.specs.declared.Point.{Point}
 use Rattle.points.specs.declared.StepAnswer.TheVariants.{Moved, Committed}
 use Rattle.points.specs.declared.serve.Row.{Row}
-use Rattle.points.specs.declared.serve.MovedByOne.{MovedByOne}
-use Rattle.points.specs.declared.serve.CommittedByHead.{CommittedByHead}
+use Rattle.points.specs.declared.serve.Due.{Due}
 use Rattle.points.specs.Record.{run_first, run_blocks, run_words, standing, writing, with_head, point_of}
 use Rattle.points.specs.Search.{with_taken, reporting_place}
 use Rattle.points.specs.Fill.{new_word}
@@ -77,20 +77,17 @@ row_word words row text k = mixed_word (copied_word words row.from (k % one.bloc
 abbrev pub row_put : Row → List ℕ → ℕ → List ℕ → List ℕ
 row_put row text k words = put one words (record { block = row.run; word = k; value = row_word words row text k })
 
--- a row in numbers; behind these stand the next word, and 0 where nothing is stored
-abbrev pub row_from : List ℕ → Row
-row_from r = record { run = get_or r 0 0; from = get_or r 1 0; lead = get_or r 2 0; end = get_or r 3 0 }
-
--- word r after the next one is stored
-unfoldable pub row_stored : ℕ → List ℕ → List ℕ → List ℕ → List ℕ
-row_stored r row text words = elim (eqb (get_or row 5 0) 0) [ true ↦ words | false ↦ row_put (row_from row) text (get_or row 4 0 + r) words ]
+-- word r after the next one is stored, where the row stores
+unfoldable pub row_stored : ℕ → Option Due → List ℕ → List ℕ → List ℕ
+row_stored r None text words = words
+row_stored r (Some d) text words = row_put d.row text (d.next + r) words
 
 -- by the first i rows in round r; by the first n in each of the first r rounds
-unfoldable pub round_stored : ℕ → ℕ → List (List ℕ) → List (List ℕ) → List ℕ → List ℕ
+unfoldable pub round_stored : ℕ → ℕ → List (Option Due) → List (List ℕ) → List ℕ → List ℕ
 round_stored r zero rows texts words = words
-round_stored r (suc i) rows texts words = row_stored r (get_or rows i []) (get_or texts i []) (round_stored r i rows texts words)
+round_stored r (suc i) rows texts words = row_stored r (get_or rows i None) (get_or texts i []) (round_stored r i rows texts words)
 
-unfoldable pub rounds_stored : ℕ → ℕ → List (List ℕ) → List (List ℕ) → List ℕ → List ℕ
+unfoldable pub rounds_stored : ℕ → ℕ → List (Option Due) → List (List ℕ) → List ℕ → List ℕ
 rounds_stored zero n rows texts words = words
 rounds_stored (suc r) n rows texts words = round_stored r n rows texts (rounds_stored r n rows texts words)
 
@@ -98,14 +95,14 @@ rounds_stored (suc r) n rows texts words = round_stored r n rows texts (rounds_s
 abbrev pub RowIn : ℕ → Row → ℕ → Type 0
 RowIn size r k = InRow r k × (64 * r.run ≤ size) × (64 * r.from + 64 ≤ size)
 
-abbrev pub RowHolds : ℕ → ℕ → ℕ → ℕ → ℕ → ℕ → ℕ → Type 0
-RowHolds size run from lead end k m = (end ≤ lead + 1024) × (k + m ≤ 192) × (64 * run ≤ size) × (64 * from + 64 ≤ size)
+abbrev pub RowHolds : ℕ → Due → ℕ → Type 0
+RowHolds size d m = (d.row.end ≤ d.row.lead + 1024) × (d.next + m ≤ 192) × (64 * d.row.run ≤ size) × (64 * d.row.from + 64 ≤ size)
 
-abbrev pub RowFits : ℕ → ℕ → List ℕ → Type 0
-RowFits size m row = get_or row 5 0 ≢ 0 → RowHolds size (get_or row 0 0) (get_or row 1 0) (get_or row 2 0) (get_or row 3 0) (get_or row 4 0) m
+abbrev pub RowFits : ℕ → ℕ → Option Due → Type 0
+RowFits size m row = (d : Due) → row ≡ Some d → RowHolds size d m
 
-abbrev pub RowsFit : ℕ → ℕ → List (List ℕ) → List (List ℕ) → Type 0
-RowsFit size m rows texts = (length texts ≤ length rows) × ((i : ℕ) → i < length texts → RowFits size m (get_or rows i []))
+abbrev pub RowsFit : ℕ → ℕ → List (Option Due) → List (List ℕ) → Type 0
+RowsFit size m rows texts = (length texts ≤ length rows) × ((i : ℕ) → i < length texts → RowFits size m (get_or rows i None))
 
 -- ---- moving on by one entry
 
@@ -143,11 +140,11 @@ passed_by s h table text = record { step = Moved; shared = reporting_place h s; 
 
 -- where it is done it is the step of every record that this one is with a text, for every shared record with this block count under which that is not
 -- refused; otherwise nothing changes
-pub record MovesByOne (words : List ℕ) (blocks : ℕ) (h : Head) (table : List ℕ) (r : MovedByOne) (left : List ℕ) : Type 0 where
+pub record MovesByOne (words : List ℕ) (blocks : ℕ) (h : Head) (table : List ℕ) (r : Option Head) (left : List ℕ) : Type 0 where
   pub moved :
-      r.done ≡ true → (s : Shared) (text : List ℕ) → s.blocks ≡ blocks → step_refusal one words s h table ≡ 0
-      → stepping one words s (point_of h table text) ≡ passed_by s r.head left text
-  pub stayed : r.done ≡ false → (r.head ≡ h) × (left ≡ table)
+      (g : Head) → r ≡ Some g → (s : Shared) (text : List ℕ) → s.blocks ≡ blocks → step_refusal one words s h table ≡ 0
+      → stepping one words s (point_of h table text) ≡ passed_by s g left text
+  pub stayed : r ≡ None → left ≡ table
 
 -- ---- committing by the head
 
@@ -174,12 +171,12 @@ committed_by E s h taken left table text =
     record { step = Committed h.write.retries; shared = with_taken s taken; point = point_of left table text; store = some (entry_store E h); bytes = [] }
 
 -- where it is done it is the step of this record, for every shared record with this map under which that is not refused; otherwise nothing changes
-pub record CommitsByHead (words taken : List ℕ) (h : Head) (table text : List ℕ) (r : CommittedByHead) (words' taken' table' text' : List ℕ) : Type 0 where
+pub record CommitsByHead (words taken : List ℕ) (h : Head) (table text : List ℕ) (r : Option Head) (words' taken' table' text' : List ℕ) : Type 0 where
   pub committed :
-      r.done ≡ true → (s : Shared) → s.taken ≡ taken → step_refusal one words s h table ≡ 0
-      → stepping one words s (point_of h table text) ≡ committed_by one s h taken' r.head table' text'
-  pub stored : r.done ≡ true → words' ≡ after one words (some (entry_store one h))
-  pub stayed : r.done ≡ false → (r.head ≡ h) × (words' ≡ words) × (taken' ≡ taken) × (table' ≡ table) × (text' ≡ text)
+      (g : Head) → r ≡ Some g → (s : Shared) → s.taken ≡ taken → step_refusal one words s h table ≡ 0
+      → stepping one words s (point_of h table text) ≡ committed_by one s h taken' g table' text'
+  pub stored : (g : Head) → r ≡ Some g → words' ≡ after one words (some (entry_store one h))
+  pub stayed : r ≡ None → (words' ≡ words) × (taken' ≡ taken) × (table' ≡ table) × (text' ≡ text)
 
 -- the point r words on
 abbrev pub moved_on : ℕ → Point → Point

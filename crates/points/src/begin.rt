@@ -32,7 +32,7 @@ fn settle(
     crate::record::unfit_numbers(image, numbers, head, table)?;
     let write = head.write;
     let phase = write.phase;
-    if !crate::record::is_idle(phase) {
+    if !phase.is_idle() {
         return Err(Refusal::WrongPhase);
     }
     if crate::record::bad_text(size) {
@@ -76,9 +76,7 @@ fn put_text(kept: &mut [u8; 1024], text: &[u8])
     ensures { kept.new ≡ text_of text.now }
 {
     *kept = crate::record::no_text();
-    for i in 0..text.len() {
-        kept[i] = text[i];
-    }
+    kept[..text.len()].copy_from_slice(text);
 }
 
 // The write as it begins.

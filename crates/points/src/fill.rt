@@ -1,5 +1,5 @@
 // Filling: what a word of the run gets, and which word is next.
-ghost use Rattle.std.specs.Prelude.{◌≡◌, true, false, ℕ, ◌+◌, ◌*◌, ◌-◌, ◌≤◌, ◌<◌, max, get_or};
+ghost use Rattle.std.specs.Prelude.{◌≡◌, true, false, ℕ, ◌+◌, ◌*◌, ◌-◌, ◌≤◌, ◌<◌, get_or};
 ghost use Rattle.words.specs.Edition.{one};
 ghost use Rattle.words.specs.Logic.{list_from};
 ghost use Rattle.words.specs.Word.{byte_of, from_bytes};
@@ -12,31 +12,19 @@ ghost use Rattle.points.specs.Lent.{TextFits, InRun, mixed_byte};
 
 use crate::{Head, Phase, Write};
 
-fn wide(x: u8) -> u64
-    ensures { (result ≡ x) × (result < 256) }
-{
-    x as u64
-}
-
-fn index(b: u16) -> usize
-    ensures { result ≡ b }
-{
-    b as usize
-}
-
 // Eight bytes of the text as a word.
 pub(crate) fn text_word(text: &[u8; 1024], from: usize) -> u64
     requires { from + 8 ≤ 1024 }
     ensures { result ≡ from_bytes (list_from from 8 (λ i. get_or text.now i 0)) }
 {
-    wide(text[from])
-        | wide(text[from + 1]) << 8
-        | wide(text[from + 2]) << 16
-        | wide(text[from + 3]) << 24
-        | wide(text[from + 4]) << 32
-        | wide(text[from + 5]) << 40
-        | wide(text[from + 6]) << 48
-        | wide(text[from + 7]) << 56
+    u64::from(text[from])
+        | u64::from(text[from + 1]) << 8
+        | u64::from(text[from + 2]) << 16
+        | u64::from(text[from + 3]) << 24
+        | u64::from(text[from + 4]) << 32
+        | u64::from(text[from + 5]) << 40
+        | u64::from(text[from + 6]) << 48
+        | u64::from(text[from + 7]) << 56
 }
 
 // Word i of the block that is mapped at virtual block v, as it is now; 0 where nothing is mapped.
@@ -44,7 +32,7 @@ fn copied_word(image: &[u64], table: &[u16; 256], v: usize, i: usize) -> u64
     requires { v < 256 }
     ensures { (j : ℕ) → j < 8 → byte_of result j ≡ mapped_byte (memory one image.now) (get_or table.now v 0) (8 * i + j) }
 {
-    let b = index(table[v]);
+    let b = usize::from(table[v]);
     if b == 0 {
         return 0;
     }
@@ -62,7 +50,7 @@ fn mixed_byte(copied: u64, text: &[u8; 1024], lead: usize, end: usize, at: usize
     if end <= p {
         return words::bytes::byte(copied, (p - at) as u64);
     }
-    wide(text[p - lead])
+    u64::from(text[p - lead])
 }
 
 // The word at bytes `at` to `at + 7` of the run, put together byte by byte: for the words at the text's edges.
@@ -71,9 +59,7 @@ pub(crate) fn edge_word(copied: u64, text: &[u8; 1024], lead: usize, end: usize,
     ensures { result ≡ from_bytes (list_from at 8 (mixed_byte copied text.now lead end at)) }
 {
     let mut word: u64 = 0;
-    let mut p = at + 8;
-    while at < p {
-        p -= 1;
+    for p in (at..at + 8).rev() {
         word = word << 8 | mixed_byte(copied, text, lead, end, at, p);
     }
     word
@@ -114,12 +100,6 @@ pub(crate) fn new_word<'a>(
     edge_word(copied, text, lead, end, at)
 }
 
-fn greater(a: u32, b: u32) -> u32
-    ensures { result ≡ max a b }
-{
-    if a < b { b } else { a }
-}
-
 // The first word from a place on that has a copied byte, be it of the run or past it.
 fn copied_from(write: Write, from: u32) -> u32
     requires { (write.size ≤ 1024) × (from ≤ 192) }
@@ -129,10 +109,7 @@ fn copied_from(write: Write, from: u32) -> u32
     if 8 * from < lead {
         return from;
     }
-    greater(
-        from,
-        words::offset::whole_words((lead + write.size) as usize) as u32,
-    )
+    from.max(words::offset::whole_words((lead + write.size) as usize) as u32)
 }
 
 // The next word to fill again in the run's first block, or the run's words.
@@ -152,7 +129,7 @@ fn next_in_last(write: Write, words: u32) -> u32
     requires { InRun write words }
     ensures { result ≡ seek write.position (run_words one write - write.position) (pending RefillLast one write) }
 {
-    let k = copied_from(write, greater(write.position, 64));
+    let k = copied_from(write, write.position.max(64));
     if k < words {
         return k;
     }

@@ -8,18 +8,12 @@ ghost use Rattle.points.specs.Lent.{found_at};
 use crate::{Count, Head, Numbers, Point};
 use block_log::{Refusal, Shared};
 
-pub(crate) fn wide(b: u16) -> u32
-    ensures { result ≡ b }
-{
-    b as u32
-}
-
 // The logical index of virtual block v, by the file's table.
 fn find(table: &[u16; 256], v: usize) -> Count
     requires { v < 256 }
     ensures { result ≡ found_at (get_or table.now v 0) }
 {
-    let b = wide(table[v]);
+    let b = u32::from(table[v]);
     if b == 0 {
         return crate::current::refused(Refusal::NotMapped);
     }

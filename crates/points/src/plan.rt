@@ -140,13 +140,11 @@ pub(crate) fn turned(write: Write, phase: Phase, position: u32, zeroing: u32, re
     ensures { result ≡ turned write phase position zeroing retries }
 {
     Write {
-        offset: write.offset,
-        size: write.size,
-        run: write.run,
         phase,
         position,
         zeroing,
         retries,
+        ..write
     }
 }
 
@@ -181,11 +179,7 @@ pub(crate) fn no_write() -> Write
 pub(crate) fn retried(write: Write) -> u16
     ensures { result ≡ retried write }
 {
-    if write.retries < 65535 {
-        write.retries + 1
-    } else {
-        65535
-    }
+    write.retries.saturating_add(1)
 }
 
 // The words of the run.
@@ -208,8 +202,8 @@ pub(crate) fn next_slot(at: Place) -> Place
     ensures { result ≡ next_slot at }
 {
     Place {
-        block: at.block,
         slot: at.slot + 1,
+        ..at
     }
 }
 

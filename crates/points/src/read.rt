@@ -20,25 +20,12 @@ fn byte(w: u64, j: u64) -> u8
     words::bytes::byte(w, j) as u8
 }
 
-fn least(a: usize, b: usize) -> usize
-    ensures { result ≡ min a b }
-{
-    if a < b { a } else { b }
-}
-
 // The eight bytes of a word go to the buffer from a place on.
 fn put_word(w: u64, buffer: &mut [u8], at: usize)
     requires { at + 8 ≤ length buffer.old }
     ensures { buffer.new ≡ sets buffer.old at (list_from 0 8 (byte_of w)) }
 {
-    buffer[at] = byte(w, 0);
-    buffer[at + 1] = byte(w, 1);
-    buffer[at + 2] = byte(w, 2);
-    buffer[at + 3] = byte(w, 3);
-    buffer[at + 4] = byte(w, 4);
-    buffer[at + 5] = byte(w, 5);
-    buffer[at + 6] = byte(w, 6);
-    buffer[at + 7] = byte(w, 7);
+    buffer[at..at + 8].copy_from_slice(&w.to_le_bytes());
 }
 
 // The bytes of a part's words go to the buffer's front. (One index for both, so that the loop becomes vectors.)
@@ -47,8 +34,8 @@ fn copy_words(part: &[u64], buffer: &mut [u8])
     ensures { buffer.new
         ≡ sets buffer.old 0 (list_from 0 (8 * length part.now) (byte_in part.now)) }
 {
-    for k in 0..part.len() {
-        put_word(part[k], buffer, 8 * k);
+    for (k, w) in part.iter().enumerate() {
+        put_word(*w, buffer, 8 * k);
     }
 }
 
@@ -71,9 +58,7 @@ pub(crate) fn clear(buffer: &mut [u8], at: usize, n: usize)
     requires { at + n ≤ length buffer.old }
     ensures { buffer.new ≡ sets buffer.old at (list_from 0 n (λ _. 0)) }
 {
-    for k in 0..n {
-        buffer[at + k] = 0;
-    }
+    buffer[at..at + n].fill(0);
 }
 
 // n bytes of a part go to the buffer from a place on: single bytes up to a word's start, whole words, and the bytes left.
@@ -81,7 +66,7 @@ fn copy(part: &[u64], from: usize, buffer: &mut [u8], at: usize, n: usize)
     requires { (from + n ≤ 8 * length part.now) × (at + n ≤ length buffer.old) }
     ensures { buffer.new ≡ sets buffer.old at (list_from from n (byte_in part.now)) }
 {
-    let head = least(words::offset::byte(8 - words::offset::byte(from)), n);
+    let head = words::offset::byte(8 - words::offset::byte(from)).min(n);
     let whole = words::offset::whole_words(n - head);
     let middle = 8 * whole;
     let first = words::offset::whole_words(from + head);
@@ -129,7 +114,7 @@ fn fill(image: &[u64], table: &[u16; 256], offset: usize, buffer: &mut [u8], n: 
         let p = offset + done;
         let b = crate::current::mapped(table, words::offset::block(p));
         let from = words::offset::in_block(p);
-        let count = least(n - done, 512 - from);
+        let count = (n - done).min(512 - from);
         copy_block(image, b, from, buffer, done, count);
         done += count;
     }
@@ -139,10 +124,7 @@ fn fill(image: &[u64], table: &[u16; 256], offset: usize, buffer: &mut [u8], n: 
 fn left(size: u32, offset: usize, room: usize) -> usize
     ensures { result ≡ min room (size - offset) }
 {
-    if size as usize <= offset {
-        return 0;
-    }
-    least(room, size as usize - offset)
+    room.min((size as usize).saturating_sub(offset))
 }
 
 // What is left of a file of this table and length from an offset on goes to the buffer's front; the count is answered.

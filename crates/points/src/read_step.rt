@@ -1,5 +1,5 @@
 // A step of a read: it copies a word of the file into the record's text, or it is the last, which catches up and answers the bytes, or begins again.
-ghost use Rattle.std.specs.Prelude.{◌≡◌, true, ◌++◌, ◌≤◌, ◌<◌, min, max, length, take, drop};
+ghost use Rattle.std.specs.Prelude.{◌≡◌, true, ◌++◌, ◌≤◌, ◌<◌, length, take, drop};
 ghost use Rattle.words.specs.Edition.{one};
 ghost use Rattle.words.specs.Memory.{memory};
 ghost use Rattle.block_log.specs.CatchUp.{ahead};
@@ -12,18 +12,6 @@ use crate::plan::Reports;
 use crate::{Head, LentStepped, Numbers, Phase, StepAnswer, Write};
 use block_log::{Place, Refusal};
 
-fn lesser(a: usize, b: usize) -> usize
-    ensures { result ≡ min a b }
-{
-    if a < b { a } else { b }
-}
-
-fn greater(a: usize, b: usize) -> usize
-    ensures { result ≡ max a b }
-{
-    if a < b { b } else { a }
-}
-
 // The bytes of the next word that lie in the range go to the text: from the word's block up to the record's length, and 0 after it.
 fn copy_word(image: &[u64], head: Head, table: &[u16; 256], text: &mut [u8; 1024])
     requires { TextFits head.write × (head.write.position < range_words head.write) }
@@ -33,9 +21,9 @@ fn copy_word(image: &[u64], head: Head, table: &[u16; 256], text: &mut [u8; 1024
     let write = head.write;
     let start = write.offset as usize;
     let at = 8 * (words::offset::whole_words(start) + write.position as usize);
-    let from = greater(start, at);
-    let to = lesser(start + write.size as usize, at + 8);
-    let end = greater(from, lesser(to, head.length as usize));
+    let from = start.max(at);
+    let to = (start + write.size as usize).min(at + 8);
+    let end = from.max(to.min(head.length as usize));
     let b = crate::current::mapped(table, words::offset::block(at));
     crate::read::copy_block(
         image,
@@ -100,9 +88,7 @@ fn hand_over(text: &[u8], bytes: &mut [u8], n: usize)
     requires { (n ≤ length text.now) × (n ≤ length bytes.old) }
     ensures { bytes.new ≡ take n text.now ++ drop n bytes.old }
 {
-    for i in 0..n {
-        bytes[i] = text[i];
-    }
+    bytes[..n].copy_from_slice(&text[..n]);
 }
 
 // The last step: the record catches up; then the copy begins again, or the bytes are answered and the point is idle.

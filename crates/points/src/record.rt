@@ -1,5 +1,5 @@
 // The tests that every later call begins with, reasons 10, 11 and 14; how many blocks a write spans and where it begins: each is total.
-ghost use Rattle.std.specs.Prelude.{◌≡◌, false, List, ℕ, ◌%◌, ◌<◌, max, ltb, length};
+ghost use Rattle.std.specs.Prelude.{◌≡◌, false, List, ℕ, ◌%◌, max, fold};
 ghost use Rattle.words.specs.Edition.{one, block_bytes};
 ghost use Rattle.words.specs.Logic.{between};
 ghost use Rattle.words.specs.Word.{bit};
@@ -62,92 +62,67 @@ pub fn is_joined(joined: u32, number: u32) -> bool
     (joined >> number) & 1 == 1
 }
 
-// A phase as a number, and back: numbers above 6 are no phase's, and stand for Idle.
-pub fn phase_number(phase: Phase) -> u32
-    ensures { result ≡ phase_number phase }
-{
-    match phase {
-        Phase::Idle => 0,
-        Phase::Filling => 1,
-        Phase::RefillFirst => 2,
-        Phase::RefillLast => 3,
-        Phase::RefillBoth => 4,
-        Phase::Zeroing => 5,
-        Phase::Reading => 6,
+// A phase as a number.
+impl From<Phase> for u32 {
+    ghost from_gives = { λ phase number. number ≡ phase_number phase };
+
+    fn from(phase: Phase) -> u32 {
+        match phase {
+            Phase::Idle => 0,
+            Phase::Filling => 1,
+            Phase::RefillFirst => 2,
+            Phase::RefillLast => 3,
+            Phase::RefillBoth => 4,
+            Phase::Zeroing => 5,
+            Phase::Reading => 6,
+        }
     }
 }
 
-pub fn phase_of(number: u32) -> Phase
-    ensures { result ≡ phase_of number }
-{
-    match number {
-        1 => Phase::Filling,
-        2 => Phase::RefillFirst,
-        3 => Phase::RefillLast,
-        4 => Phase::RefillBoth,
-        5 => Phase::Zeroing,
-        6 => Phase::Reading,
-        _ => Phase::Idle,
+// And back: numbers above 6 are no phase's, and stand for Idle.
+impl From<u32> for Phase {
+    ghost from_gives = { λ number phase. phase ≡ phase_of number };
+
+    fn from(number: u32) -> Phase {
+        match number {
+            1 => Phase::Filling,
+            2 => Phase::RefillFirst,
+            3 => Phase::RefillLast,
+            4 => Phase::RefillBoth,
+            5 => Phase::Zeroing,
+            6 => Phase::Reading,
+            _ => Phase::Idle,
+        }
     }
 }
 
-// Whether neither a write nor a read is under way.
-pub fn is_idle(phase: Phase) -> bool
-    ensures { result ≡ is_idle phase }
-{
-    match phase {
-        Phase::Idle => true,
-        Phase::Filling => false,
-        Phase::RefillFirst => false,
-        Phase::RefillLast => false,
-        Phase::RefillBoth => false,
-        Phase::Zeroing => false,
-        Phase::Reading => false,
+impl Phase {
+    // Whether neither a write nor a read is under way.
+    pub fn is_idle(self) -> bool
+        ensures { result ≡ is_idle self }
+    {
+        matches!(self, Phase::Idle)
     }
-}
 
-// Whether a log block is being zeroed.
-pub fn is_zeroing(phase: Phase) -> bool
-    ensures { result ≡ is_zeroing phase }
-{
-    match phase {
-        Phase::Idle => false,
-        Phase::Filling => false,
-        Phase::RefillFirst => false,
-        Phase::RefillLast => false,
-        Phase::RefillBoth => false,
-        Phase::Zeroing => true,
-        Phase::Reading => false,
+    // Whether a log block is being zeroed.
+    pub fn is_zeroing(self) -> bool
+        ensures { result ≡ is_zeroing self }
+    {
+        matches!(self, Phase::Zeroing)
     }
-}
 
-// Whether a read is under way.
-pub fn is_reading(phase: Phase) -> bool
-    ensures { result ≡ is_reading phase }
-{
-    match phase {
-        Phase::Idle => false,
-        Phase::Filling => false,
-        Phase::RefillFirst => false,
-        Phase::RefillLast => false,
-        Phase::RefillBoth => false,
-        Phase::Zeroing => false,
-        Phase::Reading => true,
+    // Whether a read is under way.
+    pub fn is_reading(self) -> bool
+        ensures { result ≡ is_reading self }
+    {
+        matches!(self, Phase::Reading)
     }
-}
 
-// Whether a write is under way.
-pub fn is_writing(phase: Phase) -> bool
-    ensures { result ≡ is_writing phase }
-{
-    match phase {
-        Phase::Idle => false,
-        Phase::Filling => true,
-        Phase::RefillFirst => true,
-        Phase::RefillLast => true,
-        Phase::RefillBoth => true,
-        Phase::Zeroing => true,
-        Phase::Reading => false,
+    // Whether a write is under way.
+    pub fn is_writing(self) -> bool
+        ensures { result ≡ is_writing self }
+    {
+        !matches!(self, Phase::Idle | Phase::Reading)
     }
 }
 
@@ -232,7 +207,7 @@ fn write_fits(blocks: u32, place: Place, write: Write) -> bool
     if !run {
         return false;
     }
-    if is_zeroing(phase) {
+    if phase.is_zeroing() {
         return zeroing_fits(blocks, place, write);
     }
     write.position <= crate::plan::run_words(write)
@@ -253,7 +228,7 @@ fn work_fits(blocks: u32, place: Place, write: Write) -> bool
     ensures { result ≡ work_fits one blocks place write }
 {
     let phase = write.phase;
-    if is_reading(phase) {
+    if phase.is_reading() {
         return range_fits(write);
     }
     write_fits(blocks, place, write)
@@ -266,28 +241,17 @@ pub fn head_fits(blocks: u32, head: Head) -> bool
     let ok = place_fits(blocks, head.place) & (head.length <= 131072);
     let write = head.write;
     let phase = write.phase;
-    if is_idle(phase) {
+    if phase.is_idle() {
         return ok;
     }
     ok & work_fits(blocks, head.place, write)
 }
 
-fn greater(a: u16, b: u16) -> u16
-    ensures { result ≡ max a b }
-{
-    if a < b { b } else { a }
-}
-
 // The greatest number of a table: the whole table is below what it is below. (A loop without branches, which becomes vectors.)
 fn greatest(table: &[u16]) -> u16
-    requires { 0 < length table.now }
-    ensures { (n : ℕ) → all_below n table.now ≡ ltb result n }
+    ensures { result ≡ fold max 0 table.now }
 {
-    let mut most = 0u16;
-    for i in 0..table.len() {
-        most = greater(most, table[i]);
-    }
-    most
+    table.iter().fold(0, |most, b| most.max(*b))
 }
 
 // Whether each entry of a record's table lies inside the image.
@@ -317,7 +281,7 @@ pub(crate) fn fits_unread(blocks: u32, head: Head, table: &[u16; 256]) -> bool
     }
     let write = head.write;
     let phase = write.phase;
-    if is_idle(phase) {
+    if phase.is_idle() {
         return true;
     }
     write_fits(blocks, head.place, write)

@@ -23,12 +23,8 @@ fn free_mapped_from(map: &mut [u64], table: &[u16; 256], v: usize, n: usize)
     requires { v + n ≤ 256 }
     ensures { map.new ≡ set_all false map.old (take n (drop v table.now)) }
 {
-    let mut at = v;
-    let mut left = n;
-    while 0 < left {
-        free_mapped(map, table[at]);
-        at += 1;
-        left -= 1;
+    for b in &table[v..v + n] {
+        free_mapped(map, *b);
     }
 }
 
@@ -58,11 +54,11 @@ pub(crate) fn free_held(map: &mut [u64], write: Write)
     ensures { map.new ≡ without_held one map.old write }
 {
     let phase = write.phase;
-    if !crate::record::is_writing(phase) {
+    if !phase.is_writing() {
         return;
     }
     free_run(map, write);
-    if crate::record::is_zeroing(phase) {
+    if phase.is_zeroing() {
         words::map::free_block(map, write.zeroing as usize);
     }
 }

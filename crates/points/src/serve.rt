@@ -1,5 +1,5 @@
 // Serving a list of points: what its batches are made of. A point is tested where its write begins; its words are filled by rows, found once for a block.
-ghost use Rattle.std.specs.Prelude.{◌≡◌, true, false, List, length, get_or, ℕ, ◌+◌, ◌*◌, ◌≤◌, ◌<◌, min};
+ghost use Rattle.std.specs.Prelude.{◌≡◌, true, false, List, length, get_or, ℕ, ◌+◌, ◌*◌, ◌≤◌, ◌<◌, Some};
 ghost use Rattle.words.specs.Edition.{one};
 ghost use Rattle.words.specs.Word.{byte_of};
 ghost use Rattle.words.specs.Memory.{memory, word_at};
@@ -26,18 +26,11 @@ pub struct Row {
     pub end: u32,
 }
 
-// What moving on by one entry leaves: whether it is done, and the point's numbers then.
+// What a row is to store next: word `next` of its run, and those after it.
 #[derive(Clone, Copy)]
-pub struct MovedByOne {
-    pub done: bool,
-    pub head: Head,
-}
-
-// What committing by the head leaves: whether it is done, and the point's numbers then.
-#[derive(Clone, Copy)]
-pub struct CommittedByHead {
-    pub done: bool,
-    pub head: Head,
+pub struct Due {
+    pub row: Row,
+    pub next: u32,
 }
 
 // The block that is mapped at a virtual block, 0 for none, also past the table.
@@ -45,16 +38,9 @@ fn mapped(table: &[u16; 256], v: usize) -> u32
     ensures { v < 256 → result ≡ get_or table.now v 0 }
 {
     if v < 256 {
-        return crate::locate::wide(table[v]);
+        return u32::from(table[v]);
     }
     0
-}
-
-// A size, or 1,024 where it is more than a text has.
-fn at_most_text(size: u32) -> u32
-    ensures { result ≡ min size text_max }
-{
-    if size < 1024 { size } else { 1024 }
 }
 
 // The row of the block of the run in which word k lies.
@@ -63,7 +49,7 @@ pub fn row_at(head: Head, table: &[u16; 256], k: u32) -> Row
 {
     let write = head.write;
     let lead = crate::record::lead(write);
-    let size = at_most_text(write.size);
+    let size = write.size.min(1024);
     let v = crate::record::run_first(write) as usize + words::offset::block(8 * k as usize);
     Row {
         run: write.run,
@@ -143,12 +129,8 @@ pub fn fill_words(
         return;
     }
     let row = row_at(head, table, k);
-    let mut i = k;
-    let mut left = m;
-    while 0 < left {
+    for i in k..k + m {
         put_row_word(image, row, text, i);
-        i += 1;
-        left -= 1;
     }
 }
 
@@ -190,77 +172,71 @@ fn put_next(image: &mut [u64], row: Row, text: &[u8; 1024], k: u32)
 }
 
 // A point's turn in round r: one store, behind branches of the word's own, so that stores stay single.
-fn fill_turn(image: &mut [u64], row: &[u32; 6], text: &[u8; 1024], r: u32, m: u32)
-    requires { RowFits (length image.old) m row.now × (r < m) }
-    ensures { image.new ≡ row_stored r row.now text.now image.old }
+fn fill_turn(image: &mut [u64], due: Option<Due>, text: &[u8; 1024], r: u32, m: u32)
+    requires { RowFits (length image.old) m due × (r < m) }
+    ensures { image.new ≡ row_stored r due text.now image.old }
 {
-    if row[5] != 0 {
-        let k = row[4] + r;
-        let row = Row {
-            run: row[0],
-            from: row[1],
-            lead: row[2],
-            end: row[3],
-        };
-        put_next(image, row, text, k);
+    if let Some(due) = due {
+        put_next(image, due.row, text, due.next + r);
     }
 }
 
 // Round r.
-fn fill_round(image: &mut [u64], rows: &[[u32; 6]], texts: &[[u8; 1024]], r: u32, m: u32)
+fn fill_round(image: &mut [u64], rows: &[Option<Due>], texts: &[[u8; 1024]], r: u32, m: u32)
     requires { RowsFit (length image.old) m rows.now texts.now × (r < m) }
     ensures { image.new ≡ round_stored r (length texts.now) rows.now texts.now image.old }
 {
-    for i in 0..texts.len() {
-        fill_turn(image, &rows[i], &texts[i], r, m);
+    for (due, text) in rows.iter().zip(texts) {
+        fill_turn(image, *due, text, r, m);
     }
 }
 
 // Whether so many words may be stored by a row.
-fn row_fits(size: usize, run: u32, from: u32, lead: u32, end: u32, k: u32, m: u32) -> bool
-    ensures { (result ≡ true → RowHolds size run from lead end k m) × (RowHolds size run from lead end k m → result ≡ true) }
+fn row_fits(size: usize, due: Due, m: u32) -> bool
+    ensures { (result ≡ true → RowHolds size due m) × (RowHolds size due m → result ≡ true) }
 {
-    if lead as u64 + 1024 < end as u64 {
+    let row = due.row;
+    if row.lead as u64 + 1024 < row.end as u64 {
         return false;
     }
-    if 192 < k as u64 + m as u64 {
+    if 192 < due.next as u64 + m as u64 {
         return false;
     }
-    if size < 64 * run as usize {
+    if size < 64 * row.run as usize {
         return false;
     }
-    64 * from as usize + 64 <= size
+    64 * row.from as usize + 64 <= size
 }
 
 // Whether they may where the row stores.
-fn fits(size: usize, row: &[u32; 6], m: u32) -> bool
-    ensures { (result ≡ true → RowFits size m row.now) × (RowFits size m row.now → result ≡ true) }
+fn fits(size: usize, due: Option<Due>, m: u32) -> bool
+    ensures { (result ≡ true → RowFits size m due) × (RowFits size m due → result ≡ true) }
 {
-    if row[5] == 0 {
-        return true;
+    match due {
+        Some(due) => row_fits(size, due, m),
+        None => true,
     }
-    row_fits(size, row[0], row[1], row[2], row[3], row[4], m)
 }
 
 // Whether they may by every row, and there is a row for each text.
-fn rows_fit(size: usize, rows: &[[u32; 6]], texts: &[[u8; 1024]], m: u32) -> bool
+fn rows_fit(size: usize, rows: &[Option<Due>], texts: &[[u8; 1024]], m: u32) -> bool
     ensures { (result ≡ true → RowsFit size m rows.now texts.now)
         × (RowsFit size m rows.now texts.now → result ≡ true) }
 {
     if rows.len() < texts.len() {
         return false;
     }
-    for i in 0..texts.len() {
-        if !fits(size, &rows[i], m) {
+    for due in &rows[..texts.len()] {
+        if !fits(size, *due, m) {
             return false;
         }
     }
     true
 }
 
-// m rounds in each of which every row stores its next word, in order; a row's numbers are `run`, `from`, `lead` and `end`, the next word, and 0 where it
-// stores nothing. Each row is tested once; where one does not fit nothing is stored.
-pub fn fill_rounds(image: &mut [u64], rows: &[[u32; 6]], texts: &[[u8; 1024]], m: u32)
+// m rounds in each of which every row stores its next word, in order; a row that is None stores nothing. Each row is tested once; where one does not fit
+// nothing is stored.
+pub fn fill_rounds(image: &mut [u64], rows: &[Option<Due>], texts: &[[u8; 1024]], m: u32)
     ensures { RowsFit (length image.old) m rows.now texts.now
         → image.new ≡ rounds_stored m (length texts.now) rows.now texts.now image.old }
 {
@@ -272,21 +248,6 @@ pub fn fill_rounds(image: &mut [u64], rows: &[[u32; 6]], texts: &[[u8; 1024]], m
     }
 }
 
-// Whether the phase is filling.
-fn is_filling(phase: Phase) -> bool
-    ensures { result ≡ true → phase ≡ Filling }
-{
-    match phase {
-        Phase::Idle => false,
-        Phase::Filling => true,
-        Phase::RefillFirst => false,
-        Phase::RefillLast => false,
-        Phase::RefillBoth => false,
-        Phase::Zeroing => false,
-        Phase::Reading => false,
-    }
-}
-
 // Whether a write has no word left to fill.
 fn has_filled(write: Write) -> bool
     ensures { result ≡ true → Filled one write }
@@ -295,22 +256,26 @@ fn has_filled(write: Write) -> bool
     if write.position != crate::plan::run_words(write) {
         return false;
     }
-    is_filling(phase)
+    matches!(phase, Phase::Filling)
 }
 
-// The word at a slot, where the next slot is empty; otherwise 0.
-fn word_alone(image: &[u64], place: Place) -> u64
-    ensures { (result ≡ 0 → ⊥) → Alone one (memory one image.now) place result }
+// The word at a slot, where it is not 0 and the next slot is empty.
+fn word_alone(image: &[u64], place: Place) -> Option<u64>
+    ensures { (e : ℕ) → result ≡ Some e → Alone one (memory one image.now) place e }
 {
     if 62 < place.slot {
-        return 0;
+        return None;
     }
     let slot = place.slot as usize;
     let part = words::image::block(image, place.block as usize);
-    if words::image::word(part, slot + 1) != 0 {
-        return 0;
+    let word = words::image::word(part, slot);
+    if word == 0 {
+        return None;
     }
-    words::image::word(part, slot)
+    if words::image::word(part, slot + 1) != 0 {
+        return None;
+    }
+    Some(word)
 }
 
 // Whether an entry keeps the rules, in an image of at most 1,024 blocks, and maps none of the write's.
@@ -331,18 +296,18 @@ fn passes(e: u64, blocks: u32, write: Write) -> bool
     v + block_log::count(e) <= first
 }
 
-// The entry at the log place that a point moves on by, 0 where there is none or more is to be looked at.
-fn entry_alone(image: &[u64], blocks: u32, head: Head) -> u64
-    ensures { (result ≡ 0 → ⊥) → Passes one (memory one image.now) blocks head result }
+// The entry at the log place that a point moves on by, where there is one and nothing more is to be looked at.
+fn entry_alone(image: &[u64], blocks: u32, head: Head) -> Option<u64>
+    ensures { (e : ℕ) → result ≡ Some e → Passes one (memory one image.now) blocks head e }
 {
     if !has_filled(head.write) {
-        return 0;
+        return None;
     }
-    let e = word_alone(image, head.place);
+    let e = word_alone(image, head.place)?;
     if !passes(e, blocks, head.write) {
-        return 0;
+        return None;
     }
-    e
+    Some(e)
 }
 
 // The blocks of an entry are mapped.
@@ -375,7 +340,7 @@ fn take_in(e: u64, table: &mut [u16; 256], length: u32) -> u32
         n as usize,
     );
     let end = (512 * (v + n - 1) + block_log::used(e)) as u32;
-    if length < end { end } else { length }
+    length.max(end)
 }
 
 // The head one slot on.
@@ -401,19 +366,13 @@ fn passing(head: Head, length: u32) -> Head
 }
 
 // A point that has filled its run moves on by one legal entry, where that is all that is ahead and maps none of the write's blocks: it is not looked at
-// whether the record fits. Otherwise nothing changes.
-pub fn move_by_one(image: &[u64], blocks: u32, head: Head, table: &mut [u16; 256]) -> MovedByOne
+// whether the record fits. Its numbers then; otherwise nothing changes.
+pub fn move_by_one(image: &[u64], blocks: u32, head: Head, table: &mut [u16; 256]) -> Option<Head>
     ensures { MovesByOne image.now blocks head table.old result table.new }
 {
-    let e = entry_alone(image, blocks, head);
-    if e == 0 {
-        return MovedByOne { done: false, head };
-    }
+    let e = entry_alone(image, blocks, head)?;
     let length = take_in(e, table, head.length);
-    MovedByOne {
-        done: true,
-        head: passing(head, length),
-    }
+    Some(passing(head, length))
 }
 
 // Whether the slot of a log place is there, and empty.
@@ -464,19 +423,20 @@ fn commits(image: &[u64], head: Head) -> bool
     is_enterable(head)
 }
 
-// A point that has filled its run commits, where the word at its log place is empty: it is not looked at whether the record fits. Otherwise nothing changes.
+// A point that has filled its run commits, where the word at its log place is empty: it is not looked at whether the record fits. Its numbers then;
+// otherwise nothing changes.
 pub fn commit_by_head(
     image: &mut [u64],
     taken: &mut [u64; 16],
     head: Head,
     table: &mut [u16; 256],
     text: &mut [u8; 1024],
-) -> CommittedByHead
+) -> Option<Head>
     ensures { CommitsByHead image.old taken.old head table.old text.old result
         image.new taken.new table.new text.new }
 {
     if !commits(image, head) {
-        return CommittedByHead { done: false, head };
+        return None;
     }
     let entry = crate::commit::entry_for(head);
     crate::release::free_replaced(taken, table, head.write);
@@ -485,8 +445,5 @@ pub fn commit_by_head(
     let place = head.place;
     words::image::store(image, place.block, place.slot as usize, entry);
     let idle = crate::plan::no_write();
-    CommittedByHead {
-        done: true,
-        head: crate::plan::head_of(head.number, length, crate::plan::next_slot(place), idle),
-    }
+    Some(crate::plan::head_of(head.number, length, crate::plan::next_slot(place), idle))
 }

@@ -15,21 +15,18 @@ use block_log::{Reply, Shared};
 pub(crate) fn with_joined(shared: Shared, joined: u32) -> Shared
     ensures { result ≡ with_joined shared joined }
 {
-    let mut s = shared;
-    s.joined = joined;
-    s
+    Shared { joined, ..shared }
 }
 
 // The shared record with another map.
 pub(crate) fn with_taken(shared: Shared, taken: [u64; 16]) -> Shared
     ensures { result ≡ with_taken shared taken }
 {
-    let mut s = shared;
-    s.taken = taken;
-    s
+    Shared { taken, ..shared }
 }
 
 // Another reported block for a point.
+// Stays: `get_mut` in place of the index and its test was tried: what a slice's element is after it no proof knows.
 pub fn report(reports: &mut [u32], number: u32, block: u32)
     ensures { reports.new ≡ set reports.old number block }
 {
@@ -43,11 +40,9 @@ pub fn report(reports: &mut [u32], number: u32, block: u32)
 pub(crate) fn reporting(shared: Shared, number: u32, block: u32) -> Shared
     ensures { result ≡ reporting shared number block }
 {
-    let mut s = shared;
     let mut reports = shared.reports;
     report(&mut reports, number, block);
-    s.reports = reports;
-    s
+    Shared { reports, ..shared }
 }
 
 // The shared record with one log block more in the chain.
@@ -55,9 +50,10 @@ fn lengthening(shared: Shared) -> Shared
     requires { shared.chain < 64 }
     ensures { result ≡ lengthening shared }
 {
-    let mut s = shared;
-    s.chain = shared.chain + 1;
-    s
+    Shared {
+        chain: shared.chain + 1,
+        ..shared
+    }
 }
 
 // The shared record after a beginning.

@@ -67,7 +67,7 @@ fn write_on<'a>(
 {
     let write = head.write;
     let phase = write.phase;
-    if crate::record::is_zeroing(phase) {
+    if phase.is_zeroing() {
         return crate::extend::extending(image, numbers.chain, head);
     }
     filling(image, numbers, taken, head, table, text)
@@ -91,7 +91,7 @@ fn settle<'a>(
     }
     let write = head.write;
     let phase = write.phase;
-    if crate::record::is_idle(phase) {
+    if phase.is_idle() {
         return crate::plan::refused(head, Refusal::WrongPhase);
     }
     write_on(image, numbers, taken, head, table, text)
@@ -212,7 +212,7 @@ pub fn step_lent(
 {
     let write = head.write;
     let phase = write.phase;
-    if crate::record::is_reading(phase) {
+    if phase.is_reading() {
         return crate::read_step::step(image, numbers, head, table, text, bytes);
     }
     write_lent(image, numbers, taken, head, table, text)

@@ -53,7 +53,7 @@ fn load_head(places: &Places, p: usize) -> Head
         offset: number(places, p, 5),
         size: number(places, p, 6),
         run: number(places, p, 7),
-        phase: points::record::phase_of(number(places, p, 4)),
+        phase: points::Phase::from(number(places, p, 4)),
         position: number(places, p, 8),
         zeroing: number(places, p, 9),
         retries: low16(number(places, p, 10)),
@@ -104,7 +104,7 @@ fn save_write(places: &mut Places, p: usize, write: Write)
     requires { p < 32 }
 {
     let phase = write.phase;
-    set_number(places, p, 4, points::record::phase_number(phase));
+    set_number(places, p, 4, u32::from(phase));
     set_number(places, p, 5, write.offset);
     set_number(places, p, 6, write.size);
     set_number(places, p, 7, write.run);

@@ -11,7 +11,7 @@ returns-then-not-goes_on c = record { on = λ g. absurd (no_true g (tests-none c
 pub returns-then-head-eq5 : goal.returns-then-head-eq5
 returns-then-head-eq5 c = let a = c.args in
     record {
-      on = λ g. zero_row a.head.now a.table.now c.if-head-eq5.true;
+      on = λ g. (_, refl, zero_row a.head.now a.table.now c.if-head-eq5.true);
       off = λ g. absurd (no_true (tests-known c.goes_on.ensures c.if-not-goes_on.false-raw) g);
     }
 
@@ -22,6 +22,6 @@ pub returns : goal.returns
 returns c = let y = c.row_at-row in
     let a = c.args in
     record {
-      on = λ g. fill-row _ a.head.now a.table.now y.result c.head-known.ensures y.ensures.0 c.if-head-eq5.false;
+      on = λ g. (_, refl, fill-row _ a.head.now a.table.now y.result c.head-known.ensures y.ensures.0 c.if-head-eq5.false);
       off = λ g. absurd (no_true (tests-known c.goes_on.ensures c.if-not-goes_on.false-raw) g);
     }

@@ -12,4 +12,4 @@ overflow_cast-result c = let xs = c.args.numbers.now in
     record { fits = omega (arith, l) }
 
 pub returns : goal.returns
-returns c = rw c.phase_of.ensures
+returns c = rw c.from.ensures

@@ -2,4 +2,4 @@
 use Rattle.c_lent.proofs.numbers.of_head.Goals as goal
 
 pub returns : goal.returns
-returns c = rw c.phase_number.ensures
+returns c = rw c.from.ensures

@@ -9,4 +9,4 @@ returns-then-from-lead c = let a = c.args in first-here one a.write a.from (omeg
 
 pub returns : goal.returns
 returns c = let a = c.args in
-    first-behind one a.write a.from c.greater.result (omega arith) (omega arith)
+    first-behind one a.write a.from c.max.result (omega arith) (omega arith)

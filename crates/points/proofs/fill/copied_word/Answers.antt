@@ -10,14 +10,14 @@ use Rattle.points.proofs.fill.copied_word.Goals as goal
 
 pub returns-then-b-eq0 : goal.returns-then-b-eq0
 returns-then-b-eq0 c j l = let a = c.args in
-    let z : get_or a.table.now a.v 0 ≡ 0 = sym c.index-b.ensures ∙ c.if-b-eq0.true in
+    let z : get_or a.table.now a.v 0 ≡ 0 = sym c.from-b.ensures ∙ c.if-b-eq0.true in
     rw z (mapped-none (memory one a.image.now) (8 * a.i + j) j)
 
 pub returns : goal.returns
-returns c j l = let index = c.index-b in
+returns c j l = let block = c.from-b in
     let if1 = c.if-b-eq0 in
     let a = c.args in
-    let b = index.result in
+    let b = block.result in
     let e : c.word.result ≡ word_at (memory one a.image.now) b a.i =
     c.word.ensures ∙ ap (λ (part : List ℕ). get_or part a.i 0) c.block.ensures in
-    rw (e, ← index.ensures) (mapped-word (memory one a.image.now) b a.i j if1.false l)
+    rw (e, ← block.ensures) (mapped-word (memory one a.image.now) b a.i j if1.false l)

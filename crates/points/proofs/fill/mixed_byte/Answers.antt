@@ -21,4 +21,4 @@ returns-then-end-p c = let a = c.args in
 
 pub returns : goal.returns
 returns c = let a = c.args in
-    (c.wide.ensures.0 ∙ sym (mixed-text a.copied a.text.now a.lead a.end a.at a.p (omega arith) (omega arith)), c.wide.ensures.1)
+    (c.from.ensures ∙ sym (mixed-text a.copied a.text.now a.lead a.end a.at a.p (omega arith) (omega arith)), omega arith)

@@ -4,7 +4,7 @@ use Rattle.points.proofs.ReadAnswers.{found_none, found_some}
 use Rattle.points.proofs.locate.find.Goals as goal
 
 pub returns-then-b-eq0 : goal.returns-then-b-eq0
-returns-then-b-eq0 c = c.refused.ensures ∙ found_none _ _ c.wide-b.ensures c.if-b-eq0.true
+returns-then-b-eq0 c = c.refused.ensures ∙ found_none _ _ c.from-b.ensures c.if-b-eq0.true
 
 pub returns : goal.returns
-returns c = c.counted.ensures ∙ found_some _ _ c.wide-b.ensures c.if-b-eq0.false
+returns c = c.counted.ensures ∙ found_some _ _ c.from-b.ensures c.if-b-eq0.false

@@ -1,20 +1,18 @@
-use mathlib.Core.Path.{refl}
+-- `points::read::clear` meets its contract: a part is filled. Assumes nothing.
+use Prim.Native.Nat.{ℕ, ◌+◌, ◌-◌, ◌≤◌}
+use mathlib.Core.Path.{ap, ◌∙◌}
+use mathlib.Core.List.{List}
 use native.Mathlib.Omega.{arith}
-use Rattle.points.proofs.Copied.{copied_none, copied_more, copied_all}
+use lib.ListN.{length, replicate}
+use lib.Seq.{sets}
+use Rattle.points.proofs.Copied.{part-put, part-length, zeros-list}
 use Rattle.points.proofs.read.clear.Goals as goal
-
-pub loop-k-init : goal.loop-k-init
-loop-k-init c = let a = c.args in copied_none (λ _. 0) a.buffer.now a.at 0 a.n
-
-pub loop-k-preserved : goal.loop-k-preserved
-loop-k-preserved c = let a = c.args in
-    let l = c.loop-k in
-    copied_more (λ _. 0) a.buffer.now a.at 0 a.n l.buffer l.k l.invariant _ 1 (omega arith) refl
-
-pub shape_of-buffer : goal.shape_of-buffer
-shape_of-buffer c = c.loop-k.invariant.same
 
 pub returns : goal.returns
 returns c = let a = c.args in
-    let l = c.loop-k in
-    copied_all (λ _. 0) a.buffer.now a.at 0 a.n l.buffer l.k l.invariant (omega arith)
+    let r = c.requires in
+    let few : a.at + (a.at + a.n - a.at) ≤ length a.buffer.now = omega (arith, r) in
+    let size = part-length a.at (a.at + a.n - a.at) a.buffer.now few in
+    part-put a.at (a.at + a.n - a.at) a.buffer.now c.fill.new.self (c.fill.ensures.len ∙ size) few
+    ∙ ap (λ (xs : List ℕ). sets a.buffer.now a.at xs)
+    (c.fill.ensures.after (λ y e. cc) ∙ ap (λ (n : ℕ). replicate {A = ℕ} n 0) (size ∙ omega arith) ∙ zeros-list a.n 0)

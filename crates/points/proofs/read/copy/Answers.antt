@@ -7,7 +7,7 @@ use Rattle.points.proofs.read.copy.Goals as goal
 
 pub copy_words-requires : goal.copy_words-requires
 copy_words-requires c = let a = c.args in
-    let h = c.least-head.result in
+    let h = c.min-head.result in
     let w = c.whole_words-whole.result in
     let i = c.whole_words-first.result in
     words-fit a.part.now c.copy_bytes.new.buffer (a.at + h) i w (i + w - i) (omega (arith, c.requires.0)) (omega arith)
@@ -15,7 +15,7 @@ copy_words-requires c = let a = c.args in
 
 pub returns : goal.returns
 returns c = let a = c.args in
-    let h = c.least-head.result in
+    let h = c.min-head.result in
     let w = c.whole_words-whole.result in
     let i = c.whole_words-first.result in
     let f = byte_in a.part.now in

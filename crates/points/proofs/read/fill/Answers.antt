@@ -19,7 +19,7 @@ copy_block-requires c = (omega arith, omega arith)
 pub loop-done-preserved : goal.loop-done-preserved
 loop-done-preserved c = let a = c.args in
     let l = c.loop-done in
-    let n = c.least-count.result in
+    let n = c.min-count.result in
     let p = a.offset + l.done in
     let f : Mapped = record { table = a.table.now; size = 0 } in
     let z : 0 + l.done ≡ l.done = omega arith in

@@ -9,26 +9,26 @@ use Rattle.points.specs.Record.{file_at}
 use Rattle.points.specs.ReadSteps.{copy_at, copy_from, copy_to}
 use Rattle.points.proofs.ReadWords.{Word, word-lies, word_piece, word-front, word_back, word_copied}
 use Rattle.points.proofs.read_step.copy_word.Goals as goal
-use Rattle.points.proofs.read_step.copy_word.Goals.{After-block, After-greater-from, After-lesser-to}
+use Rattle.points.proofs.read_step.copy_word.Goals.{After-block, After-max-from, After-min-to}
 
 -- the word's first byte in the range, the one after its last, and its block, in the definition's words
-is-from : (c : After-greater-from) → c.greater-from.result ≡ copy_from c.args.head.write
-is-from c = rw c.whole_words.ensures at c.greater-from.ensures
+is-from : (c : After-max-from) → c.max-from.result ≡ copy_from c.args.head.write
+is-from c = rw c.whole_words.ensures at c.max-from.ensures
 
-is-to : (c : After-lesser-to) → c.lesser-to.result ≡ copy_to c.args.head.write
-is-to c = rw c.whole_words.ensures at c.lesser-to.ensures
+is-to : (c : After-min-to) → c.min-to.result ≡ copy_to c.args.head.write
+is-to c = rw c.whole_words.ensures at c.min-to.ensures
 
 is_block : (c : After-block) → c.block.result ≡ copy_at c.args.head.write / block_bytes one
 is_block c = rw c.whole_words.ensures at c.block.ensures
 
 -- the bytes of the word
 lain : (c : After-block) → let a = c.args in
-    Word (block_bytes one) a.head.write.offset a.head.write.size c.greater-from.result c.greater-end.result c.lesser-to.result
+    Word (block_bytes one) a.head.write.offset a.head.write.size c.max-from.result c.max-end.result c.min-to.result
     c.block.result
 lain c =
     let a = c.args in
-    word-lies one a.head.write a.head.length _ _ _ _ _ c.requires.0.0 c.requires.1 (rw c.whole_words.ensures at c.greater-from.ensures) (rw c.whole_words.ensures at c.lesser-to.ensures)
-    c.lesser.ensures c.greater-end.ensures (is_block c)
+    word-lies one a.head.write a.head.length _ _ _ _ _ c.requires.0.0 c.requires.1 (rw c.whole_words.ensures at c.max-from.ensures) (rw c.whole_words.ensures at c.min-to.ensures)
+    c.min.ensures c.max-end.ensures (is_block c)
 
 pub copy_block-requires : goal.copy_block-requires
 copy_block-requires c = let k = lain (goal.at.copy_block-requires c).After-block in
@@ -46,5 +46,5 @@ clear-requires c = let k = lain (goal.at.clear-requires c).After-block in
 pub returns : goal.returns
 returns c = let a = c.args in
     word_copied one (memory one a.image.now) (file_at a.head a.table.now) a.head.write a.text.now _ _ _ _ _ _ _ _ _
-    (is-from (goal.at.returns c).After-greater-from) (is-to (goal.at.returns c).After-lesser-to) c.lesser.ensures c.greater-end.ensures (lain (goal.at.returns c).After-block)
+    (is-from (goal.at.returns c).After-max-from) (is-to (goal.at.returns c).After-min-to) c.min.ensures c.max-end.ensures (lain (goal.at.returns c).After-block)
     c.in_block.ensures c.mapped-b.ensures c.copy_block.ensures c.clear.ensures

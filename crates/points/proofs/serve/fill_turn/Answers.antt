@@ -1,22 +1,11 @@
 -- `points::serve::fill_turn`: the row stores its word, or nothing.
 use mathlib.Core.Path.{sym, ◌∙◌}
-use native.Mathlib.Omega.{arith}
 use Rattle.points.proofs.Rows.{stored_on, stored-off}
 use Rattle.points.proofs.serve.fill_turn.Goals as goal
 
-pub overflow_add-k : goal.overflow_add-k
-overflow_add-k c = let p = c.requires in
-    let h = p.0 c.if-row-ne0.true in
-    omega (arith, h.1, p.1)
+pub returns-in-Some : goal.returns-in-Some
+returns-in-Some c = let a = c.args in
+    c.put_next.ensures ∙ sym (stored_on a.r c.in-Some.due a.due a.text.now a.image.now c.in-Some.is)
 
-pub put_next-requires : goal.put_next-requires
-put_next-requires c = let p = c.requires in
-    let h = p.0 c.if-row-ne0.true in
-    ((h.0, omega (arith, h.1, p.1)), h.2, h.3)
-
-pub returns-then-row-ne0 : goal.returns-then-row-ne0
-returns-then-row-ne0 c = let a = c.args in
-    c.put_next.ensures ∙ sym (stored_on a.r a.row.now a.text.now a.image.now c.if-row-ne0.true)
-
-pub returns-else-row-ne0 : goal.returns-else-row-ne0
-returns-else-row-ne0 c = let a = c.args in sym (stored-off a.r a.row.now a.text.now a.image.now c.if-row-ne0.false)
+pub returns-in_default : goal.returns-in_default
+returns-in_default c = let a = c.args in sym (stored-off a.r a.due a.text.now a.image.now c.in_default.is)

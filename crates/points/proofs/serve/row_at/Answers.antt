@@ -5,8 +5,8 @@ use Rattle.points.proofs.serve.row_at.Goals as goal
 
 pub returns : goal.returns
 returns c = let a = c.args in (
-  row_is a.head a.table.now a.k c.mapped.result c.lead-lead.result c.at_most_text-size.result c.run_first.result
-      c.block.result c.lead-lead.ensures c.at_most_text-size.ensures c.run_first.ensures c.block.ensures
+  row_is a.head a.table.now a.k c.mapped.result c.lead-lead.result c.min-size.result c.run_first.result
+      c.block.result c.lead-lead.ensures c.min-size.ensures c.run_first.ensures c.block.ensures
       c.mapped.ensures,
   omega arith,
 )

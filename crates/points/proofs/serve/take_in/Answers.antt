@@ -17,8 +17,5 @@ taken c size l =
     taken_in a.table.now c.map_run.new.table a.length size a.e c.first_virtual-v.result c.first_block.result
     c.count-n.result c.map_run.ensures c.first_virtual-v.ensures.0 c.first_block.ensures.0 c.count-n.ensures l
 
-pub returns-then-length-end : goal.returns-then-length-end
-returns-then-length-end c = taken (goal.at.returns-then-length-end c).After-used _ (omega arith)
-
-pub returns-else-length-end : goal.returns-else-length-end
-returns-else-length-end c = taken (goal.at.returns-else-length-end c).After-used _ (omega arith)
+pub returns : goal.returns
+returns c = taken (goal.at.returns c).After-used _ (omega (arith, c.max.ensures))
