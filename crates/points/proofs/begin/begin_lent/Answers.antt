@@ -47,4 +47,4 @@ returns c reports known = let q = c.settle_write-start in
     begin-done one a.image.now (shared_of a.numbers a.taken.now reports) (point_of a.head a.table.now a.text.now) a.offset a.bytes.now r
     _ _ _ _ _ _ _ _ ((q.ensures reports known).tail z) ((q.ensures reports known).found z) (c.catch_up-length.ensures r.few r.sound)
     c.put_text.ensures (rw c.new_write.ensures at c.head_of.ensures)
-    c.span-span.ensures (ap (λ (map : List ℕ). reporting_place c.head_of.result (shared_of a.numbers map reports)) c.take_run.ensures)
+    c.span-span.ensures (ap (λ (map : List ℕ). reporting_place c.head_of.result (shared_of a.numbers map reports)) c.set_run.ensures)
