@@ -69,7 +69,7 @@ fn take_chain(image: &[u64], map: &mut [u64])
         if b == 0 {
             return;
         }
-        words::map::take_block(map, b as usize);
+        words::map::set_block(map, b as usize, true);
         b = crate::links::next_index(image, b);
         left -= 1;
     }
@@ -83,7 +83,7 @@ fn take_one(map: &mut [u64], b: usize) -> bool
         return false;
     }
     let met = words::map::is_taken(map, b);
-    words::map::take_block(map, b);
+    words::map::set_block(map, b, true);
     met
 }
 
@@ -113,7 +113,7 @@ fn take_all(image: &[u64], table: &[u16; 256]) -> Taken
     ensures { TakesAll image.now table.now result.map result.met }
 {
     let mut map = [0u64; 16];
-    words::map::take_block(&mut map, 0);
+    words::map::set_block(&mut map, 0, true);
     take_chain(image, &mut map);
     let met = take_live(table, &mut map);
     Taken { map, met }

@@ -103,7 +103,7 @@ fn inspect_blocks(image: &[u64], room: usize, number: u32) -> Inspected
     let mut table = [0u16; 256];
     let length = read::replay(&entries, n, &mut table);
     let mut taken = logs;
-    words::map::take_block(&mut taken, 0);
+    words::map::set_block(&mut taken, 0, true);
     read::take_rows(&table, &mut taken);
     let mut uses = [0u8; 1024];
     read::mark_uses(&logs, &taken, &mut uses);

@@ -49,7 +49,7 @@ pub(crate) fn read_chain(image: &[u64], blocks: u64, chain: &mut [u16; 64]) -> C
             return Chained { count, map };
         }
         chain[count] = b as u16;
-        words::map::take_block(&mut map, b as usize);
+        words::map::set_block(&mut map, b as usize, true);
         b = block_log::links::next_index(image, b);
         count += 1;
     }
@@ -155,7 +155,7 @@ pub(crate) fn mark_overruled(entries: &[u64; 3968], n: usize, marks: &mut [u64; 
         let v = block_log::first_virtual(e) as usize;
         let count = block_log::count(e) as usize;
         marks[j] = bits_of(&later, v, count);
-        words::map::take_run(&mut later, v, count);
+        words::map::set_run(&mut later, v, count, true);
     }
 }
 
@@ -166,7 +166,7 @@ pub(crate) fn take_one(map: &mut [u64; 16], b: usize)
     if b == 0 {
         return;
     }
-    words::map::take_block(map, b);
+    words::map::set_block(map, b, true);
 }
 
 // The blocks of a table become taken.

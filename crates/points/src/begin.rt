@@ -138,7 +138,7 @@ pub fn begin_lent(
     let at = offset as u32;
     let size = bytes.len() as u32;
     let span = crate::record::span(at, size);
-    words::map::take_run(taken, start.run as usize, span as usize);
+    words::map::set_run(taken, start.run as usize, span as usize, true);
     LentBegun {
         reply: Ok(()),
         head: crate::plan::head_of(

@@ -14,7 +14,7 @@ fn free_mapped(map: &mut [u64], b: u16)
     ensures { map.new ≡ set_all false map.old (b ∷ []) }
 {
     if b != 0 {
-        words::map::free_block(map, b as usize);
+        words::map::set_block(map, b as usize, false);
     }
 }
 
@@ -42,10 +42,11 @@ pub(crate) fn free_replaced(map: &mut [u64], table: &[u16; 256], write: Write)
 fn free_run(map: &mut [u64], write: Write)
     ensures { map.new ≡ without_run one map.old write }
 {
-    words::map::free_run(
+    words::map::set_run(
         map,
         write.run as usize,
         crate::record::span(write.offset, write.size) as usize,
+        false,
     );
 }
 
@@ -59,7 +60,7 @@ pub(crate) fn free_held(map: &mut [u64], write: Write)
     }
     free_run(map, write);
     if phase.is_zeroing() {
-        words::map::free_block(map, write.zeroing as usize);
+        words::map::set_block(map, write.zeroing as usize, false);
     }
 }
 
@@ -72,6 +73,6 @@ pub(crate) fn release(taken: &mut [u64; 16], frees: Frees, write: Write, table: 
         Frees::NoBlock => {}
         Frees::Held => free_held(taken, write),
         Frees::Replaced => free_replaced(taken, table, write),
-        Frees::Zeroed => words::map::free_block(taken, write.zeroing as usize),
+        Frees::Zeroed => words::map::set_block(taken, write.zeroing as usize, false),
     }
 }

@@ -136,6 +136,6 @@ pub(crate) fn take_one(taken: &mut [u64; 16], b: u32)
     ensures { taken.new ≡ set_all true taken.old (b ∷ []) }
 {
     if b != 0 {
-        words::map::take_block(taken, b as usize);
+        words::map::set_block(taken, b as usize, true);
     }
 }

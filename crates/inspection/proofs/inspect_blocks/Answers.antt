@@ -58,7 +58,7 @@ pub overflow_cast-found-2 : goal.overflow_cast-found-2
 overflow_cast-found-2 c = omega (arith, entries-few (all (goal.at.overflow_cast-found-2 c).After-replay-length))
 
 pub slice_bounds-free_count-end : goal.slice_bounds-free_count-end
-slice_bounds-free_count-end c = sym (ap length c.take_rows.ensures ∙ length-set_all true _ _ ∙ ap length c.take_block.ensures ∙ length-set_block true _ _ ∙ map-wide (all (goal.at.slice_bounds-free_count-end c).After-replay-length))
+slice_bounds-free_count-end c = sym (ap length c.take_rows.ensures ∙ length-set_all true _ _ ∙ ap length c.set_block.ensures ∙ length-set_block true _ _ ∙ map-wide (all (goal.at.slice_bounds-free_count-end c).After-replay-length))
 
 pub overflow_cast-found-3 : goal.overflow_cast-found-3
 overflow_cast-found-3 c = let f = c.free_count.ensures in
@@ -73,7 +73,7 @@ overflow_cast-found-4 c = omega (arith, c.longest_free.ensures.1, c.whole_blocks
 pub returns : goal.returns
 returns c = let g = all (goal.at.returns c).After-replay-length in
     let blocks = c.whole_blocks-blocks in
-    let map = c.take_rows.ensures ∙ ap (λ (m : List ℕ). set_all true m c.replay-length.new.table) c.take_block.ensures in
+    let map = c.take_rows.ensures ∙ ap (λ (m : List ℕ). set_all true m c.replay-length.new.table) c.set_block.ensures in
     let logs = c.read_chain-chained.result.map in
     rw c.first_fault-fault.ensures (answers g blocks.result blocks.ensures _ _ _ _ _ c.mark_overruled.ensures
     (c.mark_uses.ensures ∙ ap (λ (m : List ℕ). list_from 0 1024 (use_in logs m)) map)

@@ -23,7 +23,7 @@ returns-then-b-eq0 c = let a = c.args in
 pub loop-left-preserved : goal.loop-left-preserved
 loop-left-preserved c = let a = c.args in
     let l = c.loop-left in
-    let k = c.take_block in
+    let k = c.set_block in
     rw (c.next_index-b.ensures, k.ensures) (
       length-set_block true l.map l.b ∙ l.invariant.0,
       l.invariant.1

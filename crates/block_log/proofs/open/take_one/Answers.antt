@@ -7,4 +7,4 @@ returns-then-b-eq0 c = let a = c.args in one_none a.map.now a.b c.if-b-eq0.true
 
 pub returns : goal.returns
 returns c = let a = c.args in
-    one-some a.map.now _ a.b c.is_taken-met.result c.if-b-eq0.false c.is_taken-met.ensures c.take_block.ensures
+    one-some a.map.now _ a.b c.is_taken-met.result c.if-b-eq0.false c.is_taken-met.ensures c.set_block.ensures

@@ -16,8 +16,8 @@ bits_of-requires c = let l = c.loop-j in
     let v = valid-at a.entries.now a.n (l.j - 1) (omega (arith, l.invariant.low)) (omega (arith, l.invariant.low)) c.requires.1 in
     (omega (arith, c.count-count.ensures, v.few), omega (arith, c.first_virtual-v.ensures.1))
 
-pub slice_bounds-take_run-end : goal.slice_bounds-take_run-end
-slice_bounds-take_run-end c = let l = c.loop-j in sym l.invariant.map
+pub slice_bounds-set_run-end : goal.slice_bounds-set_run-end
+slice_bounds-set_run-end c = let l = c.loop-j in sym l.invariant.map
 
 pub loop-j-preserved : goal.loop-j-preserved
 loop-j-preserved c = let l = c.loop-j in
@@ -27,7 +27,7 @@ loop-j-preserved c = let l = c.loop-j in
     let v = valid-at a.entries.now a.n (l.j - 1) (omega (arith, l.invariant.low)) (omega (arith, l.invariant.low)) c.requires.1 in
     mark-again l.invariant le lb c.loop-j-test.true _ _ (omega (arith, v.virtual))
     (rw (c.first_virtual-v.ensures.0, c.count-count.ensures) at c.bits_of.ensures)
-    (rw (c.first_virtual-v.ensures.0, c.count-count.ensures) at c.take_run.ensures)
+    (rw (c.first_virtual-v.ensures.0, c.count-count.ensures) at c.set_run.ensures)
 
 pub returns : goal.returns
 returns c = let a = c.args in

@@ -14,12 +14,12 @@ pub overflow_cast-chain : goal.overflow_cast-chain
 overflow_cast-chain c = let l = c.loop-count in
     omega (arith, (index-inside l.invariant c.stops_at.ensures c.if-stops_at.false).1)
 
-pub slice_bounds-take_block-end : goal.slice_bounds-take_block-end
-slice_bounds-take_block-end c = let l = c.loop-count in sym (map-sized l.invariant)
+pub slice_bounds-set_block-end : goal.slice_bounds-set_block-end
+slice_bounds-set_block-end c = let l = c.loop-count in sym (map-sized l.invariant)
 
 pub loop-count-preserved : goal.loop-count-preserved
 loop-count-preserved c = let l = c.loop-count in
-    read_again l.invariant c.stops_at.ensures c.requires c.loop-count-test.true c.if-stops_at.false _ _ c.take_block.ensures
+    read_again l.invariant c.stops_at.ensures c.requires c.loop-count-test.true c.if-stops_at.false _ _ c.set_block.ensures
     c.next_index-b.ensures
 
 pub returns : goal.returns

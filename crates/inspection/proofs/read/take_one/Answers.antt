@@ -8,4 +8,4 @@ returns-then-b-eq0 c = let a = c.args in (one_none a.map.now a.b c.if-b-eq0.true
 
 pub returns : goal.returns
 returns c = let a = c.args in
-    (one-some a.map.now _ a.b _ c.if-b-eq0.false refl c.take_block.ensures).0
+    (one-some a.map.now _ a.b _ c.if-b-eq0.false refl c.set_block.ensures).0

@@ -51,4 +51,4 @@ returns c reports known = let q = c.settle_write.ensures reports known in
     begin-done one a.image.now (shared_of a.numbers a.taken.now reports) (point_of a.head a.table.now a.text.now) a.offset a.bytes.now r
     _ _ _ _ _ _ _ _ (IfOk-at_ok (λ start. start.place ≡ place_after (ahead one (memory one I) a.numbers.blocks a.head.place)) c.in-Ok.is q.tail) (IfOk-at_ok (λ start. start.run ≡ search (shared_of a.numbers a.taken.now reports) (span one a.offset (length a.bytes.now))) c.in-Ok.is q.found) (c.catch_up-length.ensures r.few r.sound)
     c.put_text.ensures (rw c.new_write.ensures at c.head_of.ensures)
-    c.span-span.ensures (ap (λ (map : List ℕ). reporting_place c.head_of.result (shared_of a.numbers map reports)) c.take_run.ensures)
+    c.span-span.ensures (ap (λ (map : List ℕ). reporting_place c.head_of.result (shared_of a.numbers map reports)) c.set_run.ensures)

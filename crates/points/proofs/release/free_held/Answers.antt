@@ -18,7 +18,7 @@ returns-then-not-is_writing c = let a = c.args in held_none one a.map.now a.writ
 pub returns-then-is_zeroing : goal.returns-then-is_zeroing
 returns-then-is_zeroing c = let a = c.args in
     held_both one a.map.now a.write (busy (goal.at.returns-then-is_zeroing c).Else-not-is_writing) _ c.free_run.ensures _
-    (sym c.is_zeroing.ensures ∙ c.if-is_zeroing.true) c.free_block.ensures
+    (sym c.is_zeroing.ensures ∙ c.if-is_zeroing.true) c.set_block.ensures
 
 pub returns-else-is_zeroing : goal.returns-else-is_zeroing
 returns-else-is_zeroing c = let a = c.args in

@@ -6,7 +6,7 @@ use Rattle.points.proofs.release.free_mapped.Goals as goal
 pub returns-then-b-ne0 : goal.returns-then-b-ne0
 returns-then-b-ne0 c = let args = c.args in
     let if1 = c.if-b-ne0 in
-    let free-block = c.free_block in
+    let free-block = c.set_block in
     free-block.ensures ∙ free_one args.map.now args.b if1.true
 
 pub returns-else-b-ne0 : goal.returns-else-b-ne0

@@ -4,4 +4,4 @@ use Rattle.points.proofs.release.free_run.Goals as goal
 
 pub returns : goal.returns
 unfolding without_run
-returns c = rw c.span.ensures at c.free_run.ensures
+returns c = rw c.span.ensures at c.set_run.ensures

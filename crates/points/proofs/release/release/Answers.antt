@@ -19,4 +19,4 @@ returns-in-Replaced c = rw c.in-Replaced.is c.free_replaced.ensures
 
 pub returns-in-Zeroed : goal.returns-in-Zeroed
 unfolding freed
-returns-in-Zeroed c = rw c.in-Zeroed.is c.free_block.ensures
+returns-in-Zeroed c = rw c.in-Zeroed.is c.set_block.ensures

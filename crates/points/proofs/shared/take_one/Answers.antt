@@ -8,7 +8,7 @@ use Rattle.points.proofs.shared.take_one.Goals as goal
 pub returns-then-b-ne0 : goal.returns-then-b-ne0
 unfolding set_all
 returns-then-b-ne0 c = let a = c.args in
-    c.take_block.ensures ∙ sym (set_all-next a.taken.now a.b [] c.if-b-ne0.true)
+    c.set_block.ensures ∙ sym (set_all-next a.taken.now a.b [] c.if-b-ne0.true)
 
 pub returns-else-b-ne0 : goal.returns-else-b-ne0
 unfolding set_all

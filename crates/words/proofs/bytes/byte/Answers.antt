@@ -3,7 +3,6 @@ use mathlib.Core.Path.{ap, sym}
 use Prim.Native.Nat.{ℕ, ◌*◌, ◌%◌, ◌^◌, ◌<◌}
 use native.Mathlib.Nat.{div-eq_of_lt, lt_of_lt_of_le}
 use native.Mathlib.Omega.{arith}
-use lib.Bits.{and_mask}
 use lib.Pow.{pow_mono}
 use Rattle.words.proofs.bytes.byte.Goals as goal
 
@@ -12,6 +11,3 @@ returns-then-j-gt7 c = let w = c.args.w in
     let j = c.args.j in
     let l : w < 2 ^ (8 * j) = lt_of_lt_of_le {m = 2 ^ 64} (omega arith) (pow_mono {i = 64} (omega arith)) in
     sym (ap (λ (x : ℕ). x % 2 ^ 8) (div-eq_of_lt l))
-
-pub returns : goal.returns
-returns c = and_mask _ 8

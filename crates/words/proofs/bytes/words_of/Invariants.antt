@@ -1,13 +1,9 @@
 -- After i words the first i are those that the bytes make, and the others are as they came.
 use mathlib.Core.Path.{◌≡◌}
 use mathlib.Core.List.{◌++◌}
-use Prim.Native.Nat.{◌-◌, ◌≤◌}
 use lib.ListN.{length, drop}
 use Rattle.words.specs.Word.{words_of}
 use Rattle.words.proofs.bytes.words_of.Given as goal
 
 abbrev pub invariant-loop-i : goal.invariant-loop-i
-invariant-loop-i l = (l.i ≤ l.n) × (l.i ≤ length l.initial.words) × (length l.words ≡ length l.initial.words) × (l.words ≡ words_of l.bytes l.i ++ drop l.i l.initial.words)
-
-abbrev pub decreases-loop-i : goal.decreases-loop-i
-decreases-loop-i l = l.n - l.i
+invariant-loop-i l = (length l.words ≡ length l.initial.words) × (l.words ≡ words_of l.bytes l.i ++ drop l.i l.initial.words)

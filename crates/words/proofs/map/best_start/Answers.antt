@@ -3,7 +3,7 @@ use mathlib.Core.Logic.{inl, inr}
 use mathlib.Core.Bool.{true, false}
 use Prim.Native.Nat.{◌+◌, ◌-◌, ◌*◌, ◌<◌, min}
 use native.Mathlib.Omega.{arith}
-use lib.Count.{count_trailing_zeros, trailing_le}
+use lib.Count.{count_trailing_zeros}
 use lib.ListN.{get_or}
 use Rattle.words.specs.declared.map.Stretch.{Stretch}
 use Rattle.words.specs.BlockMap.{taken}
@@ -34,18 +34,6 @@ pub starts-init : goal.starts-init
 unfolding found
 starts-init c = (omega arith, λ l. inl (inl refl), refl)
 
-pub next_start-start-requires : goal.next_start-start-requires
-next_start-start-requires c = (c.least-words.ensures, omega arith, omega arith, c.starts.invariant.1 (omega arith))
-
-pub loop-k-init : goal.loop-k-init
-loop-k-init c = (refl, refl, omega arith, omega arith, λ b lo hi. absurd (omega arith))
-
-pub overflow_cast-s : goal.overflow_cast-s
-overflow_cast-s c = record { fits = omega (arith, trailing_le 64 c.from_bit-taken.result) }
-
-pub overflow_add-s : goal.overflow_add-s
-overflow_add-s c = record { fits = omega (arith, trailing_le 64 c.from_bit-taken.result) }
-
 pub overflow_sub-length : goal.overflow_sub-length
 overflow_sub-length c = omega (arith, past (goal.at.overflow_sub-length c).Then-taken-ne0)
 
@@ -60,7 +48,7 @@ starts-preserved c = let t = c.next_start-start in
     let i = c.loop-k.invariant in
     let d = 64 * c.loop-k.k + count_trailing_zeros 64 c.from_bit-taken.result in
     let e : c.shorter-best.result ≡ shorter a.n o.best (record { start = t.result; length = min d a.blocks - t.result }) =
-    c.shorter-best.ensures ∙ shorter-same a.n t.result i.0 c.least.ensures in
+    c.shorter-best.ensures ∙ shorter-same a.n t.result i.0 c.min.ensures in
     let free = onward (λ b. taken m b ≡ false) t.result (64 * c.loop-k.k + c.loop-k.low) d i.4
     (free-before m c.loop-k.k c.loop-k.low (count_trailing_zeros 64 c.from_bit-taken.result) (looked (goal.at.starts-preserved c).Then-taken-ne0)) in (
       omega (arith, past (goal.at.starts-preserved c).Then-taken-ne0),
@@ -103,7 +91,7 @@ returns-after-loop-k c = let t = c.next_start-start in
     let o = c.starts in
     let a = c.args in
     let m = a.map.now in
-    let words = c.least-words in
+    let words = c.min-words in
     let free = free-to-end m a.blocks t.result c.loop-k.k c.loop-k.low words.result c.loop-k.invariant.4 words.ensures (omega arith) in
     let e : c.shorter.result ≡ shorter a.n o.best (record { start = t.result; length = min a.blocks a.blocks - t.result }) =
     c.shorter.ensures ∙ shorter-same a.n t.result c.loop-k.invariant.0 (omega arith) in

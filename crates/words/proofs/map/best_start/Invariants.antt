@@ -11,9 +11,6 @@ use Rattle.words.proofs.map.best_start.Given as goal
 abbrev pub invariant-loop-k : goal.invariant-loop-k
 invariant-loop-k l = (l.best ≡ l.initial.best) × (l.s ≡ l.initial.s) × (l.low < 64) × (l.start ≤ 64 * l.k + l.low) × Same l.map false l.start (64 * l.k + l.low)
 
-abbrev pub decreases-loop-k : goal.decreases-loop-k
-decreases-loop-k l = l.words - l.k
-
 abbrev pub invariant-starts : goal.invariant-starts
 invariant-starts l = (1 ≤ l.s) × (l.s < l.blocks → Resumes l.map l.s) × (found l.map l.blocks l.n ≡ (found_from l.map l.blocks l.n l.best l.s).start)
 

@@ -5,10 +5,7 @@ use lib.ListN.{length}
 use Rattle.words.proofs.FreeCount.{taken_below}
 use Rattle.words.proofs.map.free_count.Given as goal
 
-abbrev pub invariant-loop-k : goal.invariant-loop-k
-invariant-loop-k l =
-    (l.k-end ≡ length l.map) × (l.k ≤ l.k-end) × (l.left ≡ l.blocks - 64 * l.k) × (l.left ≤ l.free) × (l.free ≤ l.blocks)
+abbrev pub invariant-loop-w : goal.invariant-loop-w
+invariant-loop-w l =
+    (l.w-index-end ≡ length l.map) × (l.w-index ≤ l.w-index-end) × (l.left ≡ l.blocks - 64 * l.w-index) × (l.left ≤ l.free) × (l.free ≤ l.blocks)
     × (l.free + taken_below l.map (l.blocks - l.left) ≡ l.blocks)
-
-abbrev pub decreases-loop-k : goal.decreases-loop-k
-decreases-loop-k l = l.k-end - l.k

@@ -1,12 +1,12 @@
-use mathlib.Core.Path.{◌≡◌, ap, ◌∙◌}
-use mathlib.Core.Logic.{inl}
+use mathlib.Core.Path.{◌≡◌, refl, ap, ◌∙◌, subst}
+use mathlib.Core.Logic.{inl, inr}
 use mathlib.Core.Bool.{false}
-use Prim.Native.Nat.{ℕ, ◌+◌, ◌-◌, ◌*◌, ◌/◌, ◌%◌, ◌^◌, ◌<◌, min}
+use Prim.Native.Nat.{ℕ, ◌+◌, ◌-◌, ◌*◌, ◌^◌, ◌<◌, min}
 use native.Mathlib.Omega.{arith}
-use lib.Count.{count_trailing_zeros, trailing_le}
+use lib.Count.{count_trailing_zeros}
 use lib.ListN.{get_or}
 use Rattle.words.specs.BlockMap.{taken}
-use Rattle.words.specs.Look.{from_bit, blocked_in, Blocked}
+use Rattle.words.specs.Look.{from_bit, blocked_in, Blocked, Passes}
 use Rattle.words.proofs.Zeros.{lowest-is}
 use Rattle.words.proofs.Looks.{onward, blocked-before, begins-there, free-there, blocked-all, begins-behind, free-behind, unheld}
 use Rattle.words.proofs.map.next_start.Goals as goal
@@ -19,17 +19,6 @@ clear-is c = let l = c.loop-k in c.from_bit-free.ensures.0 ∙ ap (λ (x : ℕ).
 
 fits : (c : After-from_bit-free) → get_or c.args.map.now c.loop-k.k 0 < 2 ^ 64
 fits c = (c.type_inv.map c.loop-k.k).fits
-
-pub loop-k-init : goal.loop-k-init
-loop-k-init c = let a = c.args in
-    let e : 64 * (a.s / 64) + a.s % 64 ≡ a.s = omega arith in
-    (omega arith, omega arith, omega arith, λ x lo hi. absurd (omega arith), rw e c.requires.3)
-
-pub overflow_cast-result : goal.overflow_cast-result
-overflow_cast-result c = record { fits = omega (arith, trailing_le 64 c.from_bit-free.result) }
-
-pub overflow_add-result : goal.overflow_add-result
-overflow_add-result c = record { fits = omega (arith, trailing_le 64 c.from_bit-free.result) }
 
 pub returns-then-free-ne0 : goal.returns-then-free-ne0
 returns-then-free-ne0 c = let a = c.args in
@@ -56,16 +45,19 @@ loop-k-preserved c = let a = c.args in
       omega arith,
       λ x lo hi. onward (Blocked m a.n) a.s (64 * l.k + l.low) (64 * l.k + 64) l.invariant.3 more x lo (omega arith),
       inl (begins-behind m l.k l.low a.n (fits (goal.at.loop-k-preserved c).After-from_bit-free) c.from_bit-free.result (clear-is (goal.at.loop-k-preserved c).After-from_bit-free) c.if-free-ne0.false l.invariant.0),
+      inr (omega arith, refl),
     )
 
+-- behind the last word: where it ended, or the start as it came
 pub returns : goal.returns
 returns c = let a = c.args in
     let l = c.loop-k in
+    let at : 64 * l.k + l.low ≡ c.max.result = (elim l.invariant.5 [ inl e ↦ omega arith | inr h ↦ omega arith ]) in
     let free : 64 * l.k + l.low < a.blocks → taken a.map.now (64 * l.k + l.low) ≡ false =
     λ h. free-behind a.map.now a.blocks a.words l.k (64 * l.k + l.low) c.requires.0 (omega arith) (omega arith) h in
-    record {
+    subst (λ t. Passes a.map.now a.blocks a.n a.s t) at (record {
       from = l.invariant.2;
       blocked = l.invariant.3;
       begins = λ h. unheld a.map.now (64 * l.k + l.low) (free h) l.invariant.4;
       is_free = free;
-    }
+    })
