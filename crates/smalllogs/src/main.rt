@@ -6,9 +6,9 @@
 use std::io;
 use std::io::Write;
 
+// Stays: `{:016X}` would print the same, but the digits are to be those of the contract of `small::digits_of` (PROOF, RULES, K9).
 fn print_entry(out: &mut impl Write, e: u64) -> io::Result<()> {
-    let text = small::digits_of(e);
-    out.write_all(&text)
+    out.write_all(&small::digits_of(e))
 }
 
 // A log of two words, 0 for an entry that it does not have.
@@ -27,8 +27,8 @@ fn print_log(out: &mut impl Write, first: u64, second: u64) -> io::Result<()> {
 fn print_logs(out: &mut impl Write) -> io::Result<()> {
     let mut logs = [0u64; 66];
     let n = small::every_log(&mut logs);
-    for k in 0..n {
-        print_log(out, logs[2 * k], logs[2 * k + 1])?;
+    for log in logs.chunks_exact(2).take(n) {
+        print_log(out, log[0], log[1])?;
     }
     Ok(())
 }
