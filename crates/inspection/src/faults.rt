@@ -4,21 +4,23 @@ ghost use Rattle.words.specs.Edition.{one};
 ghost use Rattle.words.specs.Logic.{is_zero, one_if};
 ghost use Rattle.words.specs.Memory.{memory, block_at};
 ghost use Rattle.block_log.specs.Entry.{rules};
-ghost use Rattle.block_log.specs.Opening.{open_refusal};
+ghost use Rattle.block_log.specs.Refusals.{number};
+ghost use Rattle.block_log.specs.Opening.{number_of, open_refusal};
 ghost use Rattle.inspection.specs.Reading.{block_of};
 ghost use Rattle.inspection.specs.Parts.{HasFirst, Readings, MapOfChain, clashes_at, first_clash, shared_by};
 ghost use Rattle.inspection.specs.Faults.{first_fault, no_fault, fault_at, size_fault, scratch_fault, zeros_ahead, super_fault, last_of, index_fault, endless_fault};
 ghost use Rattle.inspection.specs.Faults.{first_bad, block_fault, first_broken, entry_fault, last_covering, first_byte, end_fault};
 
 use crate::Fault;
+use block_log::{Refusal, Reply};
 
 // A rule of a number is broken by a word of the image.
-fn fault_at(image: &[u64], number: u32, rule: u32, block: u64, word: u64, detail: u64) -> Fault
-    ensures { result ≡ fault_at (memory one image.now) number rule block word detail }
+fn fault_at(image: &[u64], refusal: Refusal, rule: u32, block: u64, word: u64, detail: u64) -> Fault
+    ensures { result ≡ fault_at (memory one image.now) (number refusal) rule block word detail }
 {
     let value = words::image::word(words::image::block(image, block as usize), word as usize);
     Fault {
-        number,
+        number: refusal.into(),
         rule,
         block,
         word,
@@ -32,7 +34,7 @@ fn wrong_size(rule: u32, block: usize, word: usize, size: usize) -> Fault
     ensures { result ≡ record { number = 1; rule = rule; block = block; word = word; value = size; detail = 0 } }
 {
     Fault {
-        number: block_log::IMAGE_SIZE,
+        number: Refusal::ImageSize.into(),
         rule,
         block: block as u64,
         word: word as u64,
@@ -59,7 +61,7 @@ fn scratch_fault(size: usize) -> Fault
     ensures { result ≡ scratch_fault size }
 {
     Fault {
-        number: block_log::SCRATCH_SHORT,
+        number: Refusal::ScratchShort.into(),
         rule: 1,
         block: 0,
         word: 0,
@@ -85,10 +87,10 @@ fn super_fault(image: &[u64]) -> Fault
 {
     let part = words::image::block(image, 0);
     if words::image::word(part, 0) != 0x4D494C4B31 {
-        return fault_at(image, block_log::SUPERBLOCK_WRONG, 1, 0, 0, 0);
+        return fault_at(image, Refusal::SuperblockWrong, 1, 0, 0, 0);
     }
     let word = first_nonzero(part, 2);
-    fault_at(image, block_log::SUPERBLOCK_WRONG, 2, 0, word as u64, 0)
+    fault_at(image, Refusal::SuperblockWrong, 2, 0, word as u64, 0)
 }
 
 // The log block behind which the chain is read no further: the last of these, 0 for none.
@@ -123,11 +125,11 @@ fn index_fault(image: &[u64], chain: &[u16; 64], count: usize) -> Fault
 {
     let b = last_of(chain, count);
     let i = link_word(count);
-    let found = fault_at(image, block_log::LOG_INDEX_OUTSIDE, 1, b, i, 0);
+    let found = fault_at(image, Refusal::LogIndexOutside, 1, b, i, 0);
     if found.value == 0 {
         return found;
     }
-    fault_at(image, block_log::LOG_INDEX_OUTSIDE, 2, b, i, 0)
+    fault_at(image, Refusal::LogIndexOutside, 2, b, i, 0)
 }
 
 // 5. The chain has not ended after 64 log blocks. The map has the log blocks read.
@@ -137,11 +139,11 @@ fn endless_fault(image: &[u64], chain: &[u16; 64], count: usize, logs: &[u64; 16
 {
     let b = last_of(chain, count);
     let i = link_word(count);
-    let found = fault_at(image, block_log::CHAIN_ENDLESS, 1, b, i, 0);
+    let found = fault_at(image, Refusal::ChainEndless, 1, b, i, 0);
     if words::map::is_taken(logs, found.value as usize) {
         return found;
     }
-    fault_at(image, block_log::CHAIN_ENDLESS, 2, b, i, 0)
+    fault_at(image, Refusal::ChainEndless, 2, b, i, 0)
 }
 
 // The first of these log blocks that has a word 1 other than 0, an entry after an empty one, or a next index though not full; 0 for none.
@@ -164,14 +166,14 @@ fn block_fault(image: &[u64], b: u64) -> Fault
 {
     let part = words::image::block(image, b as usize);
     if words::image::word(part, 1) != 0 {
-        return fault_at(image, block_log::LOG_BLOCK_WRONG, 1, b, 1, 0);
+        return fault_at(image, Refusal::LogBlockWrong, 1, b, 1, 0);
     }
     let tail = block_log::tail(part, 2);
     if block_log::links::zeros_from(part, tail) {
-        return fault_at(image, block_log::LOG_BLOCK_WRONG, 3, b, 0, 0);
+        return fault_at(image, Refusal::LogBlockWrong, 3, b, 0, 0);
     }
     let word = first_nonzero(part, tail);
-    fault_at(image, block_log::LOG_BLOCK_WRONG, 2, b, word as u64, 0)
+    fault_at(image, Refusal::LogBlockWrong, 2, b, word as u64, 0)
 }
 
 // 6. A log block is so.
@@ -230,9 +232,9 @@ fn entry_fault(image: &[u64], chain: &[u16; 64], j: usize) -> Fault
 {
     let b = block_of(chain, j);
     let i = 2 + j % 62;
-    let found = fault_at(image, block_log::ENTRY_WRONG, 0, b, i as u64, 0);
+    let found = fault_at(image, Refusal::EntryWrong, 0, b, i as u64, 0);
     let rule = first_broken(found.value);
-    fault_at(image, block_log::ENTRY_WRONG, rule, b, i as u64, 0)
+    fault_at(image, Refusal::EntryWrong, rule, b, i as u64, 0)
 }
 
 // Whether a block is taken, 0 being none.
@@ -293,9 +295,9 @@ fn shared_fault(
     let b = block_of(chain, j);
     let i = 2 + j % 62;
     if words::map::is_taken(&logs, wide(table[v]) as usize) {
-        return fault_at(image, block_log::BLOCK_SHARED, 1, b, i as u64, v as u64);
+        return fault_at(image, Refusal::BlockShared, 1, b, i as u64, v as u64);
     }
-    fault_at(image, block_log::BLOCK_SHARED, 2, b, i as u64, v as u64)
+    fault_at(image, Refusal::BlockShared, 2, b, i as u64, v as u64)
 }
 
 // The first byte of a block from a place on that is not 0; 512 for none.
@@ -328,7 +330,7 @@ fn end_fault(image: &[u64], table: &[u16; 256], size: u32) -> Fault
     );
     fault_at(
         image,
-        block_log::END_NOT_ZERO,
+        Refusal::EndNotZero,
         1,
         b,
         words::offset::whole_words(k) as u64,
@@ -349,11 +351,11 @@ fn no_fault() -> Fault
     }
 }
 
-// The first fault of an image of a right size, by opening's number and by what was read. `room` is the scratch's length.
+// The first fault of an image of a right size, by opening's reply and by what was read. `room` is the scratch's length.
 pub(crate) fn first_fault(
     image: &[u64],
     room: usize,
-    number: u32,
+    reply: Reply,
     chain: &[u16; 64],
     count: usize,
     logs: [u64; 16],
@@ -362,32 +364,20 @@ pub(crate) fn first_fault(
     table: &[u16; 256],
     size: u32,
 ) -> Fault
-    requires { Readings image.now chain.now count logs entries.now n table.now size × (number ≡ open_refusal one image.now (replicate room 0)) }
+    requires { Readings image.now chain.now count logs entries.now n table.now size × (number_of reply ≡ open_refusal one image.now (replicate room 0)) }
     ensures { result ≡ first_fault one image.now (replicate room 0) }
 {
-    if number == 0 {
+    let Err(refusal) = reply else {
         return no_fault();
+    };
+    match refusal {
+        Refusal::ScratchShort => scratch_fault(room),
+        Refusal::SuperblockWrong => super_fault(image),
+        Refusal::LogIndexOutside => index_fault(image, chain, count),
+        Refusal::ChainEndless => endless_fault(image, chain, count, &logs),
+        Refusal::LogBlockWrong => log_fault(image, chain, count),
+        Refusal::EntryWrong => entry_fault(image, chain, n),
+        Refusal::BlockShared => shared_fault(image, chain, logs, entries, n, table),
+        _ => end_fault(image, table, size),
     }
-    if number == block_log::SCRATCH_SHORT {
-        return scratch_fault(room);
-    }
-    if number == block_log::SUPERBLOCK_WRONG {
-        return super_fault(image);
-    }
-    if number == block_log::LOG_INDEX_OUTSIDE {
-        return index_fault(image, chain, count);
-    }
-    if number == block_log::CHAIN_ENDLESS {
-        return endless_fault(image, chain, count, &logs);
-    }
-    if number == block_log::LOG_BLOCK_WRONG {
-        return log_fault(image, chain, count);
-    }
-    if number == block_log::ENTRY_WRONG {
-        return entry_fault(image, chain, n);
-    }
-    if number == block_log::BLOCK_SHARED {
-        return shared_fault(image, chain, logs, entries, n, table);
-    }
-    end_fault(image, table, size)
 }

@@ -48,16 +48,6 @@ pub struct Inspected {
 mod faults;
 mod read;
 
-// The number of a reply, 0 for one that is done.
-fn number_of(reply: Reply) -> u32
-    ensures { result ≡ number_of reply }
-{
-    match reply {
-        Reply::Done => 0,
-        Reply::Refused(n) => n,
-    }
-}
-
 // An image of a wrong size: nothing is read.
 fn unread(fault: Fault) -> Inspected
     ensures { result ≡ unread fault }
@@ -85,9 +75,9 @@ fn unread(fault: Fault) -> Inspected
     }
 }
 
-// What is read of an image of a right size, and its first fault. `room` is the scratch's length, `number` what opening answered.
-fn inspect_blocks(image: &[u64], room: usize, number: u32) -> Inspected
-    requires { (wrong_size one image.now ≡ false) × (number ≡ open_refusal one image.now (replicate room 0)) }
+// What is read of an image of a right size, and its first fault. `room` is the scratch's length, `reply` what opening answered.
+fn inspect_blocks(image: &[u64], room: usize, reply: Reply) -> Inspected
+    requires { (wrong_size one image.now ≡ false) × (number_of reply ≡ open_refusal one image.now (replicate room 0)) }
     ensures { let words = image.now in
         result ≡ inspected_with one (block_count one words) (memory one words) (first_fault one words (replicate room 0)) }
 {
@@ -108,7 +98,7 @@ fn inspect_blocks(image: &[u64], room: usize, number: u32) -> Inspected
     let mut uses = [0u8; 1024];
     read::mark_uses(&logs, &taken, &mut uses);
     let fault = faults::first_fault(
-        image, room, number, &chain, count, logs, &entries, n, &table, length,
+        image, room, reply, &chain, count, logs, &entries, n, &table, length,
     );
     let found = Found {
         chained: count as u32,
@@ -134,9 +124,8 @@ pub fn inspect(image: &[u64], scratch: &mut [u16]) -> Inspected
 {
     let opened = block_log::open::open(image, scratch);
     let reply = opened.reply;
-    let number = number_of(reply);
     if block_log::open::wrong_size(image) {
         return unread(faults::size_fault(image.len()));
     }
-    inspect_blocks(image, scratch.len(), number)
+    inspect_blocks(image, scratch.len(), reply)
 }

@@ -1,17 +1,14 @@
 -- The image that is built, and what opening's reply says of it. Assumes nothing.
 use Prim.Native.Nat.{ℕ, zero, suc}
-use mathlib.Core.Path.{◌≡◌, refl, sym, ap, ◌∙◌}
-use mathlib.Core.Bool.{Bool, true, false}
+use mathlib.Core.Path.{◌≡◌, refl, ap, ◌∙◌}
 use mathlib.Core.List.{List, [], ◌∷◌}
 use lib.ListN.{set}
+use Rattle.std.specs.Prelude.{is_ok}
 use Rattle.words.specs.Edition.{one}
 use Rattle.words.specs.Logic.{is_zero}
 use Rattle.block_log.specs.declared.Opened.{Opened}
-use Rattle.block_log.specs.declared.Reply.{Reply}
-use Rattle.block_log.specs.declared.Reply.TheVariants.{Done, Refused}
 use Rattle.block_log.specs.Opening.{reply_of, open_refusal, opened}
-use Rattle.words.proofs.Tests.{is-zero}
-use Rattle.block_log.proofs.Replies.{done_none, opened-replies}
+use Rattle.block_log.proofs.Replies.{opened-replies}
 use Rattle.small.specs.SmallLogs.{blank, image_with}
 use Rattle.small.specs.Tried.{enough, accepts}
 use Rattle.small.specs.Computing.{computing}
@@ -49,20 +46,10 @@ module _ (words es : List ℕ) (o : Opened) (i : words ≡ image_with es) (e : o
   replied = ap (λ (x : Opened). x.reply) e ∙ opened-replies one words enough
       ∙ ap (λ (l : List ℕ). reply_of (open_refusal one l enough)) i
 
-  pub replied-done : o.reply ≡ Done → true ≡ accepts es
+  pub replied-ok : is_ok o.reply ≡ accepts es
   unfolding accepts
-  replied-done d =
-      let n = open_refusal one (image_with es) enough in
-      sym (is-zero n (done_none n (sym replied ∙ d)))
-
-  pub replied-refused : (k : ℕ) → o.reply ≡ Refused k → false ≡ accepts es
-  unfolding accepts
-  replied-refused k d = go (open_refusal one (image_with es) enough) (sym replied ∙ d)
+  replied-ok = ap is_ok replied ∙ go (open_refusal one (image_with es) enough)
     where
-      is_refused : Reply → Bool
-      is_refused Done = false
-      is_refused (Refused n) = true
-
-      go : (n : ℕ) → reply_of n ≡ Refused k → false ≡ is_zero n
-      go zero h = ap is_refused h
-      go (suc n) h = refl
+      go : (n : ℕ) → is_ok (reply_of n) ≡ is_zero n
+      go zero = refl
+      go (suc n) = refl

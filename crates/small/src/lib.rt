@@ -6,8 +6,6 @@ ghost use Rattle.small.specs.SmallLogs.{image_with, AllLegal, Fills, hex_digit, 
 ghost use Rattle.small.specs.Tried.{entry_count, legal_entry, one_more, pairs, accepts, legal_logs};
 ghost use Rattle.small.specs.Parts.{log_of, Room, Keeps};
 
-use block_log::Reply;
-
 // How many entries of that kind are legal in 4 blocks: of one block, and in all.
 const OF_ONE_BLOCK: u64 = 6;
 
@@ -40,7 +38,7 @@ fn image_with(first: u64, second: u64) -> [u64; 256]
     ensures { result ≡ image_with (first ∷ second ∷ []) }
 {
     let mut image = [0u64; 256];
-    block_log::layout::lay_out(&mut image);
+    let _ = block_log::layout::lay_out(&mut image);
     words::image::store(&mut image, 1, 2, first);
     words::image::store(&mut image, 1, 3, second);
     image
@@ -54,10 +52,7 @@ fn accepts(first: u64, second: u64) -> bool
     let mut scratch = [0u16; 1024];
     let opened = block_log::open::open(&image, &mut scratch);
     let reply = opened.reply;
-    match reply {
-        Reply::Done => true,
-        Reply::Refused(_) => false,
-    }
+    reply.is_ok()
 }
 
 // A log goes into the slice behind the `count` logs there, if there is room and opening accepts it; how many there are then.

@@ -3,8 +3,8 @@ use mathlib.Core.Path.{sym, ap, ◌∙◌}
 use Rattle.words.specs.Edition.{one}
 use Rattle.words.specs.Memory.{memory, block_count}
 use Rattle.block_log.specs.declared.Opened.{Opened}
-use Rattle.block_log.specs.Opening.{number_of, open_refusal}
-use Rattle.block_log.proofs.Replies.{number-back, opened-replies}
+use Rattle.block_log.specs.Opening.{number_of}
+use Rattle.block_log.proofs.Replies.{opened-number}
 use Rattle.inspection.specs.Inspecting.{unread, inspected_with}
 use Rattle.inspection.proofs.Whole.{inspects, wrong, right, refusal-room, fault-room}
 use Rattle.inspection.proofs.inspect.Goals as goal
@@ -18,8 +18,8 @@ returns-then-wrong_size c = let words = c.args.image.now in
 pub inspect_blocks-requires : goal.inspect_blocks-requires
 inspect_blocks-requires c = let words = c.args.image.now in
     let scratch = c.args.scratch.now in
-    let number = c.number_of-number.ensures ∙ ap (λ (o : Opened). number_of o.reply) c.open-opened.ensures.0
-    ∙ ap number_of (opened-replies one words scratch) ∙ number-back (open_refusal one words scratch) in
+    let number = ap (λ (o : Opened). number_of o.reply) c.open-opened.ensures.0
+    ∙ opened-number one words scratch in
     (sym c.wrong_size.ensures ∙ c.if-wrong_size.false, number ∙ refusal-room words scratch _ (sym c.open-opened.auto.scratch))
 
 pub returns : goal.returns
