@@ -1,10 +1,6 @@
-pub mod Numbers
 pub mod Lent
-pub mod Shown
+pub mod Twice
 pub mod Rows
-pub mod Made
-pub mod Reasons
-pub mod Numbering
 pub mod Beginnings
-pub mod Steppings
-pub mod Standing
+pub mod Rounds
+pub mod Reasons

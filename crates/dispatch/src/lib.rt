@@ -1,15 +1,13 @@
-// Serving a list of points whose records are lent as one list. `serve` takes a record out of the list, has its turn made, and puts it back; all else is in
-// functions that take one record by value. The definitions are in specs/.
+// Serving a list of points whose records are lent as one list: their numbers are looked at, all writes are begun in list order, then each unfinished one gets
+// a step a round. The definitions are in specs/.
 #![tactic(auto)]
 
-ghost use Rattle.std.specs.Prelude.{◌≡◌, true, ◌+◌, ◌≤◌, ◌<◌, length, take, eqb};
+ghost use Rattle.std.specs.Prelude.{◌≡◌, List, ◌≤◌, length, get_or, eqb};
+ghost use Rattle.std.specs.List.{list_any};
 ghost use Rattle.words.specs.Edition.{one};
-ghost use Rattle.words.specs.Logic.{member};
-ghost use Rattle.points.specs.Stepping.{step_kind, step_value};
-ghost use Rattle.points.specs.Serving.{begun, last_kind, last_value, serve_rounds};
-ghost use Rattle.dispatch.specs.Dispatch.{sizes_of, lent_for_each, dispatch_left, dispatched};
-ghost use Rattle.dispatch.specs.Turns.{kind_goes_on, first_turns, noted, told, MovesOn, TextWithin, Within, RoomFor, Starts, Turning, Ends};
-ghost use Rattle.dispatch.specs.Turns.{NumberTurn, BeginTurn, StepTurn};
+ghost use Rattle.points.specs.Serving.{begun, stepped, serve_rounds, twice, point_numbers, Listed, asking, in_turn, rounds, begin_turn, step_turn};
+ghost use Rattle.dispatch.specs.Dispatch.{sizes_of, requests_of, last_numbers, lent_for_each, dispatch_left, dispatched};
+ghost use Rattle.dispatch.specs.Turns.{kind_goes_on, common, asking_for, Lent, Shows, TurnLeaves, Leaves};
 
 use block_log::{Reply, Shared};
 use points::{Point, StepAnswer};
@@ -21,37 +19,6 @@ pub struct Served {
     pub shared: Shared,
 }
 
-// Where the turns stand. In stage 0 the points' numbers are looked at, in stage 1 the writes are begun, in stage 2 the unfinished ones make a step.
-#[derive(Clone, Copy)]
-struct Turns {
-    // whether there is a further turn, and whose
-    going: bool,
-    at: usize,
-    stage: u32,
-    // how many points are listed
-    count: usize,
-    // stage 1: where the text of the write begins
-    start: usize,
-    // how many rounds of steps are left, with this one
-    rounds: u32,
-    // stage 2: whether somebody who has had a turn in this round is unfinished
-    live: bool,
-    // the number of the reason to refuse, 0 for none
-    refused: u32,
-    shared: Shared,
-    // the points' numbers, as far as they were looked at; the answers, as far as there are any
-    numbers: [u32; 32],
-    kinds: [u32; 32],
-    values: [u32; 32],
-}
-
-// What a turn leaves.
-#[derive(Clone, Copy)]
-struct TurnLeft {
-    turns: Turns,
-    point: Point,
-}
-
 // Whether the write goes on after an answer of this kind.
 fn goes_on(kind: u32) -> bool
     ensures { result ≡ kind_goes_on kind }
@@ -59,51 +26,28 @@ fn goes_on(kind: u32) -> bool
     (kind <= 3) | (kind == 6)
 }
 
-// A step's answer in numbers: which it is; and its value.
-fn step_kind(step: StepAnswer) -> u32
-    ensures { result ≡ step_kind step }
+// A step's answer in numbers, kind and value.
+fn step_numbers(step: StepAnswer) -> [u32; 2]
+    ensures { result ≡ last_numbers (stepped step) }
 {
     match step {
-        StepAnswer::Stored => 1,
-        StepAnswer::Moved => 2,
-        StepAnswer::Extending => 3,
-        StepAnswer::Committed(retries) => 4,
-        StepAnswer::Refused(n) => 5,
-        StepAnswer::Copied => 6,
-        StepAnswer::Bytes(n) => 7,
+        StepAnswer::Stored => [1, 0],
+        StepAnswer::Moved => [2, 0],
+        StepAnswer::Extending => [3, 0],
+        StepAnswer::Committed(retries) => [4, retries as u32],
+        StepAnswer::Refused(n) => [5, n],
+        StepAnswer::Copied => [6, 0],
+        StepAnswer::Bytes(n) => [7, n],
     }
 }
 
-fn step_value(step: StepAnswer) -> u32
-    ensures { result ≡ step_value step }
-{
-    match step {
-        StepAnswer::Stored => 0,
-        StepAnswer::Moved => 0,
-        StepAnswer::Extending => 0,
-        StepAnswer::Committed(retries) => retries as u32,
-        StepAnswer::Refused(n) => n,
-        StepAnswer::Copied => 0,
-        StepAnswer::Bytes(n) => n,
-    }
-}
-
-// A beginning's, as a step's: 0 where it is done, else that of a refused step.
-fn begun_kind(reply: Reply) -> u32
-    ensures { result ≡ last_kind (begun reply) }
+// A beginning's, as a step's: kind 0 where it is done, else that of a refused step.
+fn begun_numbers(reply: Reply) -> [u32; 2]
+    ensures { result ≡ last_numbers (begun reply) }
 {
     match reply {
-        Reply::Done => 0,
-        Reply::Refused(n) => 5,
-    }
-}
-
-fn begun_value(reply: Reply) -> u32
-    ensures { result ≡ last_value (begun reply) }
-{
-    match reply {
-        Reply::Done => 0,
-        Reply::Refused(n) => n,
+        Reply::Done => [0, 0],
+        Reply::Refused(n) => [5, n],
     }
 }
 
@@ -112,8 +56,8 @@ fn adds_up(writes: &[[usize; 2]], bytes: usize) -> bool
     ensures { result ≡ eqb (sizes_of writes.now) bytes }
 {
     let mut left = bytes;
-    for i in 0..writes.len() {
-        let size = writes[i][1];
+    for write in writes {
+        let size = write[1];
         if left < size {
             return false;
         }
@@ -126,13 +70,26 @@ fn adds_up(writes: &[[usize; 2]], bytes: usize) -> bool
 fn lent_for_each(n: usize, answers: usize, writes: &[[usize; 2]], bytes: usize) -> bool
     ensures { result ≡ lent_for_each n answers writes.now bytes }
 {
-    if answers != n {
-        return false;
+    (answers == n) & (writes.len() == n) & adds_up(writes, bytes)
+}
+
+// Whether a point of this number is listed.
+fn is_listed(number: u32, points: &[Point]) -> bool
+    ensures { result ≡ list_any (λ p. eqb p.head.number number) points.now }
+{
+    points.iter().any(|p| p.head.number == number)
+}
+
+// Whether a point is listed twice.
+fn listed_twice(points: &[Point]) -> bool
+    ensures { result ≡ twice (point_numbers points.now) }
+{
+    for (i, point) in points.iter().enumerate() {
+        if is_listed(point.head.number, &points[i + 1..]) {
+            return true;
+        }
     }
-    if writes.len() != n {
-        return false;
-    }
-    adds_up(writes, bytes)
+    false
 }
 
 // How many rounds a list of n points has at most.
@@ -143,224 +100,117 @@ fn most_rounds(n: usize) -> u32
     129 * (n as u32 - 1) + 260
 }
 
-// Before the first turn.
-fn first_turns(going: bool, n: usize, rounds: u32, refused: u32, shared: Shared) -> Turns
-    ensures { result ≡ first_turns going n rounds refused shared }
-{
-    let none = [0u32; 32];
-    Turns {
-        going,
-        stage: 0,
-        at: 0,
-        count: n,
-        start: 0,
-        rounds,
-        live: false,
-        refused,
-        shared,
-        numbers: none,
-        kinds: none,
-        values: none,
-    }
-}
-
-// 26 is asked before anything else; then the turns begin.
-fn start(shared: Shared, n: usize, answers: usize, writes: &[[usize; 2]], bytes: &[u8]) -> Turns
-    ensures { Starts shared n answers writes.now bytes.now result }
-{
-    if n < 1 {
-        return first_turns(false, n, 0, points::NOT_ONE_EACH, shared);
-    }
-    if 32 < n {
-        return first_turns(false, n, 0, points::NOT_ONE_EACH, shared);
-    }
-    if !lent_for_each(n, answers, writes, bytes.len()) {
-        return first_turns(false, n, 0, points::NOT_ONE_EACH, shared);
-    }
-    first_turns(true, n, most_rounds(n), 0, shared)
-}
-
-// Whether a number is one of the first n.
-fn is_among(numbers: &[u32; 32], n: usize, number: u32) -> bool
-    requires { (n ≤ 32) × (length numbers.now ≡ 32) }
-    ensures { result ≡ member number (take n numbers.now) }
-{
-    for i in 0..n {
-        if numbers[i] == number {
-            return true;
-        }
-    }
-    false
-}
-
-// The number of the point whose turn it is.
-fn note(turns: Turns, number: u32) -> Turns
-    requires { turns.at < 32 }
-    ensures { result ≡ noted turns number }
-{
-    let mut t = turns;
-    let at = t.at;
-    t.numbers[at] = number;
-    t
-}
-
-// Its answer, whether somebody is unfinished now, and the shared record as it leaves it.
-fn tell(turns: Turns, kind: u32, value: u32, shared: Shared) -> Turns
-    requires { turns.at < 32 }
-    ensures { result ≡ told turns kind value shared }
-{
-    let mut t = turns;
-    let at = t.at;
-    t.kinds[at] = kind;
-    t.values[at] = value;
-    t.live = t.live | goes_on(kind);
-    t.shared = shared;
-    t
-}
-
-// The next turn: of the next point, or of the first one in the next stage or round. There is none where the rounds are used up or nobody is unfinished.
-fn move_on(turns: Turns) -> Turns
-    requires { (turns.at < 32) × (0 < turns.rounds) }
-    ensures { MovesOn turns result }
-{
-    let mut t = turns;
-    let next = t.at + 1;
-    if next < t.count {
-        t.at = next;
-        return t;
-    }
-    t.at = 0;
-    if t.stage < 2 {
-        t.stage = t.stage + 1;
-        t.live = false;
-        return t;
-    }
-    let rounds = t.rounds - 1;
-    t.rounds = rounds;
-    t.going = t.live & (0 < rounds);
-    t.live = false;
-    t
-}
-
-// Stage 0: 27 where the point's number was met before.
-fn number_turn(turns: Turns, point: Point) -> TurnLeft
-    requires { (turns.at < 32) × (0 < turns.rounds) × (length turns.numbers ≡ 32) }
-    ensures { NumberTurn turns point result }
-{
-    let head = point.head;
-    let number = head.number;
-    let at = turns.at;
-    if is_among(&turns.numbers, at, number) {
-        let mut t = turns;
-        t.going = false;
-        t.refused = points::LISTED_TWICE;
-        t.at = at + 1;
-        return TurnLeft { turns: t, point };
-    }
-    TurnLeft {
-        turns: move_on(note(turns, number)),
-        point,
-    }
-}
-
-// Stage 1: the point's write is begun.
+// One point's beginning.
 fn begin_turn(
     image: &[u64],
-    turns: Turns,
-    point: Point,
-    writes: &[[usize; 2]],
-    bytes: &[u8],
-) -> TurnLeft
-    requires { (turns.at < 32) × (0 < turns.rounds) × TextWithin turns writes.now bytes.now }
-    ensures { BeginTurn turns image.now point writes.now bytes.now result }
+    shared: Shared,
+    point: &mut Point,
+    answer: &mut [u32; 2],
+    offset: usize,
+    text: &[u8],
+) -> Shared
+    ensures { TurnLeaves (begin_turn one (common image.now shared) (asking_for point.old offset text.now)) image.now result point.new answer.new }
 {
-    let at = turns.at;
-    let offset = writes[at][0];
-    let start = turns.start;
-    let end = start + writes[at][1];
-    let shared = turns.shared;
-    let begun = points::begin::begin(image, shared, point, offset, &bytes[start..end]);
-    let reply = begun.reply;
-    let left = begun.shared;
-    let point = begun.point;
-    let mut t = tell(turns, begun_kind(reply), begun_value(reply), left);
-    t.start = end;
-    TurnLeft {
-        turns: move_on(t),
-        point,
-    }
+    let begun = points::begin::begin(image, shared, *point, offset, text);
+    *point = begun.point;
+    *answer = begun_numbers(begun.reply);
+    begun.shared
 }
 
-// Stage 2: a step, if the point is unfinished.
-fn step_turn(image: &mut [u64], turns: Turns, point: Point) -> TurnLeft
-    requires { (turns.at < 32) × (0 < turns.rounds) }
-    ensures { StepTurn turns image.old point result image.new }
+// All writes are begun, in list order; their texts stand one after the other.
+fn begin_all(
+    image: &[u64],
+    shared: Shared,
+    points: &mut [Point],
+    answers: &mut [[u32; 2]],
+    writes: &[[usize; 2]],
+    bytes: &[u8],
+) -> Shared
+    requires { Lent points.old answers.old writes.now bytes.now }
+    ensures { Leaves (in_turn (begin_turn one) (common image.now shared) (asking points.old (requests_of writes.now bytes.now)))
+        image.now result points.new answers.new }
 {
-    let at = turns.at;
-    if !goes_on(turns.kinds[at]) {
-        return TurnLeft {
-            turns: move_on(turns),
+    let mut left = shared;
+    let mut start = 0;
+    for (i, point) in points.iter_mut().enumerate() {
+        let end = start + writes[i][1];
+        left = begin_turn(
+            image,
+            left,
             point,
-        };
+            &mut answers[i],
+            writes[i][0],
+            &bytes[start..end],
+        );
+        start = end;
+    }
+    left
+}
+
+// One point's turn in a round: a step if its write goes on.
+fn step_turn(image: &mut [u64], shared: Shared, point: &mut Point, answer: &mut [u32; 2]) -> Shared
+    ensures { (x : Listed) → x.point ≡ point.old → last_numbers x.last ≡ answer.old
+        → TurnLeaves (step_turn one (common image.old shared) x) image.new result point.new answer.new }
+{
+    if !goes_on(answer[0]) {
+        return shared;
     }
     let mut bytes = [0u8; 1024];
-    let shared = turns.shared;
-    let stepped = points::step::step(image, shared, point, &mut bytes);
-    let step = stepped.step;
-    let left = stepped.shared;
-    let point = stepped.point;
-    let t = tell(turns, step_kind(step), step_value(step), left);
-    TurnLeft {
-        turns: move_on(t),
-        point,
-    }
+    let stepped = points::step::step(image, shared, *point, &mut bytes);
+    *point = stepped.point;
+    *answer = step_numbers(stepped.step);
+    stepped.shared
 }
 
-// The turn of one point.
-fn turn(
+// A round: each point has its turn, in list order.
+fn round(
     image: &mut [u64],
-    turns: Turns,
-    point: Point,
-    writes: &[[usize; 2]],
-    bytes: &[u8],
-) -> TurnLeft
-    requires { Within turns writes.now bytes.now }
-    ensures { Turning image.old turns point writes.now bytes.now result image.new }
+    shared: Shared,
+    points: &mut [Point],
+    answers: &mut [[u32; 2]],
+) -> Shared
+    requires { length answers.old ≡ length points.old }
+    ensures { (xs : List Listed) → Shows xs points.old answers.old
+        → Leaves (in_turn (step_turn one) (common image.old shared) xs) image.new result points.new answers.new }
 {
-    if turns.stage == 0 {
-        return number_turn(turns, point);
+    let mut left = shared;
+    for (i, point) in points.iter_mut().enumerate() {
+        left = step_turn(image, left, point, &mut answers[i]);
     }
-    if turns.stage == 1 {
-        return begin_turn(image, turns, point, writes, bytes);
-    }
-    step_turn(image, turns, point)
+    left
 }
 
-// After the last turn: the answers, unless the call is refused.
-fn ends(turns: Turns, answers: &mut [[u32; 2]]) -> Served
-    requires { RoomFor turns answers.old }
-    ensures { Ends turns answers.old result answers.new }
+// Whether somebody's write goes on.
+fn anybody(answers: &[[u32; 2]]) -> bool
+    ensures { result ≡ list_any (λ a. kind_goes_on (get_or a 0 0)) answers.now }
 {
-    let shared = turns.shared;
-    if turns.refused != 0 {
-        return Served {
-            reply: Reply::Refused(turns.refused),
-            shared,
-        };
+    answers.iter().any(|answer| goes_on(answer[0]))
+}
+
+// So many rounds, as long as there is somebody whose write goes on.
+fn all_rounds(
+    image: &mut [u64],
+    shared: Shared,
+    points: &mut [Point],
+    answers: &mut [[u32; 2]],
+    most: u32,
+) -> Shared
+    requires { length answers.old ≡ length points.old }
+    ensures { (xs : List Listed) → Shows xs points.old answers.old
+        → Leaves (rounds most (step_turn one) (common image.old shared) xs) image.new result points.new answers.new }
+{
+    let mut left = shared;
+    for _ in 0..most {
+        if !anybody(answers) {
+            break;
+        }
+        left = round(image, left, points, answers);
     }
-    let kinds = turns.kinds;
-    let values = turns.values;
-    for i in 0..answers.len() {
-        answers[i] = [kinds[i], values[i]];
-    }
-    Served {
-        reply: Reply::Done,
-        shared,
-    }
+    left
 }
 
 // Serves a list of points, each with one write: `writes` are the offsets and sizes, `bytes` the texts one after the other; `answers` gets what each point's
-// last beginning or step answered, kind and value. Each turn takes a record out of the list and puts it back.
+// last beginning or step answered, kind and value.
 pub fn serve(
     image: &mut [u64],
     shared: Shared,
@@ -372,13 +222,22 @@ pub fn serve(
     ensures { dispatch_left result.reply image.new result.shared points.new answers.new
         ≡ dispatched image.old shared points.old answers.old writes.now bytes.now }
 {
-    let mut turns = start(shared, points.len(), answers.len(), writes, bytes);
-    while turns.going {
-        let i = turns.at;
-        let point = points[i];
-        let t = turn(image, turns, point, writes, bytes);
-        points[i] = t.point;
-        turns = t.turns;
+    let n = points.len();
+    if n < 1 || 32 < n || !lent_for_each(n, answers.len(), writes, bytes.len()) {
+        return Served {
+            reply: Reply::Refused(points::NOT_ONE_EACH),
+            shared,
+        };
     }
-    ends(turns, answers)
+    if listed_twice(points) {
+        return Served {
+            reply: Reply::Refused(points::LISTED_TWICE),
+            shared,
+        };
+    }
+    let begun = begin_all(image, shared, points, answers, writes, bytes);
+    Served {
+        reply: Reply::Done,
+        shared: all_rounds(image, begun, points, answers, most_rounds(n)),
+    }
 }

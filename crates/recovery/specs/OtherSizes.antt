@@ -147,8 +147,8 @@ nearly_full E =
     ++ (0 ∷ 0 ∷ replicate (E.block_words - 3) (entry_of E 10 2 1 (block_bytes E) 0) ++ (0 ∷ []))
     ++ replicate (E.block_words * 8) 0) enough
 
--- A text from the last byte of virtual block 0 to the first byte of virtual block 2 in edition one, 514 bytes, and of virtual block 1 in larger sizes, 2 bytes:
--- each word of its first and its last block has a byte that is not the text's
+-- A text from the last byte of virtual block 0 to the first byte of virtual block 2 in edition one, 514 bytes, and of virtual block 1 in larger sizes,
+-- 2 bytes: each word of its first and its last block has a byte that is not the text's
 abbrev pub edge_text : Edition → ℕ → List ℕ
 edge_text E x = replicate (1022 / block_bytes E * block_bytes E + 2) x
 

@@ -1,54 +1,31 @@
-use Rattle.std.proofs.Common.{◌<◌, length, refl, arith}
-use Rattle.dispatch.specs.Turns.{none}
-use Rattle.dispatch.proofs.Standing.{inside, within, room_for, served}
+use mathlib.Core.Path.{sym, ◌∙◌}
+use mathlib.Core.Logic.{inl, inr}
+use Rattle.std.proofs.Common.{rules}
+use native.Mathlib.Omega.{arith}
+use Rattle.dispatch.proofs.Reasons.{is-lent, not-each, not-one-each, listed-again, served}
 use Rattle.dispatch.proofs.serve.Goals as goal
-use Rattle.dispatch.proofs.serve.Goals.{In-loop-turns}
+use Rattle.dispatch.proofs.serve.Goals.{then-n-lt1-via-then-n-lt1, then-n-lt1-via-else-n-lt1+then-n-gt32, then-n-lt1-via-else-n-lt1+else-n-gt32+then-not-lent_for_each}
 
--- whose turn it is stands in the list
-here : (c : In-loop-turns) → c.loop-turns.turns.at < length c.loop-turns.points
-here c = inside c.loop-turns.invariant c.loop-turns-test.true
+pub returns-then-n-lt1 : goal.returns-then-n-lt1
+returns-then-n-lt1 c =
+    elim c.then-n-lt1.branch [
+      | then-n-lt1-via-then-n-lt1 w ↦ not-one-each _ _ _ _ _ _ (inl w.if-n-lt1.true)
+      | then-n-lt1-via-else-n-lt1+then-n-gt32 w ↦ not-one-each _ _ _ _ _ _ (inr w.if-n-gt32.true)
+      | then-n-lt1-via-else-n-lt1+else-n-gt32+then-not-lent_for_each w ↦ not-each _ _ _ _ _ _ (search rules)
+    ]
 
-pub loop-turns-init : goal.loop-turns-init
-loop-turns-init c = c.start-turns.ensures c.args.image.now c.args.points.now refl
+pub returns-then-listed_twice : goal.returns-then-listed_twice
+returns-then-listed_twice c =
+    listed-again _ _ _ _ _ _ c.if-n-lt1.false c.if-n-gt32.false (search rules) (sym c.listed_twice.ensures ∙ c.if-listed_twice.true)
 
-pub offset_bounds-points-i : goal.offset_bounds-points-i
-offset_bounds-points-i c = let h = here (goal.at.offset_bounds-points-i c).In-loop-turns in record { fits = omega arith }
+pub begin_all-begun-requires : goal.begin_all-begun-requires
+begin_all-begun-requires c = is-lent _ _ _ _ (search rules)
 
-pub slice_copy_out-point : goal.slice_copy_out-point
-slice_copy_out-point c = here (goal.at.slice_copy_out-point c).In-loop-turns
-
-pub turn-t-requires : goal.turn-t-requires
-turn-t-requires c = within c.loop-turns.invariant c.loop-turns-test.true
-
-pub offset_bounds-points-i-in-loop-turns : goal.offset_bounds-points-i-in-loop-turns
-offset_bounds-points-i-in-loop-turns c =
-    let h = here (goal.at.offset_bounds-points-i-in-loop-turns c).In-loop-turns in record { fits = omega arith }
-
-pub bounds-points-i : goal.bounds-points-i
-bounds-points-i c = here (goal.at.bounds-points-i c).In-loop-turns
-
--- a turn takes the record that `get_or` gives, whatever it would give past the end
-pub loop-turns-smaller : goal.loop-turns-smaller
-unfolding none
-loop-turns-smaller c =
-    let a = c.args in
-    let l = c.loop-turns in
-    (c.turn-t.ensures a.image.now a.shared a.points.now l.points (length a.answers.now) l.invariant c.loop-turns-test.true refl).1
-
-pub loop-turns-preserved : goal.loop-turns-preserved
-unfolding none
-loop-turns-preserved c =
-    let a = c.args in
-    let l = c.loop-turns in
-    (c.turn-t.ensures a.image.now a.shared a.points.now l.points (length a.answers.now) l.invariant c.loop-turns-test.true refl).0
-
-pub ends-requires : goal.ends-requires
-ends-requires c =
-    let a = c.args in
-    room_for a.image.now a.shared a.points.now a.answers.now a.writes.now a.bytes.now c.loop-turns.invariant c.loop-turns-test.false
+pub all_rounds-requires : goal.all_rounds-requires
+all_rounds-requires c = let h = is-lent c.args.points.now c.args.answers.now c.args.writes.now c.args.bytes.now (search rules) in let e = h.answers_are in omega arith
 
 pub returns : goal.returns
 returns c =
-    let a = c.args in
-    served a.image.now a.shared a.points.now a.answers.now a.writes.now a.bytes.now c.ends.result c.ends.new.answers c.ends.ensures
-    c.loop-turns.invariant c.loop-turns-test.false
+    let b = c.begin_all-begun.ensures in
+    served _ _ _ _ _ _ c.if-n-lt1.false c.if-n-gt32.false (search rules) (sym c.listed_twice.ensures ∙ c.if-listed_twice.false) _ _ _ _ _ _
+    b.common_is c.most_rounds.ensures (c.all_rounds.ensures _ b.shows)
