@@ -11,7 +11,7 @@ use Rattle.words.specs.Edition.{one}
 use Rattle.words.proofs.Logic.{every-all}
 use Rattle.words.proofs.Choice.{choose-true, choose-false, chosen-zero, chosen-suc}
 use Rattle.block_log.specs.declared.Shared.{Shared}
-use Rattle.block_log.specs.declared.Reply.TheVariants.{Done, Refused as Stopped}
+use Rattle.block_log.specs.Refusals.{Done, Refused as Stopped}
 use Rattle.points.specs.declared.Point.{Point}
 use Rattle.points.specs.Serving.{Turned, Common, Listed, begin_turn, step_turn, in_turn, rounds, row, asking, serve_rounds, twice, serve_refusal, point_numbers}
 use Rattle.points.specs.Serving.{Service, serving}

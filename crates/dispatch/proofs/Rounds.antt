@@ -5,10 +5,10 @@ use mathlib.Core.List.{List, [], ◌∷◌, ◌++◌, append-nil}
 use Prim.Native.Nat.{ℕ, suc, ◌+◌, ◌≤◌, ◌<◌}
 use native.Mathlib.Omega.{arith}
 use lib.ListN.{length, length-append, get_or, set}
+use Rattle.std.specs.Prelude.{Ok, Err}
 use Rattle.std.specs.List.{list_any}
 use Rattle.words.specs.Edition.{one}
 use Rattle.block_log.specs.declared.Shared.{Shared}
-use Rattle.block_log.specs.declared.Reply.TheVariants.{Done, Refused as Stopped}
 use Rattle.points.specs.declared.Point.{Point}
 use Rattle.points.specs.declared.StepAnswer.TheVariants.{Stored, Moved, Extending, Committed, Refused, Copied, Bytes}
 use Rattle.points.specs.Serving.{Turned, Common, Last, begun, stepped, Listed, is_unfinished, in_turn, rounds, step_turn, points_of}
@@ -25,13 +25,13 @@ use Rattle.dispatch.proofs.Rows.{behind, in-turn-next, answers_of, points-append
 
 -- whether a write goes on is told by the kind
 pub by_kind : (l : Last) → kind_goes_on (get_or (last_numbers l) 0 0) ≡ is_unfinished l
-by_kind (begun Done) = refl
-by_kind (begun (Stopped n)) = refl
+by_kind (begun (Ok x)) = refl
+by_kind (begun (Err e)) = refl
 by_kind (stepped Stored) = refl
 by_kind (stepped Moved) = refl
 by_kind (stepped Extending) = refl
 by_kind (stepped (Committed n)) = refl
-by_kind (stepped (Refused n)) = refl
+by_kind (stepped (Refused e)) = refl
 by_kind (stepped Copied) = refl
 by_kind (stepped (Bytes n)) = refl
 

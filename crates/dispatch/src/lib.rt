@@ -9,7 +9,7 @@ ghost use Rattle.points.specs.Serving.{begun, stepped, serve_rounds, twice, poin
 ghost use Rattle.dispatch.specs.Dispatch.{sizes_of, requests_of, last_numbers, lent_for_each, dispatch_left, dispatched};
 ghost use Rattle.dispatch.specs.Turns.{kind_goes_on, common, asking_for, Lent, Shows, TurnLeaves, Leaves};
 
-use block_log::{Reply, Shared};
+use block_log::{Refusal, Reply, Shared};
 use points::{Point, StepAnswer};
 
 // What serving answers, and the shared record that it leaves.
@@ -35,7 +35,7 @@ fn step_numbers(step: StepAnswer) -> [u32; 2]
         StepAnswer::Moved => [2, 0],
         StepAnswer::Extending => [3, 0],
         StepAnswer::Committed(retries) => [4, retries as u32],
-        StepAnswer::Refused(n) => [5, n],
+        StepAnswer::Refused(refusal) => [5, refusal.into()],
         StepAnswer::Copied => [6, 0],
         StepAnswer::Bytes(n) => [7, n],
     }
@@ -46,8 +46,8 @@ fn begun_numbers(reply: Reply) -> [u32; 2]
     ensures { result ≡ last_numbers (begun reply) }
 {
     match reply {
-        Reply::Done => [0, 0],
-        Reply::Refused(n) => [5, n],
+        Ok(()) => [0, 0],
+        Err(refusal) => [5, refusal.into()],
     }
 }
 
@@ -225,19 +225,19 @@ pub fn serve(
     let n = points.len();
     if n < 1 || 32 < n || !lent_for_each(n, answers.len(), writes, bytes.len()) {
         return Served {
-            reply: Reply::Refused(points::NOT_ONE_EACH),
+            reply: Err(Refusal::NotOneEach),
             shared,
         };
     }
     if listed_twice(points) {
         return Served {
-            reply: Reply::Refused(points::LISTED_TWICE),
+            reply: Err(Refusal::ListedTwice),
             shared,
         };
     }
     let begun = begin_all(image, shared, points, answers, writes, bytes);
     Served {
-        reply: Reply::Done,
+        reply: Ok(()),
         shared: all_rounds(image, begun, points, answers, most_rounds(n)),
     }
 }
