@@ -11,12 +11,11 @@ use Rattle.words.specs.Edition.{one}
 use Rattle.words.proofs.Choice.{choose-true, choose-false}
 use Rattle.words.proofs.Tests.{no_true}
 use Rattle.block_log.specs.Opening.{number_of}
-use Rattle.block_log.proofs.Replies.{number-back}
 use Rattle.points.specs.declared.Begun.{Begun}
 use Rattle.points.specs.Record.{bad_shared}
 use Rattle.points.specs.Calls.{beginning, begin_refusal}
 use Rattle.points.specs.Serving.{Turned}
-use Rattle.points.proofs.Replies.{begin-replies}
+use Rattle.points.proofs.Replies.{beginning-number}
 use Rattle.points.proofs.ReadyOn.{begin-ready, begin-others}
 use Rattle.c_lent.specs.Numbers.{head_from, is_known, shared_from, SharedLent, PointLent, shared_in, point_in, lend_shared, lend_point}
 use Rattle.c_lent.specs.Calls.{PointLeft, unknown, if_known}
@@ -121,7 +120,7 @@ begin-good c c' i f f' a good e before j l g = go (is_known a.point.head) refl
             let n = begin_refusal one words (shared_in s) (head_from p.head) p.table a.offset (length a.text) in
             let none : number_of b.reply ≡ 0 = begun-on _ (ap (λ (x : ListedLent). kind_goes_on (get_or x.answer 0 0)) (sym here) ∙ g) in
             let refusal : n ≡ 0 =
-            sym (number-back n) ∙ ap number_of (sym (begin-replies one words (shared_in s) (point_in p) a.offset a.text)) ∙ none in
+            sym (beginning-number one words (shared_in s) (point_in p) a.offset a.text) ∙ none in
             subst (λ (t : T). ReadyAt t.common (f' j)) (sym turned)
             (subst (ReadyAt (common_lent words (lend_shared b.shared))) (sym here) (begun-ready words s p a.offset a.text known refusal _))
     go false none = at (dec_lt j i)

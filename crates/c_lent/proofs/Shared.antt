@@ -6,8 +6,8 @@ use mathlib.Core.List.{List, [], ◌∷◌, ◌++◌, append-nil}
 use lib.ListN.{length, get_or, set, take, drop, length-drop, drop_of_length-le}
 use lib.Seq.{paste, paste-suc, take_all, take-length}
 use Rattle.block_log.specs.declared.Shared.{Shared}
-use Rattle.block_log.specs.declared.Reply.{Reply}
-use Rattle.block_log.specs.declared.Reply.TheVariants.{Done, Refused}
+use Rattle.std.specs.Prelude.{Ok, Err}
+use Rattle.block_log.specs.Refusals.{Reply}
 use Rattle.points.specs.declared.Head.{Head}
 use Rattle.points.specs.declared.plan.Reports.{Reports}
 use Rattle.points.specs.declared.plan.Reports.TheVariants.{NoReport, Standing, Linked}
@@ -86,8 +86,8 @@ module _ (taken : List ℕ) (h : Head) where
 -- ---- the map is as it was
 
 pub begun-taken : (r : Reply) (h : Head) (s : Shared) → (begun_shared r h s).taken ≡ s.taken
-begun-taken Done h s = refl
-begun-taken (Refused n) h s = refl
+begun-taken (Ok x) h s = refl
+begun-taken (Err e) h s = refl
 
 pub reported-taken : (r : Reports) (h : Head) (s : Shared) → (reported r h s).taken ≡ s.taken
 reported-taken NoReport h s = refl

@@ -4,7 +4,7 @@ use Rattle.words.specs.Edition.{one}
 use Rattle.words.specs.Logic.{first, ◌when◌}
 use Rattle.words.specs.Memory.{after}
 use Rattle.block_log.specs.declared.Shared.{Shared}
-use Rattle.block_log.specs.declared.Reply.{Reply}
+use Rattle.block_log.specs.Refusals.{Reply, refusal}
 use Rattle.block_log.specs.Opening.{number_of, opened, scratch_after}
 use Rattle.points.specs.declared.Point.{Point}
 use Rattle.points.specs.declared.StepAnswer.TheVariants.{Refused}
@@ -109,7 +109,7 @@ module _ (words : List ℕ) (s : SharedLent) (p : PointLent) where
       let o = stepping one words (shared_in s) (point_in p) in
       let answer = answer_numbers o.step (stored_at one o.store) in
       if_known (step_left answer (after one words o.store) (lend_shared o.shared) (lend_point o.point) (bytes_after o.bytes lent))
-      (λ n. step_left (answer_numbers (Refused n) 0) words s p lent)
+      (λ n. step_left (answer_numbers (Refused (refusal n)) 0) words s p lent)
 
   abbrev pub leave_for : SharedLeft
   leave_for =

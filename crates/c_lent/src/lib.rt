@@ -101,7 +101,7 @@ pub fn begin(
         (shared_lent shared.old taken.old) (point_lent head.old table.old text.old) offset bytes.now }
 {
     if !numbers::is_known(head) {
-        return numbers::unknown(image, shared);
+        return numbers::unknown(image, shared).into();
     }
     let begun = points::begin::begin_lent(
         image,
@@ -135,7 +135,7 @@ pub fn begin_read(
         image.now (shared_lent shared.old taken.old) (point_lent head.old table.old text.old) offset size }
 {
     if !numbers::is_known(head) {
-        return numbers::unknown(image, shared);
+        return numbers::unknown(image, shared).into();
     }
     let begun = points::begin::begin_read_lent(
         image,
@@ -199,7 +199,7 @@ pub fn leave(
         ≡ leave_for image.now (shared_lent shared.old taken.old) (textless head.now table.now) }
 {
     if !numbers::is_known(head) {
-        return numbers::unknown(image, shared);
+        return numbers::unknown(image, shared).into();
     }
     let left = points::leave::leave_lent(
         image,

@@ -1,5 +1,6 @@
 // Enums and records in numbers, and records from their numbers.
 ghost use Rattle.std.specs.Prelude.{◌≡◌, true, List, ◌++◌, ℕ, ◌≤◌, length, take, set};
+ghost use Rattle.block_log.specs.Refusals.{number};
 ghost use Rattle.block_log.specs.Opening.{number_of};
 ghost use Rattle.points.specs.Stepping.{step_kind, step_value};
 ghost use Rattle.points.specs.Plan.{reported};
@@ -9,7 +10,7 @@ ghost use Rattle.c_lent.specs.Numbers.{shared_numbers, reports_from, lead_from, 
 ghost use Rattle.c_lent.specs.Calls.{unknown, no_count};
 
 use crate::{Answer, Count, Opened};
-use block_log::{Reply, Shared};
+use block_log::{Refusal, Reply, Shared};
 use points::StepAnswer;
 use points::plan::Reports;
 
@@ -18,8 +19,8 @@ pub fn of_reply(reply: Reply) -> u32
     ensures { result ≡ number_of reply }
 {
     match reply {
-        Reply::Done => 0,
-        Reply::Refused(n) => n,
+        Ok(()) => 0,
+        Err(refusal) => refusal.into(),
     }
 }
 
@@ -32,7 +33,7 @@ fn kind(step: StepAnswer) -> u32
         StepAnswer::Moved => 2,
         StepAnswer::Extending => 3,
         StepAnswer::Committed(retries) => 4,
-        StepAnswer::Refused(n) => 5,
+        StepAnswer::Refused(_) => 5,
         StepAnswer::Copied => 6,
         StepAnswer::Bytes(n) => 7,
     }
@@ -46,7 +47,7 @@ fn value(step: StepAnswer) -> u32
         StepAnswer::Moved => 0,
         StepAnswer::Extending => 0,
         StepAnswer::Committed(retries) => retries as u32,
-        StepAnswer::Refused(n) => n,
+        StepAnswer::Refused(refusal) => refusal.into(),
         StepAnswer::Copied => 0,
         StepAnswer::Bytes(n) => n,
     }
@@ -85,11 +86,11 @@ pub(crate) fn of_count(count: points::Count) -> Count
 }
 
 // What a refused reading or locating answers.
-pub(crate) fn no_count(reason: u32) -> Count
-    ensures { result ≡ no_count reason }
+pub(crate) fn no_count(refusal: Refusal) -> Count
+    ensures { result ≡ no_count (number refusal) }
 {
     Count {
-        refused: reason,
+        refused: refusal.into(),
         count: 0,
     }
 }
@@ -229,8 +230,8 @@ pub(crate) fn put_begun(numbers: &mut [u32], reply: Reply, head: points::Head)
     ensures { (taken : List ℕ) → numbers.new ≡ shared_numbers (begun_shared reply head (shared_from numbers.old taken)) }
 {
     match reply {
-        Reply::Done => report(numbers, head.number, head.place.block),
-        Reply::Refused(n) => {}
+        Ok(()) => report(numbers, head.number, head.place.block),
+        Err(_) => {}
     }
 }
 
@@ -250,11 +251,11 @@ pub(crate) fn put_reported(numbers: &mut [u32], reports: Reports, head: points::
 }
 
 // Why a record is refused whose numbers are no head's: it does not fit, and 10 comes before.
-pub(crate) fn unknown(image: &[u64], shared: &[u32; 35]) -> u32
-    ensures { (taken : List ℕ) → result ≡ unknown image.now shared.now taken }
+pub(crate) fn unknown(image: &[u64], shared: &[u32; 35]) -> Refusal
+    ensures { (taken : List ℕ) → number result ≡ unknown image.now shared.now taken }
 {
     if points::record::bad_numbers(image, lead(shared)) {
-        return points::SHARED_UNFIT;
+        return Refusal::SharedUnfit;
     }
-    points::RECORD_UNFIT
+    Refusal::RecordUnfit
 }

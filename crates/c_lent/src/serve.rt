@@ -2,12 +2,15 @@
 ghost use Rattle.std.specs.Prelude.{◌≡◌, true, false, suc, ◌+◌, ◌-◌, ◌≤◌, ◌<◌, length, eqb};
 ghost use Rattle.words.specs.Edition.{one};
 ghost use Rattle.words.specs.Logic.{member, list_from};
+ghost use Rattle.block_log.specs.Opening.{number_of};
 ghost use Rattle.points.specs.Serving.{rounds, serve_rounds, twice};
 ghost use Rattle.c_lent.specs.Numbers.{shared_lent};
 ghost use Rattle.c_lent.specs.Serving.{step_turn_for, listed, listed_at, common_lent, turn_left};
 ghost use Rattle.c_lent.specs.Batch.{AllReady};
 ghost use Rattle.c_lent.specs.Batch.{Lengths};
 ghost use Rattle.c_lent.specs.Serving.{one_for_each, any_goes_on, start_at, number_at, serve_reason, serve_left, serve_for};
+
+use block_log::{Refusal, Reply};
 
 // Whether somebody's write goes on.
 fn anybody(answers: &[[u32; 2]]) -> bool
@@ -113,7 +116,7 @@ fn one_for_each(n: usize, tables: usize, texts: usize, writes: usize, answers: u
     answers == n
 }
 
-// 26: no point, more than 32, or not one write, with its room, for each; 27: a point is listed twice. 0 for neither.
+// 26: no point, more than 32, or not one write, with its room, for each; 27: a point is listed twice.
 fn reason(
     heads: &[[u32; 11]],
     tables: usize,
@@ -121,19 +124,19 @@ fn reason(
     writes: &[[usize; 2]],
     answers: usize,
     bytes: usize,
-) -> u32
-    ensures { result ≡ serve_reason heads.now tables texts writes.now answers bytes }
+) -> Reply
+    ensures { number_of result ≡ serve_reason heads.now tables texts writes.now answers bytes }
 {
     if !one_for_each(heads.len(), tables, texts, writes.len(), answers) {
-        return points::NOT_ONE_EACH;
+        return Err(Refusal::NotOneEach);
     }
     if !adds_up(writes, bytes) {
-        return points::NOT_ONE_EACH;
+        return Err(Refusal::NotOneEach);
     }
     if listed_twice(heads) {
-        return points::LISTED_TWICE;
+        return Err(Refusal::ListedTwice);
     }
-    0
+    Ok(())
 }
 
 // How many rounds a list of n points has at most.
@@ -170,8 +173,8 @@ pub fn serve(
         answers.len(),
         bytes.len(),
     );
-    if refused != 0 {
-        return refused;
+    if let Err(refusal) = refused {
+        return refusal.into();
     }
     crate::turn::begin_all(
         image, shared, taken, heads, tables, texts, answers, writes, bytes,

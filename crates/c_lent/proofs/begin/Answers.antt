@@ -5,8 +5,8 @@ use Rattle.c_lent.proofs.begin.Goals as goal
 
 pub returns-then-not-is_known : goal.returns-then-not-is_known
 returns-then-not-is_known c = let a = c.args in
-    is_none a.image.now (shared_lent a.shared.now a.taken.now) (point_lent a.head.now a.table.now a.text.now) _ _
-    (tests-none c.is_known.ensures c.if-not-is_known.true-raw) _ (c.unknown.ensures a.taken.now)
+    rw c.into.ensures (is_none a.image.now (shared_lent a.shared.now a.taken.now) (point_lent a.head.now a.table.now a.text.now) _ _
+    (tests-none c.is_known.ensures c.if-not-is_known.true-raw) _ (c.unknown.ensures a.taken.now))
 
 pub head-requires : goal.head-requires
 head-requires c = tests-known c.is_known.ensures c.if-not-is_known.false-raw

@@ -1,14 +1,21 @@
 -- `c_lent::step`: refused where the record's numbers are none, else as the call answers. Assumes nothing.
-use Rattle.c_lent.specs.Numbers.{shared_lent, point_lent}
+use mathlib.Core.Path.{sym, ap, ◌∙◌}
+use Rattle.block_log.specs.declared.Refusal.{Refusal}
+use Rattle.block_log.proofs.Replies.{refusal-again}
+use Rattle.points.specs.declared.StepAnswer.TheVariants.{Refused}
+use Rattle.c_lent.specs.Calls.{step_left}
+use Rattle.c_lent.specs.Numbers.{answer_numbers, shared_lent, point_lent}
 use Rattle.c_lent.proofs.Calls.{tests-none, tests-known, is_none, step-known}
 use borrow.Author.Rules.{rules}
 use Rattle.c_lent.proofs.step.Goals as goal
 
 pub returns-then-not-is_known : goal.returns-then-not-is_known
 returns-then-not-is_known c = let a = c.args in
+    let s = shared_lent a.shared.now a.taken.now in
+    let p = point_lent a.head.now a.table.now a.text.now in
     rw c.of_step.ensures
-    (is_none a.image.now (shared_lent a.shared.now a.taken.now) (point_lent a.head.now a.table.now a.text.now) _ _
-    (tests-none c.is_known.ensures c.if-not-is_known.true-raw) _ (c.unknown.ensures a.taken.now))
+    (ap (λ (x : Refusal). step_left (answer_numbers (Refused x) 0) a.image.now s p a.bytes.now) (sym (refusal-again c.unknown.result))
+    ∙ is_none a.image.now s p _ _ (tests-none c.is_known.ensures c.if-not-is_known.true-raw) _ (c.unknown.ensures a.taken.now))
 
 pub head-requires : goal.head-requires
 head-requires c = tests-known c.is_known.ensures c.if-not-is_known.false-raw
