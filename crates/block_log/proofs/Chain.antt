@@ -1,19 +1,17 @@
 -- The superblock, the chain and the log blocks: the tests 3 to 6 as the code makes them, and passes over the chain.
-use mathlib.Core.Path.{◌≡◌, refl}
+use mathlib.Core.Path.{◌≡◌, refl, subst}
 use mathlib.Core.List.{List, [], ◌∷◌}
 use mathlib.Core.Bool.{true, false, Bool, not, or-false}
 use Prim.Native.Nat.{ℕ, zero, suc, ◌-◌, ◌+◌, ◌≤◌, ◌<◌}
 use native.Mathlib.Omega.{arith}
-use lib.Dec.{eqb, ltb, leb, leb-suc-suc}
+use lib.Dec.{ltb, leb, leb-suc-suc}
 use lib.ListN.{length, get_or, drop, length-drop}
 use lib.Seq.{drop-drop}
-use borrow.Author.Tests.{eq-eqb, le-ltb, ltb-true, ne_eqb, lt-ltb, lt-leb, leb-false}
-use Rattle.words.specs.BlockMap.{set_block, set_all}
+use borrow.Author.Tests.{eq-eqb, ltb-true, ne_eqb, lt-ltb, lt-leb, leb-false}
 use Rattle.words.specs.Edition.{Edition, chain_max}
 use Rattle.words.specs.Logic.{is_zero, some_of, all_of, any, up_to_zero}
 use Rattle.words.specs.Memory.{Memory, block_at, word_at}
 use Rattle.block_log.specs.Chain.{first_index, next_index, chain_from, chain, bad_superblock, bad_index, endless, bad_log_block, outside}
-use Rattle.words.proofs.BlockMap.{set_all-next}
 use Rattle.words.proofs.Logic.{or_left, or_right, agree}
 use Rattle.words.proofs.MapOf.{Below}
 use Rattle.words.proofs.Tests.{is-zero, not-zero}
@@ -39,31 +37,8 @@ module _ (m : Memory) where
   chain_next (suc n) (suc b) h ne = let e : suc n - 1 ≡ n = omega arith in rw e
 
   module _ (p : ℕ → Bool) (n b : ℕ) where
-    pub links-on : 0 < n → (b ≡ 0 → ⊥) → p b ≡ false → some_of p (chain_from m n b) ≡ some_of p (chain_from m (n - 1) (next_index m b))
-    links-on h ne e = rw (chain_next n b h ne, e)
-
     pub links-hit : 0 < n → (b ≡ 0 → ⊥) → p b ≡ true → some_of p (chain_from m n b) ≡ true
     links-hit h ne e = rw (chain_next n b h ne, e)
-
-    pub links_end : b ≡ 0 → some_of p (chain_from m n b) ≡ false
-    links_end e = rw (chain-end n b e)
-
-    pub links-none : n ≤ 0 → some_of p (chain_from m n b) ≡ false
-    links-none h = rw (chain-none n b h)
-
--- a pass over the chain
-module _ (m : Memory) (map : List ℕ) (n b : ℕ) where
-  pub links-marks : 0 < n → (b ≡ 0 → ⊥)
-      → set_all true map (chain_from m n b) ≡ set_all true (set_block true map b) (chain_from m (n - 1) (next_index m b))
-  links-marks h ne = rw (chain_next m n b h ne) (set_all-next map b (chain_from m (n - 1) (next_index m b)) ne)
-
-  pub links-marked : b ≡ 0 → set_all true map (chain_from m n b) ≡ map
-  unfolding set_all
-  links-marked e = rw (chain-end m n b e)
-
-  pub links-marked-all : n ≤ 0 → set_all true map (chain_from m n b) ≡ map
-  unfolding set_all
-  links-marked-all h = rw (chain-none m n b h)
 
 -- its indexes and a bound that none of them reaches
 module _ (m : Memory) (n b : ℕ) where
@@ -85,6 +60,17 @@ unfolding chain_from
 chain-positive m zero b = tt
 chain-positive m (suc n) zero = tt
 chain-positive m (suc n) (suc b) = (λ e. omega arith, chain-positive m n (next_index m (suc b)))
+
+-- no pass over the chain is longer than was asked
+pub chain-length : (m : Memory) (n b : ℕ) → length (chain_from m n b) ≤ n
+unfolding chain_from
+chain-length m zero b = omega arith
+chain-length m (suc n) zero = omega arith
+chain-length m (suc n) (suc b) = omega (arith, chain-length m n (next_index m (suc b)))
+
+-- what such a pass gives is no 0
+pub chain-first : (m : Memory) (n i b : ℕ) (bs : List ℕ) → chain_from m n i ≡ b ∷ bs → b ≡ 0 → ⊥
+chain-first m n i b bs e = (subst Positive e (chain-positive m n i)).0
 
 pub outside_below : (xs : List ℕ) → some_of (outside 1024) xs ≡ false → Below xs
 outside_below [] h = tt
@@ -130,15 +116,6 @@ module _ (m : Memory) where
       let e : suc n - 1 ≡ n = omega arith in
       let e2 : suc (suc n) - 1 ≡ suc n = omega arith in
       rw (chain_next m (suc (suc n)) b (omega arith) ne, e, e2) (leb-suc-suc (suc n) (length (chain_from m (suc n) (next_index m b))))
-
-  pub endless-end : (n b : ℕ) → b ≡ 0 → ltb n (length (chain_from m (suc n) b)) ≡ false
-  endless-end n b e = rw (chain-end m (suc n) b e) (le-ltb n 0 (omega arith))
-
-  pub endless-last : (n b : ℕ) → n ≤ 0 → ltb n (length (chain_from m (suc n) b)) ≡ not (eqb b 0)
-  unfolding chain_from
-  endless-last (suc n) b h = absurd (omega arith)
-  endless-last zero zero h = refl
-  endless-last zero (suc b) h = rw (ne_eqb (suc b) 0 (λ e. omega arith))
 
 -- ---- 6
 

@@ -10,13 +10,10 @@ use lib.ListN.{length, get_or, set, drop, replicate, length-append, length-drop,
 use lib.Seq.{ext_get_or, get_or-set_same, get_or-set_other, drop-cons, get_or-append-add}
 use borrow.Author.Tests.{eq-eqb, ne_eqb}
 use Rattle.words.specs.Logic.{member, list_from}
-use Rattle.words.specs.Memory.{Memory}
-use Rattle.block_log.specs.Chain.{next_index, chain_from}
 use Rattle.block_log.specs.Opening.{place_in, scratch_mark}
 use Rattle.block_log.specs.Parts.{live_mark, chain_mark}
 use Rattle.words.proofs.Logic.{length-list_from, get_d-list_from, zeros-at}
 use Rattle.words.proofs.MapOf.{Below}
-use Rattle.block_log.proofs.Chain.{chain-end, chain-none, chain_next}
 
 pub live-mark-start : (table s : List ℕ) (v i : ℕ) → length table ≤ v → get_or s i 0 ≡ live_mark (drop v table) v s i
 unfolding live_mark
@@ -33,7 +30,7 @@ live-mark-step table s₀ s v h l same i = rw (drop-cons table v 0 h) (go (ℕ_d
     go (yes e) = rw (eq-eqb i (get_or table v 0) e, live_mark, e) (get_or-set_same s (get_or table v 0) (suc v) 0 l)
     go (no n) = rw (ne_eqb i (get_or table v 0) n, live_mark) (get_or-set_other s (get_or table v 0) i (suc v) 0 n ∙ same i)
 
-chain-mark-step : (b : ℕ) (bs s : List ℕ) (i : ℕ) → b < length s → chain_mark (b ∷ bs) s i ≡ chain_mark bs (set s b 65535) i
+pub chain-mark-step : (b : ℕ) (bs s : List ℕ) (i : ℕ) → b < length s → chain_mark (b ∷ bs) s i ≡ chain_mark bs (set s b 65535) i
 unfolding chain_mark
 chain-mark-step b bs s i h = go (ℕ_discrete i b) (member i bs) refl
   where
@@ -42,20 +39,6 @@ chain-mark-step b bs s i h = go (ℕ_discrete i b) (member i bs) refl
     go (yes e) false m = rw (eq-eqb i b e, chain_mark, m, e) (sym (get_or-set_same s b 65535 0 h))
     go (no n) true m = rw (ne_eqb i b n, chain_mark, m)
     go (no n) false m = rw (ne_eqb i b n, chain_mark, m) (sym (get_or-set_other s b i 65535 0 n))
-
-module _ (m : Memory) (s : List ℕ) (n b : ℕ) where
-  pub chain-mark-on :
-      0 < n → (b ≡ 0 → ⊥) → b < length s → (i : ℕ)
-      → chain_mark (chain_from m n b) s i ≡ chain_mark (chain_from m (n - 1) (next_index m b)) (set s b 65535) i
-  chain-mark-on h ne l i = rw (chain_next m n b h ne) (chain-mark-step b (chain_from m (n - 1) (next_index m b)) s i l)
-
-  pub chain-mark-end : b ≡ 0 → (i : ℕ) → chain_mark (chain_from m n b) s i ≡ get_or s i 0
-  unfolding chain_mark
-  chain-mark-end e i = rw (chain-end m n b e)
-
-  pub chain-mark-none : n ≤ 0 → (i : ℕ) → chain_mark (chain_from m n b) s i ≡ get_or s i 0
-  unfolding chain_mark
-  chain-mark-none h i = rw (chain-none m n b h)
 
 -- ---- all marks
 

@@ -6,7 +6,7 @@ ghost use Rattle.words.specs.Memory.{memory};
 ghost use Rattle.block_log.specs.Chain.{entries_from};
 ghost use Rattle.block_log.specs.Entry.{entry_end, legal, covers};
 ghost use Rattle.block_log.specs.Opening.{bad_entry};
-ghost use Rattle.block_log.specs.Replay.{map_run};
+ghost use Rattle.block_log.specs.Replay.{map_run, apply};
 ghost use Rattle.block_log.specs.CatchUp.{ahead, broken, TakenIn};
 ghost use Rattle.block_log.specs.Look.{lookahead_of};
 ghost use Rattle.block_log.specs.Parts.{Mappable};
@@ -17,14 +17,10 @@ use crate::{Lookahead, Place};
 pub fn wrong_in(part: &[u64], from: usize, blocks: u32) -> bool
     ensures { result ≡ bad_entry one blocks (entries_from from part.now) }
 {
-    let mut i = from;
-    while i < part.len() && part[i] != 0 {
-        if !crate::is_legal(part[i], blocks as u64) {
-            return true;
-        }
-        i += 1;
-    }
-    false
+    crate::words_from(part, from)
+        .iter()
+        .take_while(|e| **e != 0)
+        .any(|e| !crate::is_legal(*e, blocks as u64))
 }
 
 // Whether an entry covers a virtual block.
@@ -44,20 +40,10 @@ pub fn covers(e: u64, x: u32) -> bool
 pub fn covered_in(part: &[u64], from: usize, x: u32) -> bool
     ensures { result ≡ some_of (covers x) (entries_from from part.now) }
 {
-    let mut i = from;
-    while i < part.len() && part[i] != 0 {
-        if covers(part[i], x) {
-            return true;
-        }
-        i += 1;
-    }
-    false
-}
-
-pub fn either(a: bool, b: bool) -> bool
-    ensures { result ≡ (a || b) }
-{
-    if a { true } else { b }
+    crate::words_from(part, from)
+        .iter()
+        .take_while(|e| **e != 0)
+        .any(|e| covers(*e, x))
 }
 
 fn lookahead(
@@ -92,9 +78,9 @@ pub fn look(image: &[u64], blocks: u32, from: Place, x: u32, y: u32) -> Lookahea
     let mut last = false;
     loop {
         let part = words::image::block(image, b as usize);
-        wrong = either(wrong, wrong_in(part, slot as usize, blocks));
-        first = either(first, covered_in(part, slot as usize, x));
-        last = either(last, covered_in(part, slot as usize, y));
+        wrong |= wrong_in(part, slot as usize, blocks);
+        first |= covered_in(part, slot as usize, x);
+        last |= covered_in(part, slot as usize, y);
         slot = crate::tail(part, slot as usize) as u32;
         if slot < 64 {
             return lookahead(b, slot, entered, wrong, first, last);
@@ -120,14 +106,9 @@ fn map_run(table: &mut [u16; 256], v: usize, b: u16, n: usize)
     requires { (v + n ≤ 256) × (b + n ≤ 1024) }
     ensures { table.new ≡ map_run table.old v b n }
 {
-    let mut i = v;
-    let mut at = b;
-    let mut left = n;
-    while 0 < left {
-        table[i] = at;
-        i += 1;
-        at += 1;
-        left -= 1;
+    // Stays: `table[v..v + n].iter_mut().zip(b..)` doesn't prove, since nothing is known of a slice after an adapter of `iter_mut`.
+    for i in 0..n {
+        table[v + i] = b + i as u16;
     }
 }
 
@@ -139,17 +120,14 @@ fn longer(size: u32, e: u64) -> u32
     let v = crate::first_virtual(e);
     let n = crate::count(e);
     let u = crate::used(e);
-    let end = 512 * (v + n - 1) + u;
-    if (size as u64) < end {
-        return end as u32;
-    }
-    size
+    size.max((512 * (v + n - 1) + u) as u32)
 }
 
 // One entry is taken in: the table, and the length that is handed back.
-fn take_in(e: u64, table: &mut [u16; 256], size: u32) -> u32
+pub fn take_in(e: u64, table: &mut [u16; 256], size: u32) -> u32
     requires { Mappable e }
-    ensures { TakenIn (e ∷ []) table.old size table.new result }
+    ensures alone { TakenIn (e ∷ []) table.old size table.new result }
+    ensures applied { record { table = table.new; size = result } ≡ apply one (record { table = table.old; size = size }) e }
 {
     let v = crate::first_virtual(e) as usize;
     let b = crate::first_block(e) as u16;
@@ -164,14 +142,12 @@ fn take_part(part: &[u64], from: usize, blocks: u32, table: &mut [u16; 256], siz
     ensures { let entries = entries_from from part.now in
         bad_entry one blocks entries ≡ false → TakenIn entries table.old size table.new result }
 {
-    let mut i = from;
     let mut end = size;
-    while i < part.len() && part[i] != 0 {
-        if !crate::is_legal(part[i], blocks as u64) {
+    for e in crate::words_from(part, from) {
+        if *e == 0 || !crate::is_legal(*e, blocks as u64) {
             return end;
         }
-        end = take_in(part[i], table, end);
-        i += 1;
+        end = take_in(*e, table, end);
     }
     end
 }

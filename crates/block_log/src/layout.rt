@@ -10,9 +10,7 @@ fn zero_front(image: &mut [u64], n: usize)
     requires { n ≤ length image.old }
     ensures { image.new ≡ replicate n 0 ++ drop n image.old }
 {
-    for i in 0..n {
-        words::image::put_word(image, i, 0);
-    }
+    image[..n].fill(0);
 }
 
 // The superblock, with first log block 1, and an empty block 1; other blocks are not touched.

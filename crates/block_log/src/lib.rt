@@ -1,7 +1,7 @@
 // The log: laying out, opening, and the entries. The definitions are in specs/.
 #![tactic(auto)]
 
-ghost use Rattle.std.specs.Prelude.{◌≡◌, ◌+◌, ◌<◌, length};
+ghost use Rattle.std.specs.Prelude.{◌≡◌, ◌+◌, ◌<◌, length, drop};
 ghost use Rattle.words.specs.Edition.{one};
 ghost use Rattle.block_log.specs.Chain.{entries_from};
 ghost use Rattle.block_log.specs.Refusals.{number};
@@ -179,42 +179,27 @@ pub fn rest(e: u64) -> u64
 pub fn is_legal(e: u64, blocks: u64) -> bool
     ensures { result ≡ legal one blocks e }
 {
-    let v = first_virtual(e);
     let b = first_block(e);
     let n = count(e);
     let u = used(e);
-    let z = rest(e);
-    if n < 1 {
-        return false;
-    }
-    if 64 < n {
-        return false;
-    }
-    if u < 1 {
-        return false;
-    }
-    if 512 < u {
-        return false;
-    }
-    if z != 0 {
-        return false;
-    }
-    if 256 < v + n {
-        return false;
-    }
-    if b < 1 {
-        return false;
-    }
-    b + n <= blocks
+    let sized = (1 <= n) & (n <= 64) & (1 <= u) & (u <= 512);
+    let inside = (first_virtual(e) + n <= 256) & (1 <= b) & (b + n <= blocks);
+    sized & (rest(e) == 0) & inside
+}
+
+// The words of a part from a place on.
+pub fn words_from(part: &[u64], from: usize) -> &[u64]
+    ensures { result.now ≡ drop from part.now }
+{
+    part.get(from..).unwrap_or(&[])
 }
 
 // The first slot from `from` on that is empty, or the block's end.
 pub fn tail(block: &[u64], from: usize) -> usize
     ensures { result ≡ from + length (entries_from from block.now) }
 {
-    let mut i = from;
-    while i < block.len() && block[i] != 0 {
-        i += 1;
-    }
-    i
+    from + words_from(block, from)
+        .iter()
+        .take_while(|w| **w != 0)
+        .count()
 }

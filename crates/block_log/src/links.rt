@@ -3,7 +3,8 @@ ghost use Rattle.std.specs.Prelude.{◌≡◌, ◌%◌, ◌^◌, drop};
 ghost use Rattle.words.specs.Edition.{one};
 ghost use Rattle.words.specs.Logic.{all_of, some_of, is_zero};
 ghost use Rattle.words.specs.Memory.{memory};
-ghost use Rattle.block_log.specs.Chain.{first_index, next_index, chain, outside, bad_superblock, bad_index, endless, bad_log_block, bad_log};
+ghost use Rattle.block_log.specs.Links.{links_left};
+ghost use Rattle.block_log.specs.Chain.{first_index, next_index, chain_from, chain, outside, bad_superblock, bad_index, endless, bad_log_block, bad_log};
 
 use crate::Place;
 
@@ -11,14 +12,7 @@ use crate::Place;
 pub fn zeros_from(part: &[u64], from: usize) -> bool
     ensures { result ≡ all_of is_zero (drop from part.now) }
 {
-    let mut i = from;
-    while i < part.len() {
-        if part[i] != 0 {
-            return false;
-        }
-        i += 1;
-    }
-    true
+    crate::words_from(part, from).iter().all(|w| *w == 0)
 }
 
 // The index of the first log block.
@@ -33,6 +27,46 @@ pub fn next_index(image: &[u64], b: u64) -> u64
     ensures { result ≡ next_index (memory one image.now) b }
 {
     words::image::word(words::image::block(image, b as usize), 0)
+}
+
+// The log blocks of the chain, from an index on, as many as are left to go.
+#[derive(Clone, Copy)]
+pub struct Links<'a> {
+    image: &'a [u64],
+    index: u64,
+    left: usize,
+}
+
+impl<'a> Iterator for Links<'a> {
+    ghost use Rattle.std.specs.Iterator.{YieldsFirst, item_count};
+    ghost use Rattle.block_log.specs.Links.{links_left};
+
+    type Item = u64;
+
+    ghost next_gives = { YieldsFirst links_left };
+
+    ghost remaining = { item_count links_left };
+
+    fn next(&mut self) -> Option<u64> {
+        let b = self.index;
+        if b == 0 || self.left == 0 {
+            return None;
+        }
+        self.index = next_index(self.image, b);
+        self.left -= 1;
+        Some(b)
+    }
+}
+
+// The log blocks of the chain, at most so many of them.
+pub fn chain(image: &[u64], most: usize) -> Links<'_>
+    ensures { links_left result ≡ chain_from (memory one image.now) most (first_index (memory one image.now)) }
+{
+    Links {
+        image,
+        index: first_index(image),
+        left: most,
+    }
 }
 
 // The log place at the log's start: slot 2 of the first log block. Of the index 32 bits are kept.
@@ -58,19 +92,7 @@ pub fn bad_superblock(image: &[u64]) -> bool
 fn some_outside(image: &[u64], blocks: u64) -> bool
     ensures { result ≡ some_of (outside blocks) (chain (memory one image.now)) }
 {
-    let mut b = first_index(image);
-    let mut left: usize = 64;
-    while 0 < left {
-        if b == 0 {
-            return false;
-        }
-        if blocks <= b {
-            return true;
-        }
-        b = next_index(image, b);
-        left -= 1;
-    }
-    false
+    chain(image, 64).any(|b| blocks <= b)
 }
 
 // 4. The first log index is 0, or one of the first 64 indexes of the chain is not below the block count.
@@ -87,16 +109,7 @@ pub fn bad_index(image: &[u64], blocks: u64) -> bool
 pub fn is_endless(image: &[u64]) -> bool
     ensures { result ≡ endless (memory one image.now) }
 {
-    let mut b = first_index(image);
-    let mut links: usize = 64;
-    while 0 < links {
-        if b == 0 {
-            return false;
-        }
-        b = next_index(image, b);
-        links -= 1;
-    }
-    b != 0
+    64 < chain(image, 65).count()
 }
 
 // A log block has a word 1 other than 0, an entry after an empty one, or a next index though not full.
@@ -120,17 +133,5 @@ pub fn bad_log_block(part: &[u64]) -> bool
 pub fn bad_log(image: &[u64]) -> bool
     ensures { result ≡ bad_log (memory one image.now) }
 {
-    let mut b = first_index(image);
-    let mut left: usize = 64;
-    while 0 < left {
-        if b == 0 {
-            return false;
-        }
-        if bad_log_block(words::image::block(image, b as usize)) {
-            return true;
-        }
-        b = next_index(image, b);
-        left -= 1;
-    }
-    false
+    chain(image, 64).any(|b| bad_log_block(words::image::block(image, b as usize)))
 }

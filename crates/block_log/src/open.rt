@@ -63,15 +63,8 @@ fn early_reason(image: &[u64], room: usize) -> Reply
 fn take_chain(image: &[u64], map: &mut [u64])
     ensures { map.new ≡ set_all true map.old (chain (memory one image.now)) }
 {
-    let mut b = crate::links::first_index(image);
-    let mut left: usize = 64;
-    while 0 < left {
-        if b == 0 {
-            return;
-        }
+    for b in crate::links::chain(image, 64) {
         words::map::set_block(map, b as usize, true);
-        b = crate::links::next_index(image, b);
-        left -= 1;
     }
 }
 
@@ -93,9 +86,8 @@ fn take_live(table: &[u16; 256], map: &mut [u64]) -> bool
     ensures { TakesBlocks table.now map.old map.new result }
 {
     let mut met = false;
-    for v in 0..256 {
-        let one_met = take_one(map, wide(table[v]));
-        met = crate::ahead::either(met, one_met);
+    for b in table {
+        met |= take_one(map, usize::from(*b));
     }
     met
 }
@@ -124,21 +116,15 @@ fn dirty_from(part: &[u64], from: usize) -> bool
     requires { from ≤ 512 }
     ensures { result ≡ some_of (λ k. not (is_zero (byte_in part.now k))) (up_from from (512 - from)) }
 {
-    let mut k = from;
-    while k < 512 {
-        let w = words::image::word(part, words::offset::whole_words(k));
-        if words::bytes::byte(w, words::offset::byte(k) as u64) != 0 {
-            return true;
-        }
-        k += 1;
-    }
-    false
+    (from..512).any(|k| byte_in(part, k) != 0)
 }
 
-fn wide(x: u16) -> usize
-    ensures { result ≡ x }
+// Byte k of a block.
+fn byte_in(part: &[u64], k: usize) -> u64
+    ensures { result ≡ byte_in part.now k }
 {
-    x as usize
+    let w = words::image::word(part, words::offset::whole_words(k));
+    words::bytes::byte(w, words::offset::byte(k) as u64)
 }
 
 // 9. A byte at or past the file's end in its last live block is not 0.
@@ -150,7 +136,7 @@ fn dirty_end(image: &[u64], table: &[u16; 256], size: u32) -> bool
         return false;
     }
     let last = (size - 1) as usize;
-    let b = wide(table[words::offset::block(last)]);
+    let b = usize::from(table[words::offset::block(last)]);
     dirty_from(
         words::image::block(image, b),
         words::offset::in_block(last) + 1,
@@ -162,9 +148,7 @@ fn clear(scratch: &mut [u16])
     requires { LongEnough scratch.old }
     ensures { scratch.new ≡ cleared scratch.old }
 {
-    for i in 0..1024 {
-        scratch[i] = 0;
-    }
+    scratch[..1024].fill(0);
 }
 
 // Each block of the table gets one more than its virtual block, the lowest where it has several.
@@ -172,9 +156,7 @@ fn mark_live(table: &[u16; 256], scratch: &mut [u16])
     requires { TableFits table.now × LongEnough scratch.old }
     ensures { HasMarks (live_mark table.now 0 scratch.old) scratch.new }
 {
-    let mut v: usize = 256;
-    while 0 < v {
-        v -= 1;
+    for v in (0..256usize).rev() {
         let b = table[v] as usize;
         scratch[b] = (v + 1) as u16;
     }
@@ -185,16 +167,8 @@ fn mark_chain(image: &[u64], scratch: &mut [u16])
     requires { ChainFits image.now × LongEnough scratch.old }
     ensures { HasMarks (chain_mark (chain (memory one image.now)) scratch.old) scratch.new }
 {
-    let mut b = crate::links::first_index(image);
-    let mut left: usize = 64;
-    while 0 < left {
-        if b == 0 {
-            return;
-        }
-        let at = b as usize;
-        scratch[at] = 65535;
-        b = crate::links::next_index(image, b);
-        left -= 1;
+    for b in crate::links::chain(image, 64) {
+        scratch[b as usize] = 65535;
     }
 }
 

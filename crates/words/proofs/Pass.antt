@@ -1,45 +1,48 @@
--- Passes over a list: what a test answers from the start on is what it answers from here on. One law for each way out of such a loop.
-use mathlib.Core.Path.{◌≡◌}
-use mathlib.Core.List.{List}
-use mathlib.Core.Bool.{Bool, true, false}
-use Prim.Native.Nat.{ℕ, suc, ◌+◌, ◌-◌, ◌<◌, ◌≤◌}
+-- Passes over a list by std's iterators: what they answer, in the words of the specs.
+use mathlib.Core.Path.{◌≡◌, refl, ap}
+use mathlib.Core.List.{List, [], ◌∷◌}
+use mathlib.Core.Bool.{Bool, not, ◌||◌}
+use Prim.Native.Nat.{ℕ, zero, suc, ◌+◌}
 use native.Mathlib.Numerals.{add-one}
 use native.Mathlib.Omega.{arith}
-use lib.ListN.{length, drop, get_or, drop_of_length-le}
-use lib.Seq.{drop-cons}
-use Rattle.words.specs.Logic.{up_to_zero, some_of, all_of, is_zero, up_from}
-use Rattle.words.proofs.Logic.{up_to_zero-next, up_to_zero-end}
-use Rattle.words.proofs.Tests.{is-zero, not-zero}
+use lib.Dec.{eqb}
+use lib.ListN.{take}
+use borrow.Author.Tests.{ne_eqb}
+use Rattle.std.specs.List.{list_any, list_all, prefix_len, range_with_len}
+use Rattle.words.specs.Logic.{some_of, all_of, is_zero, up_to_zero, up_from}
 
--- the elements from place i to the first zero
-module _ (p : ℕ → Bool) (xs : List ℕ) (i : ℕ) where
-  pub some-on : (get_or xs i 0 ≡ 0 → ⊥) → p (get_or xs i 0) ≡ false → some_of p (up_to_zero (drop i xs)) ≡ some_of p (up_to_zero (drop (i + 1) xs))
-  some-on h e = rw (up_to_zero-next xs i h, e)
+pub some-any : (p : ℕ → Bool) (xs : List ℕ) → list_any p xs ≡ some_of p xs
+some-any p [] = refl
+some-any p (x ∷ xs) = ap (λ (t : Bool). p x || t) (some-any p xs)
 
-  pub some-hit : (get_or xs i 0 ≡ 0 → ⊥) → p (get_or xs i 0) ≡ true → some_of p (up_to_zero (drop i xs)) ≡ true
-  some-hit h e = rw (up_to_zero-next xs i h, e)
+-- the test for a number that is not 0, in the specs' words
+pub zero-tests : (n : ℕ) → eqb n 0 ≡ is_zero n
+zero-tests zero = refl
+zero-tests (suc n) = ne_eqb (suc n) 0 (λ e. omega arith)
 
-  pub some_end : get_or xs i 0 ≡ 0 → some_of p (up_to_zero (drop i xs)) ≡ false
-  some_end h = rw (up_to_zero-end xs i h)
+pub some-same : (p q : ℕ → Bool) (xs : List ℕ) → ((x : ℕ) → p x ≡ q x) → some_of p xs ≡ some_of q xs
+some-same p q [] h = refl
+some-same p q (x ∷ xs) h = rw (h x, some-same p q xs h)
 
--- whether all elements from place i on are 0
-module _ (xs : List ℕ) (i : ℕ) where
-  pub zeros-on : i < length xs → get_or xs i 0 ≡ 0 → all_of is_zero (drop i xs) ≡ all_of is_zero (drop (i + 1) xs)
-  zeros-on h e = rw (drop-cons xs i 0 h, is-zero (get_or xs i 0) e, add-one)
+-- the tests for a word that is not 0, and one that is
+abbrev pub some_word : ℕ → Bool
+some_word w = not (eqb w 0)
 
-  pub zeros-hit : i < length xs → (get_or xs i 0 ≡ 0 → ⊥) → all_of is_zero (drop i xs) ≡ false
-  zeros-hit h e = rw (drop-cons xs i 0 h, not-zero (get_or xs i 0) e)
+abbrev pub no_word : ℕ → Bool
+no_word w = eqb w 0
 
-  pub zeros-end : length xs ≤ i → all_of is_zero (drop i xs) ≡ true
-  zeros-end h = rw (drop_of_length-le xs h)
+pub zeros-all : (xs : List ℕ) → list_all no_word xs ≡ all_of is_zero xs
+zeros-all [] = refl
+zeros-all (zero ∷ xs) = zeros-all xs
+zeros-all (suc x ∷ xs) = rw (ne_eqb (suc x) 0 (λ e. omega arith))
 
--- a pass over the numbers from k to below e
-module _ (p : ℕ → Bool) (k e : ℕ) where
-  pub up-on : k < e → p k ≡ false → some_of p (up_from k (e - k)) ≡ some_of p (up_from (k + 1) (e - (k + 1)))
-  up-on h f = let a : e - k ≡ suc (e - (k + 1)) = omega arith in rw (a, f, add-one)
+-- the words before the first that is 0
+pub words-front : (xs : List ℕ) → take (prefix_len some_word xs) xs ≡ up_to_zero xs
+words-front [] = refl
+words-front (zero ∷ xs) = refl
+words-front (suc x ∷ xs) = let e : 1 + prefix_len some_word xs ≡ suc (prefix_len some_word xs) = omega arith in
+    rw (ne_eqb (suc x) 0 (λ z. omega arith), e) (ap (λ (ys : List ℕ). suc x ∷ ys) (words-front xs))
 
-  pub up-hit : k < e → p k ≡ true → some_of p (up_from k (e - k)) ≡ true
-  up-hit h t = let a : e - k ≡ suc (e - (k + 1)) = omega arith in rw (a, t)
-
-  pub up-end : e ≤ k → some_of p (up_from k (e - k)) ≡ false
-  up-end h = let a : e - k ≡ 0 = omega arith in rw a
+pub range-up : (i n : ℕ) → range_with_len i n ≡ up_from i n
+range-up i zero = refl
+range-up i (suc n) = ap (λ (xs : List ℕ). i ∷ xs) (rw add-one (range-up (suc i) n))

@@ -1,33 +1,41 @@
--- `block_log::is_legal` meets its contract: a failed comparison refutes the rules' facts, and all passed give them. Assumes nothing.
-use mathlib.Core.Path.{sym}
+use mathlib.Core.Path.{◌≡◌, refl}
+use mathlib.Core.Bool.{Bool, true, false, ◌&&◌}
+use Prim.Native.Nat.{ℕ, ◌+◌}
 use native.Mathlib.Omega.{arith}
-use borrow.Author.Tests.{leb-true, le-leb}
-use Rattle.words.proofs.Logic.{agree}
-use Rattle.words.proofs.Tests.{false-if}
-use Rattle.block_log.proofs.Entry.{valid-legal, legal-valid}
+use lib.Dec.{leb, eqb}
 use Rattle.words.specs.Edition.{one}
+use Rattle.words.specs.Logic.{every}
+use Rattle.block_log.specs.Entry.{entry_v, entry_b, entry_n, entry_u, entry_rest, legal}
 use Rattle.block_log.proofs.is_legal.Goals as goal
 
-pub returns-then-n-lt1 : goal.returns-then-n-lt1
-returns-then-n-lt1 c = sym (false-if _ (λ h. let l = legal-valid one _ _ h in omega arith))
+-- the tests as the code groups them, and one after the other
+regroup : (a b c d z i j k : Bool) → (((((a && b) && c) && d) && z) && ((i && j) && k)) ≡ (a && (b && (c && (d && (z && (i && (j && (k && true))))))))
+regroup false b c d z i j k = refl
+regroup true false c d z i j k = refl
+regroup true true false d z i j k = refl
+regroup true true true false z i j k = refl
+regroup true true true true false i j k = refl
+regroup true true true true true false j k = refl
+regroup true true true true true true false k = refl
+regroup true true true true true true true false = refl
+regroup true true true true true true true true = refl
 
-pub returns-then-n-gt64 : goal.returns-then-n-gt64
-returns-then-n-gt64 c = sym (false-if _ (λ h. let l = legal-valid one _ _ h in omega arith))
+pub overflow_add-inside : goal.overflow_add-inside
+unfolding entry_n
+overflow_add-inside c = record { fits = omega (arith, c.count-n.ensures, c.first_virtual.ensures.1) }
 
-pub returns-then-u-lt1 : goal.returns-then-u-lt1
-returns-then-u-lt1 c = sym (false-if _ (λ h. let l = legal-valid one _ _ h in omega arith))
+pub overflow_add-inside-2 : goal.overflow_add-inside-2
+unfolding entry_n
+overflow_add-inside-2 c = record { fits = omega (arith, c.count-n.ensures, c.first_block-b.ensures.1) }
 
-pub returns-then-u-gt512 : goal.returns-then-u-gt512
-returns-then-u-gt512 c = sym (false-if _ (λ h. let l = legal-valid one _ _ h in omega arith))
-
-pub returns-then-z-ne0 : goal.returns-then-z-ne0
-returns-then-z-ne0 c = sym (false-if _ (λ h. let l = legal-valid one _ _ h in omega arith))
-
-pub returns-then-v-n-gt256 : goal.returns-then-v-n-gt256
-returns-then-v-n-gt256 c = sym (false-if _ (λ h. let l = legal-valid one _ _ h in omega arith))
-
-pub returns-then-b-lt1 : goal.returns-then-b-lt1
-returns-then-b-lt1 c = sym (false-if _ (λ h. let l = legal-valid one _ _ h in omega arith))
+grouped : (blocks e : ℕ)
+    → (((((leb 1 (entry_n e) && leb (entry_n e) 64) && leb 1 (entry_u one e)) && leb (entry_u one e) 512) && eqb (entry_rest one e) 0)
+    && ((leb (entry_v e + entry_n e) 256 && leb 1 (entry_b e)) && leb (entry_b e + entry_n e) blocks)) ≡ legal one blocks e
+unfolding legal every
+grouped blocks e =
+    regroup (leb 1 (entry_n e)) (leb (entry_n e) 64) (leb 1 (entry_u one e)) (leb (entry_u one e) 512) (eqb (entry_rest one e) 0)
+    (leb (entry_v e + entry_n e) 256) (leb 1 (entry_b e)) (leb (entry_b e + entry_n e) blocks)
 
 pub returns : goal.returns
-returns c = agree _ _ (λ t. valid-legal one _ _ (omega (arith, leb-true))) (λ h. let l = legal-valid one _ _ h in omega (arith, le-leb))
+returns c = let a = c.args in
+    rw (c.first_virtual.ensures.0, c.first_block-b.ensures.0, c.count-n.ensures, c.used-u.ensures, c.rest.ensures) (grouped a.blocks a.e)

@@ -1,21 +1,16 @@
-use mathlib.Core.Path.{ap}
-use native.Mathlib.Omega.{arith}
-use lib.ListN.{length, get_or, get_or-eq_default}
-use Rattle.words.proofs.Logic.{up_to_zero-end, up_to_zero-next}
-use Rattle.words.proofs.Tests.{differs, equals}
+use mathlib.Core.Path.{ap, ◌∙◌}
+use Prim.Native.Nat.{ℕ, ◌+◌}
+use lib.ListN.{drop, length}
+use Rattle.std.proofs.Common.{rules, tests}
+use Rattle.std.proofs.lemmas.Iterator.{YieldsList-from_slice}
+use Rattle.std.proofs.lemmas.Iterator.Consumers.{count_from_yields_List}
+use Rattle.std.proofs.lemmas.Iterator.Search.{YieldsList-from_take_while}
+use Rattle.words.proofs.Pass.{some_word, words-front}
 use Rattle.block_log.proofs.tail.Goals as goal
 
-pub loop-i-preserved : goal.loop-i-preserved
-loop-i-preserved c = let a = c.args in
-    let l = c.loop-i in
-    omega (arith, l.invariant, ap length (up_to_zero-next a.block.now l.i (differs (get_or a.block.now l.i 0) 0 c.if-block-i-ne0.true-raw)))
-
-pub returns-else-block-i-ne0 : goal.returns-else-block-i-ne0
-returns-else-block-i-ne0 c = let a = c.args in
-    let l = c.loop-i in
-    omega (arith, l.invariant, ap length (up_to_zero-end a.block.now l.i (equals (get_or a.block.now l.i 0) 0 c.if-block-i-ne0.false-raw)))
-
-pub returns-after-loop-i : goal.returns-after-loop-i
-returns-after-loop-i c = let a = c.args in
-    let l = c.loop-i in
-    omega (arith, l.invariant, ap length (up_to_zero-end a.block.now l.i (get_or-eq_default a.block.now 0 c.loop-i-test.false)))
+pub returns : goal.returns
+returns c = let a = c.args in
+    let xs = drop a.from a.block.now in
+    ap (λ (n : ℕ). a.from + n) (count_from_yields_List c.take_while.result _ c.count.ensures.ran
+    (YieldsList-from_take_while _ some_word (YieldsList-from_slice xs cc) c.take_while.ensures.closure c.take_while.ensures.done (λ x b q k. search (rules, tests)))
+    ∙ ap length (words-front xs))

@@ -27,9 +27,6 @@ legal-here : (c : After-tail) → Good c
     → bad_entry one c.args.blocks (up_to_zero (drop c.loop-part.slot c.block-part.result.now)) ≡ false
 legal-here c g = front-legal one (words c) c.args.blocks (from c) c.block-part.result.now c.block-part.ensures g
 
-pub returns-then-blocks-gt1024 : goal.returns-then-blocks-gt1024
-returns-then-blocks-gt1024 c = λ small sound. absurd (omega arith)
-
 pub loop-part-init : goal.loop-part-init
 loop-part-init c = (omega arith, omega arith, omega arith, λ g. rw (← ahead-onward) (g, refl))
 

@@ -1,28 +1,18 @@
-use mathlib.Core.Path.{sym, ◌∙◌}
-use lib.ListN.{get_or, get_or-eq_default}
+use mathlib.Core.Path.{ap, ◌∙◌}
+use mathlib.Core.List.{List}
+use Prim.Native.Nat.{ℕ}
+use lib.ListN.{drop}
+use Rattle.std.proofs.Common.{rules, tests}
+use Rattle.std.proofs.lemmas.Iterator.{YieldsList-from_slice}
+use Rattle.std.proofs.lemmas.Iterator.Search.{any_from_yields_List, YieldsList-from_take_while}
+use Rattle.words.specs.Logic.{some_of}
 use Rattle.block_log.specs.Entry.{covers}
-use Rattle.words.proofs.Pass.{some-on, some-hit, some_end}
-use Rattle.words.proofs.Tests.{differs, equals}
+use Rattle.words.proofs.Pass.{some-any, some_word, words-front}
 use Rattle.block_log.proofs.ahead.covered_in.Goals as goal
 
-pub returns-then-covers : goal.returns-then-covers
-returns-then-covers c = let a = c.args in
-    let l = c.loop-i in
-    sym (l.invariant ∙ some-hit (covers a.x) a.part.now l.i (differs (get_or a.part.now l.i 0) 0 c.if-part-i-ne0.true-raw)
-    (sym c.covers.ensures ∙ c.if-covers.true))
-
-pub loop-i-preserved : goal.loop-i-preserved
-loop-i-preserved c = let a = c.args in
-    let l = c.loop-i in
-    l.invariant ∙ some-on (covers a.x) a.part.now l.i (differs (get_or a.part.now l.i 0) 0 c.if-part-i-ne0.true-raw)
-    (sym c.covers.ensures ∙ c.if-covers.false)
-
-pub returns-else-part-i-ne0 : goal.returns-else-part-i-ne0
-returns-else-part-i-ne0 c = let a = c.args in
-    let l = c.loop-i in
-    sym (l.invariant ∙ some_end (covers a.x) a.part.now l.i (equals (get_or a.part.now l.i 0) 0 c.if-part-i-ne0.false-raw))
-
-pub returns-after-loop-i : goal.returns-after-loop-i
-returns-after-loop-i c = let a = c.args in
-    let l = c.loop-i in
-    sym (l.invariant ∙ some_end (covers a.x) a.part.now l.i (get_or-eq_default a.part.now 0 c.loop-i-test.false))
+pub returns : goal.returns
+returns c = let a = c.args in
+    let xs = drop a.from a.part.now in
+    any_from_yields_List (covers a.x) _ _ _ c.any.ensures.ran
+    (YieldsList-from_take_while _ some_word (YieldsList-from_slice xs cc) c.take_while.ensures.closure c.take_while.ensures.done (λ x b q k. search (rules, tests))) (λ x b q k. search (rules, tests))
+    ∙ some-any (covers a.x) _ ∙ ap (λ (es : List ℕ). some_of (covers a.x) es) (words-front xs)

@@ -1,4 +1,5 @@
-use mathlib.Core.Path.{◌∙◌, ◌≡◌, sym, ap}
+use mathlib.Core.Path.{◌∙◌, ◌≡◌, refl, sym, ap}
+use mathlib.Core.Bool.{◌||◌}
 use mathlib.Core.List.{List}
 use Prim.Native.Nat.{ℕ, ◌+◌}
 use native.Mathlib.Omega.{arith}
@@ -22,7 +23,7 @@ from c = spot c.loop-slot.b c.loop-slot.slot c.loop-slot.entered
 turn : (c : After-tail-slot)
     → Turn one (memory one c.args.image.now) c.args.blocks c.args.x c.args.y (from c)
     c.loop-slot.wrong c.loop-slot.first c.loop-slot.last
-    c.either-wrong.result c.either-first.result c.either-last.result c.tail-slot.result
+    (c.loop-slot.wrong || c.wrong_in-wrong.result) (c.loop-slot.first || c.covered_in-first.result) (c.loop-slot.last || c.covered_in-last.result) c.tail-slot.result
 unfolding bad_entry
 turn c =
     let a = c.args in
@@ -30,13 +31,11 @@ turn c =
     let e = c.block-part.ensures in
     record {
       wrong-on =
-          gathered (λ p. bad_entry one a.blocks (up_to_zero (drop l.slot p))) _ _ l.wrong _ _ e c.wrong_in.ensures
-          c.either-wrong.ensures;
+          gathered (λ p. bad_entry one a.blocks (up_to_zero (drop l.slot p))) _ _ l.wrong _ _ e c.wrong_in-wrong.ensures refl;
       first_on =
-          gathered (λ p. some_of (covers a.x) (up_to_zero (drop l.slot p))) _ _ l.first _ _ e c.covered_in.ensures c.either-first.ensures;
+          gathered (λ p. some_of (covers a.x) (up_to_zero (drop l.slot p))) _ _ l.first _ _ e c.covered_in-first.ensures refl;
       last_on =
-          gathered (λ p. some_of (covers a.y) (up_to_zero (drop l.slot p))) _ _ l.last _ _ e c.covered_in-in-loop-slot.ensures
-          c.either-last.ensures;
+          gathered (λ p. some_of (covers a.y) (up_to_zero (drop l.slot p))) _ _ l.last _ _ e c.covered_in-last.ensures refl;
       end = sym (c.tail-slot.ensures ∙ ap (λ (p : List ℕ). l.slot + length (up_to_zero (drop l.slot p))) e);
     }
 

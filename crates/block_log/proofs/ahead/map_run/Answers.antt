@@ -1,13 +1,18 @@
-use mathlib.Core.Path.{refl, sym, ◌∙◌}
+use mathlib.Core.Path.{◌≡◌, sym, ◌∙◌}
+use Prim.Native.Nat.{◌+◌, ◌-◌}
 use native.Mathlib.Omega.{arith}
 use Rattle.block_log.proofs.Replay.{map_run-next, map_run-none}
 use Rattle.block_log.proofs.ahead.map_run.Goals as goal
 
-pub loop-left-init : goal.loop-left-init
-loop-left-init c = (c.requires.0, c.requires.1, refl)
-
-pub loop-left-preserved : goal.loop-left-preserved
-loop-left-preserved c = let l = c.loop-left in (omega arith, omega arith, l.invariant.2 ∙ map_run-next l.table l.i l.at l.left (omega arith))
+pub loop-i-preserved : goal.loop-i-preserved
+loop-i-preserved c = let a = c.args in
+    let l = c.loop-i in
+    let v : a.v + (l.i + 1) ≡ a.v + l.i + 1 = omega arith in
+    let b : a.b + (l.i + 1) ≡ a.b + l.i + 1 = omega arith in
+    let n : a.n - (l.i + 1) ≡ a.n - l.i - 1 = omega arith in
+    rw (v, b, n) (l.invariant ∙ map_run-next l.table (a.v + l.i) (a.b + l.i) (a.n - l.i) (omega arith))
 
 pub returns : goal.returns
-returns c = let l = c.loop-left in sym (l.invariant.2 ∙ map_run-none l.table l.i l.at l.left c.loop-left-test.false)
+returns c = let a = c.args in
+    let l = c.loop-i in
+    sym (l.invariant ∙ map_run-none l.table (a.v + l.i) (a.b + l.i) (a.n - l.i) (omega arith))

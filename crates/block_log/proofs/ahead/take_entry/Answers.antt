@@ -20,4 +20,4 @@ pub returns-then-used-gt512 : goal.returns-then-used-gt512
 returns-then-used-gt512 c blocks few h = let v = legal-valid one blocks _ h in absurd (omega (arith, v.block))
 
 pub returns : goal.returns
-returns c blocks few h = c.take_in.ensures
+returns c blocks few h = c.take_in.ensures.alone

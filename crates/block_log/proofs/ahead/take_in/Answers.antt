@@ -2,9 +2,19 @@
 use Rattle.block_log.specs.Replay.{apply, replay_on}
 use Rattle.block_log.proofs.ahead.take_in.Goals as goal
 
-pub returns : goal.returns
+pub returns-clause-alone : goal.returns-clause-alone
 unfolding apply replay_on
-returns c = rw (
+returns-clause-alone c = rw (
+  c.map_run.ensures,
+  c.longer.ensures,
+  c.first_virtual-v.ensures.0,
+  c.first_block-b.ensures.0,
+  c.count-n.ensures,
+)
+
+pub returns-clause-applied : goal.returns-clause-applied
+unfolding apply
+returns-clause-applied c = rw (
   c.map_run.ensures,
   c.longer.ensures,
   c.first_virtual-v.ensures.0,

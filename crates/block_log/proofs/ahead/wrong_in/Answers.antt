@@ -1,34 +1,23 @@
-use mathlib.Core.Path.{sym, ap, ◌∙◌}
-use mathlib.Core.Bool.{not}
-use lib.ListN.{get_or, get_or-eq_default}
+use mathlib.Core.Path.{ap, ◌∙◌}
+use mathlib.Core.Bool.{Bool, not}
+use mathlib.Core.List.{List}
+use Prim.Native.Nat.{ℕ}
+use lib.ListN.{drop}
+use Rattle.std.proofs.Common.{rules, tests}
+use Rattle.std.proofs.lemmas.Iterator.{YieldsList-from_slice}
+use Rattle.std.proofs.lemmas.Iterator.Search.{any_from_yields_List, YieldsList-from_take_while}
 use Rattle.words.specs.Edition.{one}
+use Rattle.words.specs.Logic.{some_of}
 use Rattle.block_log.specs.Entry.{legal}
 use Rattle.block_log.specs.Opening.{bad_entry}
-use Rattle.words.proofs.Pass.{some-on, some-hit, some_end}
-use Rattle.words.proofs.Tests.{differs, equals}
+use Rattle.words.proofs.Pass.{some-any, some_word, words-front}
 use Rattle.block_log.proofs.ahead.wrong_in.Goals as goal
 
-pub returns-then-not-is_legal : goal.returns-then-not-is_legal
+pub returns : goal.returns
 unfolding bad_entry
-returns-then-not-is_legal c = let a = c.args in
-    let l = c.loop-i in
-    sym (l.invariant ∙ some-hit (λ w. not (legal one a.blocks w)) a.part.now l.i
-    (differs (get_or a.part.now l.i 0) 0 c.if-part-i-ne0.true-raw) (ap not (sym c.is_legal.ensures) ∙ c.if-not-is_legal.true-raw))
-
-pub loop-i-preserved : goal.loop-i-preserved
-loop-i-preserved c = let a = c.args in
-    let l = c.loop-i in
-    l.invariant ∙ some-on (λ w. not (legal one a.blocks w)) a.part.now l.i
-    (differs (get_or a.part.now l.i 0) 0 c.if-part-i-ne0.true-raw) (ap not (sym c.is_legal.ensures) ∙ c.if-not-is_legal.false-raw)
-
-pub returns-else-part-i-ne0 : goal.returns-else-part-i-ne0
-unfolding bad_entry
-returns-else-part-i-ne0 c = let a = c.args in
-    let l = c.loop-i in
-    sym (l.invariant ∙ some_end (λ w. not (legal one a.blocks w)) a.part.now l.i (equals (get_or a.part.now l.i 0) 0 c.if-part-i-ne0.false-raw))
-
-pub returns-after-loop-i : goal.returns-after-loop-i
-unfolding bad_entry
-returns-after-loop-i c = let a = c.args in
-    let l = c.loop-i in
-    sym (l.invariant ∙ some_end (λ w. not (legal one a.blocks w)) a.part.now l.i (get_or-eq_default a.part.now 0 c.loop-i-test.false))
+returns c = let a = c.args in
+    let xs = drop a.from a.part.now in
+    let wrong : ℕ → Bool = λ e. not (legal one a.blocks e) in
+    any_from_yields_List wrong _ _ _ c.any.ensures.ran
+    (YieldsList-from_take_while _ some_word (YieldsList-from_slice xs cc) c.take_while.ensures.closure c.take_while.ensures.done (λ x b q k. search (rules, tests))) (λ x b q k. search (rules, tests))
+    ∙ some-any wrong _ ∙ ap (λ (es : List ℕ). some_of wrong es) (words-front xs)

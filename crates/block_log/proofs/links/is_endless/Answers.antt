@@ -1,30 +1,21 @@
-use mathlib.Core.Path.{sym, ap, ◌∙◌}
+use mathlib.Core.Path.{ap}
+use mathlib.Core.Logic.{inl}
 use Prim.Native.Nat.{ℕ}
 use native.Mathlib.Omega.{arith}
 use lib.Dec.{ltb}
-use lib.ListN.{length}
+use Rattle.std.proofs.lemmas.Iterator.Consumers.{YieldsList-from_first, count_from_yields_List}
 use Rattle.words.specs.Edition.{one}
 use Rattle.words.specs.Memory.{memory}
-use Rattle.block_log.specs.Chain.{chain_from}
-use Rattle.block_log.proofs.Chain.{endless-start, endless-on, endless-end, endless-last}
+use Rattle.block_log.specs.Chain.{first_index, chain_from, endless}
+use Rattle.block_log.specs.Links.{links_left}
+use Rattle.block_log.proofs.Chain.{chain-length}
 use Rattle.block_log.proofs.links.is_endless.Goals as goal
 
-pub loop-links-init : goal.loop-links-init
-loop-links-init c = let a = c.args in
-    endless-start (memory one a.image.now)
-    ∙ ap (λ (b : ℕ). ltb 64 (length (chain_from (memory one a.image.now) 65 b))) (sym c.first_index-b.ensures)
-
-pub returns-then-b-eq0 : goal.returns-then-b-eq0
-returns-then-b-eq0 c = let a = c.args in
-    let l = c.loop-links in
-    sym (l.invariant ∙ endless-end (memory one a.image.now) l.links l.b c.if-b-eq0.true)
-
-pub loop-links-preserved : goal.loop-links-preserved
-loop-links-preserved c = let a = c.args in
-    let l = c.loop-links in
-    rw c.next_index-b.ensures (l.invariant ∙ endless-on (memory one a.image.now) l.links l.b (omega arith) c.if-b-eq0.false)
+pub count-requires-clause-fits : goal.count-requires-clause-fits
+count-requires-clause-fits c = let m = memory one c.args.image.now in
+    inl (rw c.chain.ensures (omega (arith, chain-length m 65 (first_index m))))
 
 pub returns : goal.returns
-returns c = let a = c.args in
-    let l = c.loop-links in
-    sym (l.invariant ∙ endless-last (memory one a.image.now) l.links l.b c.loop-links-test.false)
+unfolding endless
+returns c = let m = memory one c.args.image.now in
+    ap (λ (n : ℕ). ltb 64 n) (count_from_yields_List c.chain.result _ c.count.ensures.ran (YieldsList-from_first (λ x. x) links_left {s = c.chain.result} (chain_from m 65 (first_index m)) c.chain.ensures))

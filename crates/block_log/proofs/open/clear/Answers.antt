@@ -1,19 +1,11 @@
-use mathlib.Core.Path.{◌≡◌, refl, ◌∙◌}
-use native.Mathlib.Omega.{arith}
-use lib.ListN.{length-set}
-use borrow.Author.Fill.{fill_none, fill_more}
+-- The part filled is as long as it is to be.
+use mathlib.Core.Path.{ap, ◌∙◌}
+use mathlib.Core.List.{List, ◌++◌}
+use Prim.Native.Nat.{ℕ}
+use lib.ListN.{drop, replicate}
+use Rattle.std.proofs.lemmas.List.{length-take-le}
 use Rattle.block_log.proofs.open.clear.Goals as goal
 
-pub loop-i-init : goal.loop-i-init
-loop-i-init c = (omega arith, refl, fill_none c.args.scratch.now 0)
-
-pub loop-i-preserved : goal.loop-i-preserved
-loop-i-preserved c = let a = c.args in
-    let l = c.loop-i in
-    (omega arith, length-set l.scratch l.i 0 ∙ l.invariant.1, rw l.invariant.2 (fill_more l.i 0 a.scratch.now (omega arith)))
-
-pub shape_of-scratch : goal.shape_of-scratch
-shape_of-scratch c = c.loop-i.invariant.1
-
 pub returns : goal.returns
-returns c = let l = c.loop-i in let e : l.i ≡ 1024 = omega arith in rw e at l.invariant.2
+returns c = let s = c.args.scratch.now in
+    ap (λ (xs : List ℕ). xs ++ drop 1024 s) (c.fill.ensures.after (λ y e. e) ∙ ap (λ (n : ℕ). replicate n 0) (length-take-le 1024 s c.requires))

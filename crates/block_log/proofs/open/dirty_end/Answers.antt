@@ -18,5 +18,5 @@ returns c = let a = c.args in
     let v = c.block in
     c.dirty_from.ensures
     ∙ ap (λ (p : List ℕ). some_of (λ k. not (is_zero (byte_in p k))) (up_from (q.result + 1) (512 - (q.result + 1))))
-    (c.block-2.ensures ∙ ap (block_at (memory one a.image.now)) c.wide-b.ensures)
+    (c.block-2.ensures ∙ ap (block_at (memory one a.image.now)) c.from-b.ensures)
     ∙ sym (dirty-last one (memory one a.image.now) a.table.now a.size v.result q.result c.if-size-eq0.false v.ensures q.ensures)

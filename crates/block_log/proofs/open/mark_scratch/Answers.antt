@@ -1,6 +1,5 @@
 -- The live blocks, block 0 and the chain are marked one after the other.
 use mathlib.Core.Path.{◌∙◌}
-use native.Mathlib.Omega.{arith}
 use lib.ListN.{length-set}
 use Rattle.words.specs.Edition.{one}
 use Rattle.words.specs.Memory.{memory}
@@ -9,14 +8,6 @@ use Rattle.block_log.proofs.Chain.{outside_below}
 use Rattle.block_log.proofs.Scratch.{scratch-marked}
 use Rattle.block_log.proofs.Taken.{table_below}
 use Rattle.block_log.proofs.open.mark_scratch.Goals as goal
-
-pub mark_chain-requires : goal.mark_chain-requires
-mark_chain-requires c = let p = c.requires in
-    (p.known.chained, omega (arith, length-set c.mark_live.new.scratch 0 65535, c.mark_live.auto.scratch, p.long))
-
-pub shape_of-scratch : goal.shape_of-scratch
-shape_of-scratch c = let l = c.mark_live in
-    c.mark_chain.auto.scratch ∙ length-set l.new.scratch 0 65535 ∙ l.auto.scratch
 
 pub returns : goal.returns
 returns c = let l = c.mark_live in

@@ -1,39 +1,31 @@
-use mathlib.Core.Path.{◌∙◌, sym, refl}
+use mathlib.Core.Path.{◌≡◌, ◌∙◌, sym, refl, ap}
+use mathlib.Core.List.{[], ◌∷◌}
 use mathlib.Core.Bool.{true}
-use native.Mathlib.Omega.{arith}
+use lib.ListN.{length}
+use Rattle.words.specs.BlockMap.{set_all}
 use Rattle.words.specs.Edition.{one}
 use Rattle.words.specs.Memory.{memory}
 use Rattle.block_log.specs.Chain.{chain}
-use Rattle.words.proofs.BlockMap.{length-set_block}
-use Rattle.block_log.proofs.Chain.{links-marks, links-marked, links-marked-all}
+use Rattle.block_log.specs.Links.{links_left}
+use Rattle.words.proofs.BlockMap.{length-set_block, set_all-next}
+use Rattle.block_log.proofs.Chain.{chain-first}
 use Rattle.block_log.proofs.open.take_chain.Goals as goal
 
-pub loop-left-init : goal.loop-left-init
+pub loop-b-init : goal.loop-b-init
 unfolding chain
-loop-left-init c = let e = c.first_index-b.ensures in rw e (refl, refl)
+loop-b-init c = (tt, tt, refl, rw (c.into_iter-b-iterator.ensures.into_iter_gives, c.chain-b-items.ensures))
 
-pub shape_of-map-then-b-eq0 : goal.shape_of-map-then-b-eq0
-shape_of-map-then-b-eq0 c = c.loop-left.invariant.0
-
-pub returns-then-b-eq0 : goal.returns-then-b-eq0
-returns-then-b-eq0 c = let a = c.args in
-    let l = c.loop-left in
-    sym (l.invariant.1 ∙ links-marked (memory one a.image.now) l.map l.left l.b c.if-b-eq0.true)
-
-pub loop-left-preserved : goal.loop-left-preserved
-loop-left-preserved c = let a = c.args in
-    let l = c.loop-left in
-    let k = c.set_block in
-    rw (c.next_index-b.ensures, k.ensures) (
-      length-set_block true l.map l.b ∙ l.invariant.0,
-      l.invariant.1
-          ∙ links-marks (memory one a.image.now) l.map l.left l.b (omega arith) c.if-b-eq0.false,
-    )
-
-pub shape_of-map : goal.shape_of-map
-shape_of-map c = c.loop-left.invariant.0
+pub loop-b-preserved : goal.loop-b-preserved
+loop-b-preserved c = let l = c.loop-b in
+    let b = c.in-Some.b in
+    let it = l.b-iterator in
+    let e : links_left it ≡ b ∷ links_left c.next.new.self = c.in-Some.ensures.steps in
+    let taken : set_all true l.map (links_left it) ≡ set_all true c.set_block.new.map (links_left c.next.new.self) =
+    rw (e, c.set_block.ensures) (set_all-next l.map b (links_left c.next.new.self) (chain-first (memory one it.image.now) it.left it.index b _ e)) in
+    (tt, tt, ap length c.set_block.ensures ∙ length-set_block true l.map b ∙ l.invariant.2, l.invariant.3 ∙ taken)
 
 pub returns : goal.returns
-returns c = let a = c.args in
-    let l = c.loop-left in
-    sym (l.invariant.1 ∙ links-marked-all (memory one a.image.now) l.map l.left l.b c.loop-left-test.false)
+unfolding set_all
+returns c = let l = c.loop-b in
+    let e : links_left l.b-iterator ≡ [] = c.in-None.ensures.steps.0 in
+    sym (l.invariant.3 ∙ ap (set_all true l.map) e)

@@ -5,11 +5,10 @@ use lib.ListN.{length}
 use Rattle.words.specs.BlockMap.{set_all}
 use Rattle.words.specs.Edition.{one}
 use Rattle.words.specs.Memory.{memory}
-use Rattle.block_log.specs.Chain.{chain_from, chain}
+use Rattle.block_log.specs.Chain.{chain}
+use Rattle.block_log.specs.Links.{links_left}
 use Rattle.block_log.proofs.open.take_chain.Given as goal
 
-abbrev pub invariant-loop-left : goal.invariant-loop-left
-invariant-loop-left l = (length l.map ≡ length l.initial.map) × (set_all true l.initial.map (chain (memory one l.image)) ≡ set_all true l.map (chain_from (memory one l.image) l.left l.b))
-
-abbrev pub decreases-loop-left : goal.decreases-loop-left
-decreases-loop-left l = l.left
+abbrev pub invariant-loop-b : goal.invariant-loop-b
+invariant-loop-b l = (goal.iterator-loop-b).can_next l.b-iterator × (goal.iterator-loop-b).is_finite l.b-iterator × (length l.map ≡ length l.initial.map)
+    × (set_all true l.initial.map (chain (memory one l.image)) ≡ set_all true l.map (links_left l.b-iterator))
