@@ -1,8 +1,8 @@
--- `c_lent::step`: refused where the record's numbers are none, else as the call answers. Assumes nothing.
+-- `c_lent::parts::step`: refused where the record's numbers are none, else as the call answers. Assumes nothing.
 use Rattle.c_lent.specs.Numbers.{shared_lent, point_lent}
 use Rattle.c_lent.proofs.Calls.{tests-none, tests-known, is_none, step-known}
 use borrow.Author.Rules.{rules}
-use Rattle.c_lent.proofs.step.Goals as goal
+use Rattle.c_lent.proofs.parts.step.Goals as goal
 
 pub returns-then-not-is_known : goal.returns-then-not-is_known
 returns-then-not-is_known c = let a = c.args in
