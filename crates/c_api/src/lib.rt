@@ -1,4 +1,4 @@
-// The calls for C, as include/store.h declares them. Both records are lent whole, each a struct of the arrays that `c_lent` takes; their parts are lent on.
+// The calls for C, as include/store.h declares them: those of `c_lent`, and two of `block_log`.
 #![tactic(auto)]
 
 ghost use Rattle.std.specs.Prelude.{◌≡◌};
@@ -7,26 +7,10 @@ ghost use Rattle.block_log.specs.Opening.{layout_refusal, layout};
 ghost use Rattle.block_log.specs.Listing.{rows_of};
 ghost use Rattle.c_lent.specs.Calls.{OpensFor, left, step_left, shared_left, read_left};
 ghost use Rattle.c_lent.specs.Calls.{shared_for, join_for, begin_for, begin_read_for, step_for, leave_for, read_for, locate_for};
-ghost use Rattle.c_api.specs.Records.{version, shared_parts, point_parts, textless_parts};
+ghost use Rattle.c_lent.specs.Records.{shared_parts, point_parts, textless_parts};
+ghost use Rattle.c_api.specs.Records.{version};
 
-use c_lent::{Answer, Count, Opened};
-
-// The shared record: blocks, joined points, chain length and the 32 reports, and the map. In C the numbers have names.
-#[repr(C)]
-#[derive(Clone, Copy)]
-pub struct SharedRecord {
-    pub numbers: [u32; 35],
-    pub taken: [u64; 16],
-}
-
-// A point's record: its eleven numbers, its table and its text.
-#[repr(C)]
-#[derive(Clone, Copy)]
-pub struct PointRecord {
-    pub head: [u32; 11],
-    pub table: [u16; 256],
-    pub text: [u8; 1024],
-}
+use c_lent::{Answer, Count, Opened, PointRecord, SharedRecord};
 
 // The version of the library: that of the header it is for.
 #[unsafe(no_mangle)]
@@ -61,15 +45,7 @@ pub extern "C" fn store_step(
     ensures { step_left result image.new (shared_parts shared.new) (point_parts point.new) bytes.new
         ≡ step_for image.old (shared_parts shared.old) (point_parts point.old) bytes.old }
 {
-    c_lent::step(
-        image,
-        &mut shared.numbers,
-        &mut shared.taken,
-        &mut point.head,
-        &mut point.table,
-        &mut point.text,
-        bytes,
-    )
+    c_lent::step(image, shared, point, bytes)
 }
 
 #[unsafe(no_mangle)]
@@ -77,13 +53,7 @@ pub extern "C" fn store_leave(image: &[u64], shared: &mut SharedRecord, point: &
     ensures { shared_left result (shared_parts shared.new)
         ≡ leave_for image.now (shared_parts shared.old) (textless_parts point.now) }
 {
-    c_lent::leave(
-        image,
-        &mut shared.numbers,
-        &mut shared.taken,
-        &point.head,
-        &point.table,
-    )
+    c_lent::leave(image, shared, point)
 }
 
 #[unsafe(no_mangle)]
@@ -95,14 +65,7 @@ pub extern "C" fn store_locate(
 ) -> Count
     ensures { result ≡ locate_for image.now (shared_parts shared.now) (textless_parts point.now) block }
 {
-    c_lent::locate(
-        image,
-        &shared.numbers,
-        &shared.taken,
-        &point.head,
-        &point.table,
-        block,
-    )
+    c_lent::locate(image, shared, point, block)
 }
 
 #[unsafe(no_mangle)]
@@ -116,15 +79,7 @@ pub extern "C" fn store_read(
     ensures { read_left result buffer.new
         ≡ read_for image.now (shared_parts shared.now) (textless_parts point.now) offset buffer.old }
 {
-    c_lent::read(
-        image,
-        &shared.numbers,
-        &shared.taken,
-        &point.head,
-        &point.table,
-        offset,
-        buffer,
-    )
+    c_lent::read(image, shared, point, offset, buffer)
 }
 
 #[unsafe(no_mangle)]
@@ -138,16 +93,7 @@ pub extern "C" fn store_begin(
     ensures { left result (shared_parts shared.new) (point_parts point.new)
         ≡ begin_for image.now (shared_parts shared.old) (point_parts point.old) offset bytes.now }
 {
-    c_lent::begin(
-        image,
-        &mut shared.numbers,
-        &mut shared.taken,
-        &mut point.head,
-        &mut point.table,
-        &mut point.text,
-        offset,
-        bytes,
-    )
+    c_lent::begin(image, shared, point, offset, bytes)
 }
 
 #[unsafe(no_mangle)]
@@ -161,16 +107,7 @@ pub extern "C" fn store_begin_read(
     ensures { left result (shared_parts shared.new) (point_parts point.new)
         ≡ begin_read_for image.now (shared_parts shared.old) (point_parts point.old) offset size }
 {
-    c_lent::begin_read(
-        image,
-        &mut shared.numbers,
-        &mut shared.taken,
-        &mut point.head,
-        &mut point.table,
-        &mut point.text,
-        offset,
-        size,
-    )
+    c_lent::begin_read(image, shared, point, offset, size)
 }
 
 #[unsafe(no_mangle)]
@@ -183,15 +120,7 @@ pub extern "C" fn store_join(
     ensures { left result (shared_parts shared.new) (point_parts point.new)
         ≡ join_for image.now (shared_parts shared.old) number }
 {
-    c_lent::join(
-        image,
-        &mut shared.numbers,
-        &mut shared.taken,
-        number,
-        &mut point.head,
-        &mut point.table,
-        &mut point.text,
-    )
+    c_lent::join(image, shared, number, point)
 }
 
 #[unsafe(no_mangle)]
@@ -203,5 +132,5 @@ pub extern "C" fn store_open(
     ensures { OpensFor image.now scratch.old result scratch.new
         × (shared_parts shared.new ≡ shared_for image.now scratch.old) }
 {
-    c_lent::open(image, scratch, &mut shared.numbers, &mut shared.taken)
+    c_lent::open(image, scratch, shared)
 }

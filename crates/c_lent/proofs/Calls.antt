@@ -60,9 +60,9 @@ reports_in s = reports_from s.numbers
 
 pub join-as :
     (words : List ℕ) (s : SharedLent) (number : ℕ) (x : Shared) → x ≡ shared_in s → (j : Joined) → j ≡ joining one words x number
-    → (n : ℕ) → n ≡ number_of j.reply → (xs hs : List ℕ) → xs ≡ shared_numbers j.shared → hs ≡ head_numbers j.point.head
-    → left n (shared_as xs j.shared.taken) (point_as hs j.point.table j.point.text) ≡ join_for words s number
-join-as words s number x ex j e n en xs hs es eh = rw (en, es, eh, e, ex)
+    → (n : ℕ) → n ≡ number_of j.reply → (t : SharedLent) (hs : List ℕ) → t ≡ lend_shared j.shared → hs ≡ head_numbers j.point.head
+    → left n t (point_as hs j.point.table j.point.text) ≡ join_for words s number
+join-as words s number x ex j e n en t hs es eh = rw (en, es, eh, e, ex)
 
 module _ (words : List ℕ) (s : SharedLent) (p : PointLent) where
   -- the numbers are none
@@ -165,7 +165,7 @@ module _ (words : List ℕ) (s : SharedLent) (p : PointLent) where
 
     pub leave-known :
         (x : Shared) → x ≡ shared_in s → (y : Left) → y ≡ leaving one words x (point_of h p.table p.text)
-        → (n : ℕ) → n ≡ number_of y.reply → (xs : List ℕ) → xs ≡ shared_numbers y.shared
-        → shared_left n (shared_as xs y.shared.taken) ≡ leave_for words s p
-    leave-known x ex y e n en xs es =
+        → (n : ℕ) → n ≡ number_of y.reply → (t : SharedLent) → t ≡ lend_shared y.shared
+        → shared_left n t ≡ leave_for words s p
+    leave-known x ex y e n en t es =
         rw (en, es) (ap (λ (l : Left). shared_left (number_of l.reply) (lend_shared l.shared)) e ∙ rw (ex, eh) (is_known_lem _ _))

@@ -1,10 +1,10 @@
--- The numbers of a shared record: a list of 35, copied number by number, and with other reports. Assumes nothing.
-use Prim.Native.Nat.{ℕ, suc, ◌+◌, ◌-◌, ◌<◌, ◌≤◌}
+-- The numbers of a shared record: a list of 35, and with other reports. Assumes nothing.
+use Prim.Native.Nat.{ℕ, suc, ◌+◌, ◌-◌, ◌≤◌}
 use native.Mathlib.Omega.{arith}
-use mathlib.Core.Path.{◌≡◌, refl, sym, ◌∙◌, ap}
+use mathlib.Core.Path.{◌≡◌, refl}
 use mathlib.Core.List.{List, [], ◌∷◌, ◌++◌, append-nil}
 use lib.ListN.{length, get_or, set, take, drop, length-drop, drop_of_length-le}
-use lib.Seq.{paste, paste-suc, take_all, take-length}
+use lib.Seq.{take_all}
 use Rattle.block_log.specs.declared.Shared.{Shared}
 use Rattle.std.specs.Prelude.{Ok, Err}
 use Rattle.block_log.specs.Refusals.{Reply}
@@ -15,21 +15,6 @@ use Rattle.points.specs.Plan.{reported}
 use Rattle.points.specs.Search.{reporting_place, lengthening}
 use Rattle.points.specs.Lent.{begun_shared}
 use Rattle.c_lent.specs.Numbers.{shared_numbers, reports_from, shared_from}
-
--- ---- copying
-
-pub paste-next :
-    (to from : List ℕ) (i : ℕ) → length to ≡ length from → i < length from → set (paste to 0 from i) i (get_or from i 0) ≡ paste to 0 from (i + 1)
-paste-next to from i e l =
-    let next = paste-suc to 0 from i 0 (omega arith) l in
-    let z : 0 + i ≡ i = omega arith in
-    let s : suc i ≡ i + 1 = omega arith in
-    ap (λ (k : ℕ). set (paste to 0 from i) k (get_or from i 0)) (sym z) ∙ next ∙ ap (paste to 0 from) s
-
-pub paste-end : (to from : List ℕ) → length to ≡ length from → paste to 0 from (length from) ≡ from
-paste-end to from e =
-    let z : length to ≤ 0 + length from = omega arith in
-    rw (take-length from, drop_of_length-le to z, append-nil from)
 
 -- ---- the reports as they are lent: the numbers from the fourth on
 
@@ -46,6 +31,15 @@ module _ (xs : List ℕ) where
   -- and handed back
   pub rest_back : (ys : List ℕ) → take 3 xs ++ (ys ++ drop (length xs - 3) (reports_from xs)) ≡ take 3 xs ++ ys
   rest_back ys = rw (drop_of_length-le (reports_from xs) rest_le, append-nil ys)
+
+-- of C's 35 numbers: as many as there are reports
+module _ (xs : List ℕ) (e : length xs ≡ 35) where
+  pub all_32 : take 32 (reports_from xs) ≡ reports_from xs
+  all_32 = take_all 32 (reports_from xs) (omega (arith, length-drop 3 xs, e))
+
+  pub back_32 : (ys : List ℕ) → take 3 xs ++ (ys ++ drop 32 (reports_from xs)) ≡ take 3 xs ++ ys
+  back_32 ys = let few : length (reports_from xs) ≤ 32 = omega (arith, length-drop 3 xs, e) in
+      rw (drop_of_length-le (reports_from xs) few, append-nil ys)
 
 -- ---- a shared record's numbers
 

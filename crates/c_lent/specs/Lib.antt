@@ -1,4 +1,5 @@
 pub mod Numbers
+pub mod Records
 pub mod Calls
 pub mod Serving
 pub mod Batch

@@ -6,10 +6,11 @@ ghost use Rattle.points.specs.Stepping.{step_kind, step_value};
 ghost use Rattle.points.specs.Plan.{reported};
 ghost use Rattle.points.specs.Lent.{begun_shared, Lengthens};
 ghost use Rattle.c_lent.specs.Numbers.{opened_numbers, answer_numbers, count_numbers, head_numbers, head_from, is_known};
-ghost use Rattle.c_lent.specs.Numbers.{shared_numbers, reports_from, lead_from, shared_from};
+ghost use Rattle.c_lent.specs.Numbers.{shared_numbers, reports_from, lead_from, shared_from, shared_in, lend_shared};
+ghost use Rattle.c_lent.specs.Records.{shared_parts};
 ghost use Rattle.c_lent.specs.Calls.{unknown, no_count};
 
-use crate::{Answer, Count, Opened};
+use crate::{Answer, Count, Opened, SharedRecord};
 use block_log::{Refusal, Reply, Shared};
 use points::StepAnswer;
 use points::plan::Reports;
@@ -150,26 +151,17 @@ pub(crate) fn head(numbers: &[u32; 11]) -> points::Head
     }
 }
 
-// Numbers copied, as many as there are.
-fn copy(to: &mut [u32], from: &[u32])
-    requires { length to.old ≡ length from.now }
-    ensures { to.new ≡ from.now }
-{
-    for i in 0..from.len() {
-        to[i] = from[i];
-    }
-}
-
-// The numbers of a shared record, in the order of C's record; and back.
-pub(crate) fn put_shared(numbers: &mut [u32], shared: Shared)
-    requires { length numbers.old ≡ 35 }
-    ensures { numbers.new ≡ shared_numbers shared }
+// The numbers of a shared record, in the order of C's record, and its map; and back.
+pub(crate) fn put(to: &mut SharedRecord, shared: Shared)
+    ensures { shared_parts to.new ≡ lend_shared shared }
 {
     let reports = shared.reports;
-    numbers[0] = shared.blocks;
-    numbers[1] = shared.joined;
-    numbers[2] = shared.chain;
-    copy(&mut numbers[3..], &reports);
+    let taken = shared.taken;
+    to.numbers[0] = shared.blocks;
+    to.numbers[1] = shared.joined;
+    to.numbers[2] = shared.chain;
+    to.numbers[3..].copy_from_slice(&reports);
+    to.taken = taken;
 }
 
 pub(crate) fn lead(numbers: &[u32; 35]) -> points::Numbers
@@ -200,18 +192,16 @@ pub(crate) fn lead_of_step(numbers: &[u32; 35]) -> points::Numbers
 }
 
 // The shared record of its numbers and its map.
-pub(crate) fn shared(numbers: &[u32; 35], taken: &[u64; 16]) -> Shared
-    ensures { result ≡ shared_from numbers.now taken.now }
+pub(crate) fn shared(from: &SharedRecord) -> Shared
+    ensures { result ≡ shared_in (shared_parts from.now) }
 {
-    let map = *taken;
-    let all = &numbers[..];
     let mut reports = [0u32; 32];
-    copy(&mut reports, &all[3..]);
+    reports.copy_from_slice(&from.numbers[3..]);
     Shared {
-        blocks: numbers[0],
-        taken: map,
-        joined: numbers[1],
-        chain: numbers[2],
+        blocks: from.numbers[0],
+        taken: from.taken,
+        joined: from.numbers[1],
+        chain: from.numbers[2],
         reports,
     }
 }

@@ -42,7 +42,7 @@ fn begin_turn(
         ≡ begin_turn_for (common_lent image.now (shared_lent shared.old taken.old))
         (asking_lent (point_lent head.old table.old text.old) offset bytes.now) }
 {
-    let refused = crate::begin(image, shared, taken, head, table, text, offset, bytes);
+    let refused = crate::parts::begin(image, shared, taken, head, table, text, offset, bytes);
     *answer = begun_answer(refused);
 }
 
@@ -153,7 +153,7 @@ fn ready_step(
     if commits(image, taken, head, table, text) {
         return [4, retries];
     }
-    let stepped = crate::step(image, shared, taken, head, table, text, bytes);
+    let stepped = crate::parts::step(image, shared, taken, head, table, text, bytes);
     [stepped.kind, stepped.value]
 }
 

@@ -1,7 +1,7 @@
--- `c_lent::begin`: refused where the record's numbers are none, else as the call answers. Assumes nothing.
+-- `c_lent::parts::begin`: refused where the record's numbers are none, else as the call answers. Assumes nothing.
 use Rattle.c_lent.specs.Numbers.{shared_lent, point_lent}
 use Rattle.c_lent.proofs.Calls.{tests-none, tests-known, is_none, begin-known}
-use Rattle.c_lent.proofs.begin.Goals as goal
+use Rattle.c_lent.proofs.parts.begin.Goals as goal
 
 pub returns-then-not-is_known : goal.returns-then-not-is_known
 returns-then-not-is_known c = let a = c.args in

@@ -1,4 +1,4 @@
--- `c_lent::step`: refused where the record's numbers are none, else as the call answers. Assumes nothing.
+-- `c_lent::parts::step`: refused where the record's numbers are none, else as the call answers. Assumes nothing.
 use mathlib.Core.Path.{sym, ap, ◌∙◌}
 use Rattle.block_log.specs.declared.Refusal.{Refusal}
 use Rattle.block_log.proofs.Replies.{refusal-again}
@@ -7,7 +7,7 @@ use Rattle.c_lent.specs.Calls.{step_left}
 use Rattle.c_lent.specs.Numbers.{answer_numbers, shared_lent, point_lent}
 use Rattle.c_lent.proofs.Calls.{tests-none, tests-known, is_none, step-known}
 use borrow.Author.Rules.{rules}
-use Rattle.c_lent.proofs.step.Goals as goal
+use Rattle.c_lent.proofs.parts.step.Goals as goal
 
 pub returns-then-not-is_known : goal.returns-then-not-is_known
 returns-then-not-is_known c = let a = c.args in
