@@ -109,7 +109,7 @@ module _ {xs : List ℕ} {s : Shared} {ys : List Point} {answers : ℕ} {writes 
         values_are = told_more last_value t.values x.done y i x.at_is (omega (arith, in-places, x.goes.values_long)) x.shown.values_are;
       }
 
-  goes_at : (j : ℕ) → j < length ys → (v : Turns) → v.going ≡ t.going → v.refused ≡ t.refused → v.count ≡ t.count → v.at ≡ j → v.numbers ≡ t.numbers
+  goes_at : (j : ℕ) → j < length ys → (v : Turns) → v.going ≡ t.going → v.reply ≡ t.reply → v.count ≡ t.count → v.at ≡ j → v.numbers ≡ t.numbers
       → v.kinds ≡ u.kinds → v.values ≡ u.values → Goes xs s ys answers writes bytes v
   goes_at j h v eg er ec ea en ek ev =
       let g = x.goes in

@@ -17,6 +17,7 @@ use Rattle.points.specs.Serving.{serve_rounds, twice, serve_refusal, point_numbe
 use Rattle.dispatch.specs.Dispatch.{sizes_of, requests_of, lent_for_each}
 use Rattle.dispatch.specs.declared.Turns.{Turns}
 use Rattle.dispatch.specs.declared.TurnLeft.{TurnLeft}
+use Rattle.block_log.specs.Refusals.{Done, Refused as Stopped}
 use Rattle.dispatch.specs.Turns.{first_turns, noted, turned_down, one_on, next_stage, MovesOn, NumberTurn, turns_left, Each}
 use Rattle.dispatch.specs.Turns.{Numbering, Stands, numbering, beginning_now, stepping_now, over, turned_away, Starts, none, Turning}
 use Rattle.dispatch.proofs.Numbers.{twice-here, once_more}
@@ -27,7 +28,7 @@ use Rattle.dispatch.proofs.Reasons.{numbers-are, number_at, too_few, too_many, l
 
 module _ (s : Shared) (n answers : ℕ) (writes : List (List ℕ)) (bytes : List ℕ) where
   -- 26 by the number of points, or by what is lent
-  pub starts-not : (t : Turns) → t ≡ first_turns false n 0 26 s → (n < 1) ⊎ (32 < n) ⊎ (lent_for_each n answers writes (length bytes) ≡ false)
+  pub starts-not : (t : Turns) → t ≡ first_turns false n 0 (Stopped 26) s → (n < 1) ⊎ (32 < n) ⊎ (lent_for_each n answers writes (length bytes) ≡ false)
       → Starts s n answers writes bytes t
   starts-not t e why xs ys en =
       subst (λ (u : Turns). Stands xs s ys answers writes bytes u xs ys) (sym e) (turned_away record {
@@ -47,7 +48,7 @@ module _ (s : Shared) (n answers : ℕ) (writes : List (List ℕ)) (bytes : List
       because (inr (inl h)) l = let k = numbers-are ys in too_many (point_numbers ys) _ (omega (arith, k, en))
       because (inr (inr h)) l = absurd (no_true (rw en at l) h)
 
-  pub starts-well : (t : Turns) (most : ℕ) → t ≡ first_turns true n most 0 s → most ≡ serve_rounds one n → 1 ≤ n → n ≤ 32
+  pub starts-well : (t : Turns) (most : ℕ) → t ≡ first_turns true n most Done s → most ≡ serve_rounds one n → 1 ≤ n → n ≤ 32
       → lent_for_each n answers writes (length bytes) ≡ true → Starts s n answers writes bytes t
   starts-well t most e em least few l xs ys en =
       let x : Each (length ys) answers writes bytes = rw en (lent-each n answers writes bytes least few l) in

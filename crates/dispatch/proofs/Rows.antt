@@ -10,7 +10,7 @@ use Rattle.words.specs.Logic.{some_of}
 use Rattle.points.specs.Serving.{Turned, in_turn, Last, begun, stepped, Listed, points_of, lasts_of, last_kind, is_unfinished}
 use Rattle.points.specs.declared.Point.{Point}
 use Rattle.points.specs.declared.StepAnswer.TheVariants.{Stored, Moved, Extending, Committed, Refused, Copied, Bytes}
-use Rattle.block_log.specs.declared.Reply.TheVariants.{Done, Refused as Stopped}
+use Rattle.std.specs.Prelude.{Ok, Err}
 use Rattle.dispatch.specs.Turns.{kind_goes_on, behind}
 
 -- one turn more
@@ -84,8 +84,8 @@ module _ (f : Last → ℕ) where
 
 -- whether a write goes on is told by the kind
 pub by_kind : (l : Last) → kind_goes_on (last_kind l) ≡ is_unfinished l
-by_kind (begun Done) = refl
-by_kind (begun (Stopped n)) = refl
+by_kind (begun (Ok x)) = refl
+by_kind (begun (Err e)) = refl
 by_kind (stepped Stored) = refl
 by_kind (stepped Moved) = refl
 by_kind (stepped Extending) = refl

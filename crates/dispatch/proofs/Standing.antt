@@ -9,8 +9,9 @@ use Rattle.words.specs.Edition.{one}
 use Rattle.words.proofs.Choice.{choose-true, choose-false, chosen-zero, chosen-suc}
 use Rattle.words.proofs.Tests.{no_true}
 use Rattle.block_log.specs.declared.Shared.{Shared}
-use Rattle.block_log.specs.declared.Reply.TheVariants.{Done, Refused as Stopped}
-use Rattle.block_log.specs.Opening.{reply_of}
+use Rattle.block_log.specs.Refusals.{Done, Refused as Stopped}
+use Rattle.block_log.specs.Opening.{number_of}
+use Rattle.block_log.proofs.Replies.{number-not-0}
 use Rattle.points.specs.declared.Point.{Point}
 use Rattle.points.specs.Serving.{Turned, Common, Listed, last_kind, last_value, points_of, lasts_of, Service, serving}
 use Rattle.dispatch.specs.Dispatch.{requests_of, lent_for_each, last_numbers, answers_after, DispatchLeft, dispatch_left, dispatched}
@@ -104,7 +105,7 @@ module _ (xs : List ℕ) (s : Shared) (ys : List Point) (before writes : List (L
     room_for (beginning_now x) off e = absurd (no_true x.goes.going_is off)
     room_for (stepping_now x) off e = absurd (no_true x.goes.going_is off)
     room_for (over x) off e = let a = x.each.answers_are in let m = x.each.most in (omega (arith, a, m), x.kinds_long, x.values_long)
-    room_for (turned_away x) off e = absurd (let r = x.refused_is in omega (arith, r, e))
+    room_for (turned_away x) off e = absurd (number-not-0 _ (ap number_of (sym x.refused_is ∙ e)))
 
     module _ (r : Served) (later : List (List ℕ)) (ended : Ends t before r later) where
       refused : Refused xs s ys (length before) writes bytes t ws zs
@@ -113,9 +114,9 @@ module _ (xs : List ℕ) (s : Shared) (ys : List Point) (before writes : List (L
         where
           left : dispatch_left r.reply ws r.shared zs later ≡ dispatch_left (Stopped (suc x.reason)) xs s ys before
           left =
-              let reply = ended.reply_is ∙ ap reply_of x.refused_is in
+              let reply = ended.reply_is ∙ x.refused_is in
               let shared = ended.shared_is ∙ x.shared_is in
-              let kept = ended.kept (λ e. let f = x.refused_is in omega (arith, e, f)) in
+              let kept = ended.kept (λ e. number-not-0 _ (ap number_of (sym x.refused_is ∙ e))) in
               λ i. dispatch_left (reply i) (x.words_are i) (shared i) (x.points_are i) (kept i)
 
           go : (b : Bool) → lent_for_each (length ys) (length before) writes (length bytes) ≡ b
@@ -131,7 +132,7 @@ module _ (xs : List ℕ) (s : Shared) (ys : List Point) (before writes : List (L
 
           left : dispatch_left r.reply ws r.shared zs later ≡ dispatch_left Done ws t.shared (points_of x.done) (map last_numbers (lasts_of x.done))
           left =
-              let reply = ended.reply_is ∙ ap reply_of x.not_refused in
+              let reply = ended.reply_is ∙ x.not_refused in
               let n : length before ≡ length x.done = x.each.answers_are ∙ sym x.all_are in
               let ks : take (length before) t.kinds ≡ map last_kind (lasts_of x.done) = rw n x.shown.kinds_are in
               let vs : take (length before) t.values ≡ map last_value (lasts_of x.done) = rw n x.shown.values_are in

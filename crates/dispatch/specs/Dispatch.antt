@@ -1,11 +1,10 @@
 -- Serving a list of points, with the records in one list: the row of beginnings and steps (document 02, K6), as `serving` has it. The writes are lent as their
 -- offsets and sizes, their texts one after the other; the answers are kind and value.
-use Rattle.std.specs.Prelude.{ℕ, ◌+◌, Bool, true, false, List, [], ◌∷◌, map, length, get_or, take, drop, eqb}
+use Rattle.std.specs.Prelude.{Ok, Err, ℕ, ◌+◌, Bool, true, false, List, [], ◌∷◌, map, length, get_or, take, drop, eqb}
 use Rattle.words.specs.Edition.{one}
 use Rattle.words.specs.Logic.{every}
 use Rattle.block_log.specs.declared.Shared.{Shared}
-use Rattle.block_log.specs.declared.Reply.{Reply}
-use Rattle.block_log.specs.declared.Reply.TheVariants.{Done, Refused}
+use Rattle.block_log.specs.Refusals.{Reply, Refused}
 use Rattle.points.specs.declared.Point.{Point}
 use Rattle.points.specs.Serving.{Request, Last, last_kind, last_value, serving}
 
@@ -36,8 +35,8 @@ last_numbers l = last_kind l ∷ last_value l ∷ []
 
 -- where the call is refused the answers are as they were
 abbrev pub answers_after : Reply → List (List ℕ) → List Last → List (List ℕ)
-answers_after Done answers lasts = map last_numbers lasts
-answers_after (Refused n) answers lasts = answers
+answers_after (Ok x) answers lasts = map last_numbers lasts
+answers_after (Err e) answers lasts = answers
 
 -- what the call answers and leaves
 pub record DispatchLeft : Type 0 where

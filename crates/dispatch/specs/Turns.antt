@@ -4,7 +4,7 @@ use Rattle.words.specs.Edition.{one}
 use Rattle.words.specs.Logic.{member, some_of}
 use Rattle.words.specs.Memory.{after}
 use Rattle.block_log.specs.declared.Shared.{Shared}
-use Rattle.block_log.specs.Opening.{reply_of}
+use Rattle.block_log.specs.Refusals.{Reply, Done, Refused as Stopped}
 use Rattle.points.specs.declared.Phase.TheVariants.{Idle}
 use Rattle.points.specs.declared.Point.{Point}
 use Rattle.points.specs.Calls.{beginning}
@@ -29,8 +29,8 @@ pairs (k ∷ ks) (v ∷ vs) = (k ∷ v ∷ []) ∷ pairs ks vs
 -- ---- the turns changed
 
 -- before the first turn
-abbrev pub first_turns : Bool → ℕ → ℕ → ℕ → Shared → Turns
-first_turns going n most refused s =
+abbrev pub first_turns : Bool → ℕ → ℕ → Reply → Shared → Turns
+first_turns going n most reply s =
     record {
       going = going;
       stage = 0;
@@ -39,7 +39,7 @@ first_turns going n most refused s =
       start = 0;
       rounds = most;
       live = false;
-      refused = refused;
+      reply = reply;
       shared = s;
       numbers = replicate 32 0;
       kinds = replicate 32 0;
@@ -58,7 +58,7 @@ module _ (t : Turns) where
         start = t.start;
         rounds = t.rounds;
         live = t.live;
-        refused = t.refused;
+        reply = t.reply;
         shared = t.shared;
         numbers = set t.numbers t.at number;
         kinds = t.kinds;
@@ -76,7 +76,7 @@ module _ (t : Turns) where
         start = t.start;
         rounds = t.rounds;
         live = t.live;
-        refused = 27;
+        reply = Stopped 27;
         shared = t.shared;
         numbers = t.numbers;
         kinds = t.kinds;
@@ -94,7 +94,7 @@ module _ (t : Turns) where
         start = end;
         rounds = t.rounds;
         live = t.live || kind_goes_on kind;
-        refused = t.refused;
+        reply = t.reply;
         shared = s;
         numbers = t.numbers;
         kinds = set t.kinds t.at kind;
@@ -115,7 +115,7 @@ module _ (t : Turns) where
         start = t.start;
         rounds = t.rounds;
         live = t.live;
-        refused = t.refused;
+        reply = t.reply;
         shared = t.shared;
         numbers = t.numbers;
         kinds = t.kinds;
@@ -132,7 +132,7 @@ module _ (t : Turns) where
         start = t.start;
         rounds = t.rounds;
         live = false;
-        refused = t.refused;
+        reply = t.reply;
         shared = t.shared;
         numbers = t.numbers;
         kinds = t.kinds;
@@ -149,7 +149,7 @@ module _ (t : Turns) where
         start = t.start;
         rounds = t.rounds - 1;
         live = false;
-        refused = t.refused;
+        reply = t.reply;
         shared = t.shared;
         numbers = t.numbers;
         kinds = t.kinds;
@@ -199,14 +199,14 @@ module _ (t : Turns) where
 
   -- there is an answer for each
   abbrev pub RoomFor : List (List ℕ) → Type 0
-  RoomFor answers = t.refused ≡ 0 → (length answers ≤ 32) × (length t.kinds ≡ 32) × (length t.values ≡ 32)
+  RoomFor answers = t.reply ≡ Done → (length answers ≤ 32) × (length t.kinds ≡ 32) × (length t.values ≡ 32)
 
   -- the answers, unless the call is refused
   pub record Ends (before : List (List ℕ)) (r : Served) (later : List (List ℕ)) : Type 0 where
-    pub reply_is : r.reply ≡ reply_of t.refused
+    pub reply_is : r.reply ≡ t.reply
     pub shared_is : r.shared ≡ t.shared
-    pub kept : (t.refused ≡ 0 → ⊥) → later ≡ before
-    pub shown : t.refused ≡ 0 → later ≡ pairs (take (length before) t.kinds) (take (length before) t.values)
+    pub kept : (t.reply ≡ Done → ⊥) → later ≡ before
+    pub shown : t.reply ≡ Done → later ≡ pairs (take (length before) t.kinds) (take (length before) t.values)
 
 -- each turn makes it less: a stage counts more than all its rounds, a round more than its turns, of which there are at most 32
 abbrev pub turns_left : Turns → ℕ
@@ -244,7 +244,7 @@ module _ (xs : List ℕ) (s : Shared) (ys : List Point) (answers : ℕ) (writes 
   -- the turns go on, and stand at a point of the list
   pub record Goes (t : Turns) : Type 0 where
     pub going_is : t.going ≡ true
-    pub not_refused : t.refused ≡ 0
+    pub not_refused : t.reply ≡ Done
     pub count_is : t.count ≡ length ys
     pub inside : t.at < length ys
     pub numbers_long : length t.numbers ≡ 32
@@ -301,7 +301,7 @@ module _ (xs : List ℕ) (s : Shared) (ys : List Point) (answers : ℕ) (writes 
   -- the row has come to its end
   pub record Over (t : Turns) (ws : List ℕ) (zs : List Point) : Type 0 where
     pub stopped : t.going ≡ false
-    pub not_refused : t.refused ≡ 0
+    pub not_refused : t.reply ≡ Done
     pub kinds_long : length t.kinds ≡ 32
     pub values_long : length t.values ≡ 32
     pub each : Each (length ys) answers writes bytes
@@ -319,7 +319,7 @@ module _ (xs : List ℕ) (s : Shared) (ys : List Point) (answers : ℕ) (writes 
     pub shared_is : t.shared ≡ s
     pub points_are : zs ≡ ys
     pub reason : ℕ
-    pub refused_is : t.refused ≡ suc reason
+    pub refused_is : t.reply ≡ Stopped (suc reason)
     pub not_lent : lent_for_each (length ys) answers writes (length bytes) ≡ false → suc reason ≡ 26
     pub lent : lent_for_each (length ys) answers writes (length bytes) ≡ true → why_not ≡ suc reason
 

@@ -11,7 +11,7 @@ ghost use Rattle.dispatch.specs.Dispatch.{sizes_of, lent_for_each, dispatch_left
 ghost use Rattle.dispatch.specs.Turns.{kind_goes_on, first_turns, noted, told, MovesOn, TextWithin, Within, RoomFor, Starts, Turning, Ends};
 ghost use Rattle.dispatch.specs.Turns.{NumberTurn, BeginTurn, StepTurn};
 
-use block_log::{Reply, Shared};
+use block_log::{Refusal, Reply, Shared};
 use points::{Point, StepAnswer};
 
 // What serving answers, and the shared record that it leaves.
@@ -36,8 +36,8 @@ struct Turns {
     rounds: u32,
     // stage 2: whether somebody who has had a turn in this round is unfinished
     live: bool,
-    // the number of the reason to refuse, 0 for none
-    refused: u32,
+    // whether the call is refused, and why
+    reply: Reply,
     shared: Shared,
     // the points' numbers, as far as they were looked at; the answers, as far as there are any
     numbers: [u32; 32],
@@ -68,7 +68,7 @@ fn step_kind(step: StepAnswer) -> u32
         StepAnswer::Moved => 2,
         StepAnswer::Extending => 3,
         StepAnswer::Committed(retries) => 4,
-        StepAnswer::Refused(n) => 5,
+        StepAnswer::Refused(_) => 5,
         StepAnswer::Copied => 6,
         StepAnswer::Bytes(n) => 7,
     }
@@ -82,7 +82,7 @@ fn step_value(step: StepAnswer) -> u32
         StepAnswer::Moved => 0,
         StepAnswer::Extending => 0,
         StepAnswer::Committed(retries) => retries as u32,
-        StepAnswer::Refused(n) => n,
+        StepAnswer::Refused(refusal) => refusal.into(),
         StepAnswer::Copied => 0,
         StepAnswer::Bytes(n) => n,
     }
@@ -93,8 +93,8 @@ fn begun_kind(reply: Reply) -> u32
     ensures { result ≡ last_kind (begun reply) }
 {
     match reply {
-        Reply::Done => 0,
-        Reply::Refused(n) => 5,
+        Ok(()) => 0,
+        Err(_) => 5,
     }
 }
 
@@ -102,8 +102,8 @@ fn begun_value(reply: Reply) -> u32
     ensures { result ≡ last_value (begun reply) }
 {
     match reply {
-        Reply::Done => 0,
-        Reply::Refused(n) => n,
+        Ok(()) => 0,
+        Err(refusal) => refusal.into(),
     }
 }
 
@@ -144,8 +144,8 @@ fn most_rounds(n: usize) -> u32
 }
 
 // Before the first turn.
-fn first_turns(going: bool, n: usize, rounds: u32, refused: u32, shared: Shared) -> Turns
-    ensures { result ≡ first_turns going n rounds refused shared }
+fn first_turns(going: bool, n: usize, rounds: u32, reply: Reply, shared: Shared) -> Turns
+    ensures { result ≡ first_turns going n rounds reply shared }
 {
     let none = [0u32; 32];
     Turns {
@@ -156,7 +156,7 @@ fn first_turns(going: bool, n: usize, rounds: u32, refused: u32, shared: Shared)
         start: 0,
         rounds,
         live: false,
-        refused,
+        reply,
         shared,
         numbers: none,
         kinds: none,
@@ -169,15 +169,15 @@ fn start(shared: Shared, n: usize, answers: usize, writes: &[[usize; 2]], bytes:
     ensures { Starts shared n answers writes.now bytes.now result }
 {
     if n < 1 {
-        return first_turns(false, n, 0, points::NOT_ONE_EACH, shared);
+        return first_turns(false, n, 0, Err(Refusal::NotOneEach), shared);
     }
     if 32 < n {
-        return first_turns(false, n, 0, points::NOT_ONE_EACH, shared);
+        return first_turns(false, n, 0, Err(Refusal::NotOneEach), shared);
     }
     if !lent_for_each(n, answers, writes, bytes.len()) {
-        return first_turns(false, n, 0, points::NOT_ONE_EACH, shared);
+        return first_turns(false, n, 0, Err(Refusal::NotOneEach), shared);
     }
-    first_turns(true, n, most_rounds(n), 0, shared)
+    first_turns(true, n, most_rounds(n), Ok(()), shared)
 }
 
 // Whether a number is one of the first n.
@@ -253,7 +253,7 @@ fn number_turn(turns: Turns, point: Point) -> TurnLeft
     if is_among(&turns.numbers, at, number) {
         let mut t = turns;
         t.going = false;
-        t.refused = points::LISTED_TWICE;
+        t.reply = Err(Refusal::ListedTwice);
         t.at = at + 1;
         return TurnLeft { turns: t, point };
     }
@@ -342,9 +342,9 @@ fn ends(turns: Turns, answers: &mut [[u32; 2]]) -> Served
     ensures { Ends turns answers.old result answers.new }
 {
     let shared = turns.shared;
-    if turns.refused != 0 {
+    if let Err(refusal) = turns.reply {
         return Served {
-            reply: Reply::Refused(turns.refused),
+            reply: Err(refusal),
             shared,
         };
     }
@@ -354,7 +354,7 @@ fn ends(turns: Turns, answers: &mut [[u32; 2]]) -> Served
         answers[i] = [kinds[i], values[i]];
     }
     Served {
-        reply: Reply::Done,
+        reply: Ok(()),
         shared,
     }
 }

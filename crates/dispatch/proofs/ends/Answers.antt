@@ -1,28 +1,23 @@
-use mathlib.Core.Path.{◌≡◌, refl, sym, ap, ◌∙◌}
-use Prim.Native.Nat.{ℕ, zero, suc, ◌<◌}
+use mathlib.Core.Path.{refl, sym, ap, ◌∙◌}
+use Prim.Native.Nat.{◌<◌}
 use native.Mathlib.Omega.{arith}
 use lib.ListN.{length-set}
-use Rattle.block_log.specs.Opening.{reply_of}
-use Rattle.block_log.specs.declared.Reply.TheVariants.{Refused}
+use Rattle.block_log.specs.Opening.{number_of}
+use Rattle.block_log.proofs.Replies.{number-not-0}
 use Rattle.dispatch.proofs.Shown.{shown-next, shown-all}
 use Rattle.dispatch.proofs.ends.Goals as goal
 use Rattle.dispatch.proofs.ends.Goals.{In-loop-i}
 
--- a refusal
-refused : (n : ℕ) → (n ≡ 0 → ⊥) → Refused n ≡ reply_of n
-refused zero h = absurd (h refl)
-refused (suc n) h = refl
-
 -- within the loop a place is one of 32
 within : (c : In-loop-i) → c.loop-i.i < 32
-within c = let r = c.requires c.if-turns-ne0.false in omega (arith, r.0)
+within c = let r = c.requires c.in_default.is in omega (arith, r.0)
 
-pub returns-then-turns-ne0 : goal.returns-then-turns-ne0
-returns-then-turns-ne0 c = record {
-  reply_is = refused _ c.if-turns-ne0.true;
+pub returns-in-Err : goal.returns-in-Err
+returns-in-Err c = record {
+  reply_is = sym c.in-Err.is;
   shared_is = refl;
   kept = λ h. refl;
-  shown = λ e. absurd (c.if-turns-ne0.true e);
+  shown = λ e. absurd (number-not-0 _ (ap number_of (sym c.in-Err.is ∙ e)));
 }
 
 pub loop-i-init : goal.loop-i-init
@@ -52,7 +47,7 @@ overflow_step-i c = omega (arith, within (goal.at.overflow_step-i c).In-loop-i)
 pub loop-i-preserved : goal.loop-i-preserved
 loop-i-preserved c = let l = c.loop-i in
     let t = c.args.turns in
-    let r = c.requires c.if-turns-ne0.false in (
+    let r = c.requires c.in_default.is in (
       l.invariant.0,
       omega arith,
       length-set l.answers l.i _ ∙ l.invariant.2,
@@ -65,9 +60,9 @@ shape_of-answers c = c.loop-i.invariant.2
 pub returns : goal.returns
 returns c = let l = c.loop-i in
     let t = c.args.turns in
-    let e = c.if-turns-ne0.false in
+    let e = c.in_default.is in
     record {
-      reply_is = sym (ap reply_of e);
+      reply_is = sym e;
       shared_is = refl;
       kept = λ h. absurd (h e);
       shown = λ h. shown-all t.kinds t.values c.args.answers.now l.answers l.i (omega arith) l.invariant.3;
