@@ -1,15 +1,12 @@
 -- Nothing is lost in numbers: what is read back from those of an answer or a record is that answer, that record. Assumes nothing.
-use Prim.Native.Nat.{ℕ}
-use mathlib.Core.Path.{◌≡◌, refl, ap}
+use mathlib.Core.Path.{◌≡◌, refl}
 use mathlib.Core.Bool.{true}
 use Rattle.block_log.specs.declared.Shared.{Shared}
-use Rattle.block_log.specs.declared.Reply.{Reply}
-use Rattle.block_log.specs.Opening.{reply_of, number_of}
 use Rattle.points.specs.declared.StepAnswer.{StepAnswer}
 use Rattle.points.specs.declared.StepAnswer.TheVariants.{Stored, Moved, Extending, Committed, Refused, Copied, Bytes}
 use Rattle.points.specs.declared.Point.{Point}
 use Rattle.points.specs.Stepping.{step_kind, step_value}
-use Rattle.block_log.proofs.Replies.{number-back}
+use Rattle.block_log.proofs.Replies.{refusal-again}
 use Rattle.c_lent.specs.Numbers.{shared_in, lend_shared, point_in, lend_point}
 use Rattle.c_lent.proofs.Heads.{head-back}
 use Rattle.c_served.specs.Served.{is_answer, answer_of}
@@ -28,13 +25,9 @@ answer_back Stored = refl
 answer_back Moved = refl
 answer_back Extending = refl
 answer_back (Committed retries) = refl
-answer_back (Refused n) = refl
+answer_back (Refused e) = rw (refusal-again e)
 answer_back Copied = refl
 answer_back (Bytes n) = refl
-
--- a reply that goes by a refusal's number
-pub reply-back : (r : Reply) (n : ℕ) → r ≡ reply_of n → reply_of (number_of r) ≡ r
-reply-back r n e = rw e (ap reply_of (number-back n))
 
 pub shared_back : (s : Shared) → shared_in (lend_shared s) ≡ s
 shared_back s = refl

@@ -8,18 +8,17 @@ use lib.ListN.{length}
 use Rattle.words.specs.Edition.{one}
 use Rattle.words.specs.Memory.{after}
 use Rattle.words.proofs.Choice.{choose-true}
-use Rattle.block_log.specs.declared.Reply.{Reply}
-use Rattle.block_log.specs.declared.Reply.TheVariants.{Done}
-use Rattle.block_log.specs.Opening.{open_refusal, opened, reply_of, number_of}
+use Rattle.block_log.specs.Refusals.{Reply}
+use Rattle.block_log.specs.Refusals.{Done}
+use Rattle.block_log.specs.Opening.{opened, reply_of, number_of}
 use Rattle.points.specs.declared.Begun.{Begun}
-use Rattle.points.specs.Record.{point_of, unfit}
-use Rattle.points.specs.Calls.{join_refusal, joining, begin_refusal, beginning, begin_read_refusal, beginning_read, leaving}
+use Rattle.points.specs.Record.{point_of}
+use Rattle.points.specs.Calls.{joining, beginning, beginning_read, leaving}
 use Rattle.points.specs.Plan.{answered, stored_at}
 use Rattle.points.specs.Stepping.{stepping, bytes_after}
-use Rattle.points.specs.Reading.{read_refusal, reading, locate_refusal, locating}
+use Rattle.points.specs.Reading.{reading, locating}
 use Rattle.points.proofs.StoredAt.{told_none}
-use Rattle.block_log.proofs.Replies.{number-back, opened-replies}
-use Rattle.points.proofs.Replies.{join-replies, begin-replies, begin-read-replies, leave-replies}
+use Rattle.block_log.proofs.Replies.{reply-again}
 use Rattle.recovery.proofs.Served.{open-served, join-served, begin-served, begin-read-served, step-served, leave-served, read-served, locate-served}
 use Rattle.recovery.specs.Served.{OpenServed}
 use Rattle.c_lent.specs.Numbers.{SharedLent, PointLent, shared_in, point_in, lend_shared, lend_point, head_from, is_known}
@@ -31,7 +30,7 @@ use Rattle.c_lent.specs.Calls.{shared_for, join_for, begin_for, begin_read_for, 
 use Rattle.c_served.specs.Served.{joined_from, begun_from, stepped_from, left_from, count_from}
 use Rattle.c_served.specs.Served.{OpenServedFor, JoinServedFor, BeginServedFor, BeginReadServedFor, StepServedFor}
 use Rattle.c_served.specs.Served.{LeaveServedFor, ReadServedFor, LocateServedFor}
-use Rattle.c_served.proofs.Back.{is-answer, answer_back, reply-back, shared_back, point-back}
+use Rattle.c_served.proofs.Back.{is-answer, answer_back, shared_back, point-back}
 use Rattle.c_served.proofs.Told.{tells-store}
 use Rattle.c_lent.proofs.Known.{join-known, begin-known, begin-read-known, step-known}
 
@@ -42,24 +41,23 @@ unfolding OpenServedFor OpenServed
 open-for words scratch r s e f =
     let o = opened one words scratch in
     let served = open-served words scratch o refl in (
-      λ none. served.0 (done o.reply (open_refusal one words scratch) (opened-replies one words scratch) (sym (ap (λ (x : Opened). x.refused) e) ∙ none)),
+      λ none. served.0 (done o.reply (sym (ap (λ (x : Opened). x.refused) e) ∙ none)),
       served.1 ∙ rw (f, shared_back o.shared),
     )
   where
-    done : (r : Reply) (n : ℕ) → r ≡ reply_of n → number_of r ≡ 0 → r ≡ Done
-    done r n e z = let m : n ≡ 0 = sym (number-back n) ∙ ap number_of (sym e) ∙ z in e ∙ ap reply_of m
+    done : (r : Reply) → number_of r ≡ 0 → r ≡ Done
+    done r z = sym (reply-again r) ∙ ap reply_of z
 
-begun-back : (b : Begun) (why : ℕ) → b.reply ≡ reply_of why → begun_from (point_left b.reply b.shared b.point) ≡ b
-begun-back b why e = rw (reply-back b.reply why e, point-back b.point)
+begun-back : (b : Begun) → begun_from (point_left b.reply b.shared b.point) ≡ b
+begun-back b = rw (reply-again b.reply, point-back b.point)
 
 module _ (words : List ℕ) (s : SharedLent) where
   pub join-for : (number : ℕ) (l : PointLeft) → l ≡ join_for words s number → JoinServedFor words s number l
   unfolding JoinServedFor
   join-for number l e =
       let j = joining one words (shared_in s) number in
-      let why = join_refusal one words (shared_in s) number in
       let back : joined_from (join_for words s number) ≡ j =
-      rw (reply-back j.reply why (join-replies one words (shared_in s) number), point-back j.point) in
+      rw (reply-again j.reply, point-back j.point) in
       rw e (join-known one words (shared_in s) number, join-served words (shared_in s) number _ back)
 
   -- the numbers are a record's
@@ -72,9 +70,8 @@ module _ (words : List ℕ) (s : SharedLent) where
     unfolding BeginServedFor
     begin-for offset bytes l e known =
         let b = beginning one words (shared_in s) (point_in p) offset bytes in
-        let why = begin_refusal one words (shared_in s) (head_from p.head) p.table offset (length bytes) in
         let back : begun_from (point_left b.reply b.shared b.point) ≡ b =
-        begun-back b why (begin-replies one words (shared_in s) (point_in p) offset bytes) in
+        begun-back b in
         rw (e ∙ is_known_lem _ _ known) (
           begin-known one words (shared_in s) p.head p.table p.text known offset bytes,
           begin-served words (shared_in s) (point_in p) offset bytes _ back,
@@ -84,9 +81,8 @@ module _ (words : List ℕ) (s : SharedLent) where
     unfolding BeginReadServedFor
     begin-read-for offset size l e known =
         let b = beginning_read one words (shared_in s) (point_in p) offset size in
-        let why = begin_read_refusal one words (shared_in s) (head_from p.head) p.table offset size in
         let back : begun_from (point_left b.reply b.shared b.point) ≡ b =
-        begun-back b why (begin-read-replies one words (shared_in s) (point_in p) offset size) in
+        begun-back b in
         rw (e ∙ is_known_lem _ _ known) (
           begin-read-known one words (shared_in s) p.head p.table p.text known offset size,
           begin-read-served words (shared_in s) (point_in p) offset size _ back,
@@ -111,14 +107,14 @@ module _ (words : List ℕ) (s : SharedLent) where
     leave-for l e known text =
         let x = leaving one words (shared_in s) (point_in p) in
         let back : left_from (shared_left (number_of x.reply) (lend_shared x.shared)) ≡ x =
-        rw (reply-back x.reply (unfit one words (shared_in s) (head_from p.head) p.table) (leave-replies one words (shared_in s) (point_in p))) in
+        rw (reply-again x.reply) in
         rw (e ∙ is_known_lem _ _ known) (leave-served words (shared_in s) (point_of (head_from p.head) p.table text) _ back)
 
     pub read-for : (offset : ℕ) (buffer : List ℕ) (l : ReadLeft) → l ≡ read_for words s p offset buffer → ReadServedFor words s p offset buffer l
     unfolding ReadServedFor reading
     read-for offset buffer l e known =
         let r = reading one words (shared_in s) (head_from p.head) p.table offset (length buffer) in
-        let back : count_from (count_numbers r) ≡ r = rw (reply-back r.reply (read_refusal one words (shared_in s) (head_from p.head) p.table) refl) in
+        let back : count_from (count_numbers r) ≡ r = rw (reply-again r.reply) in
         rw (e ∙ is_known_lem _ _ known)
         (read-served words (shared_in s) (head_from p.head) p.table offset buffer _ _ (record { count = back; bytes = refl }))
 
@@ -126,6 +122,5 @@ module _ (words : List ℕ) (s : SharedLent) where
     unfolding LocateServedFor locating
     locate-for block c e known =
         let r = locating one words (shared_in s) (head_from p.head) p.table block in
-        let why = locate_refusal one words (shared_in s) (head_from p.head) p.table block in
-        let back : count_from (count_numbers r) ≡ r = rw (reply-back r.reply why refl) in
+        let back : count_from (count_numbers r) ≡ r = rw (reply-again r.reply) in
         rw (e ∙ is_known_lem _ _ known) (locate-served words (shared_in s) (head_from p.head) p.table block _ back)

@@ -10,15 +10,16 @@ use Rattle.words.specs.Edition.{one}
 use Rattle.words.specs.Logic.{all_of, list_from}
 use Rattle.words.proofs.Logic.{and_both}
 use Rattle.words.proofs.Choice.{choose-true}
-use Rattle.block_log.specs.declared.Reply.{Reply}
-use Rattle.block_log.specs.declared.Reply.TheVariants.{Done, Refused}
-use Rattle.block_log.specs.Opening.{reply_of, number_of}
+use Rattle.block_log.specs.Refusals.{Reply}
+use Rattle.std.specs.Prelude.{Ok, Err}
+use Rattle.block_log.specs.Refusals.{number}
+use Rattle.block_log.proofs.Replies.{number-not-0}
+use Rattle.block_log.specs.Opening.{number_of}
 use Rattle.points.specs.declared.Point.{Point}
-use Rattle.points.specs.Calls.{beginning, begin_refusal}
+use Rattle.points.specs.Calls.{beginning}
 use Rattle.points.specs.Stepping.{stepping}
 use Rattle.points.specs.Serving.{Turned, Request, Common, Asking, asking, Last, begun, stepped, Listed, is_unfinished, begin_turn, step_turn, row}
 use Rattle.points.specs.Serving.{points_of, lasts_of}
-use Rattle.points.proofs.Replies.{begin-replies}
 use Rattle.points.proofs.Turns.{turn-of, no-turn}
 use Rattle.points.proofs.Alike.{Pairs, Alike, TurnsAlike, row-alike}
 use Rattle.c_lent.specs.Numbers.{shared_in, point_in, is_known}
@@ -55,9 +56,13 @@ Left = Alike SameCommon SameListed
 -- ---- a turn
 
 -- the answer of a beginning, by the refusal's number
-begun-numbers : (r : Reply) (n : ℕ) → r ≡ reply_of n → begun_answer (number_of r) ≡ last_numbers (begun r)
-begun-numbers r zero e = rw e
-begun-numbers r (suc n) e = rw e
+begun-numbers : (r : Reply) → begun_answer (number_of r) ≡ last_numbers (begun r)
+begun-numbers (Ok tt) = refl
+begun-numbers (Err e) = go (number e) refl
+  where
+    go : (n : ℕ) → number e ≡ n → begun_answer n ≡ 5 ∷ n ∷ []
+    go zero z = absurd (number-not-0 e z)
+    go (suc n) z = refl
 
 begin-own : (c : CommonLent) (a : AskingLent) → is_known a.point.head ≡ true → Left (begin_turn_for c a) (begin_turn one (common_in c) (asking_in a))
 unfolding begin_turn
@@ -65,7 +70,6 @@ begin-own c a known =
     let s = shared_in c.shared in
     let q = point_in a.point in
     let b = beginning one c.image s q a.offset a.text in
-    let why = begin_refusal one c.image s q.head q.table a.offset (length a.text) in
     subst (λ (z : Turned CommonLent ListedLent). Left z (begin_turn one (common_in c) (asking_in a)))
     (sym (begun-turn c.image c.shared a.point a.offset a.text known))
     (record {
@@ -73,7 +77,7 @@ begin-own c a known =
       own = record {
         known = begin-known one c.image s a.point.head a.point.table a.point.text known a.offset a.text;
         point = point-back b.point;
-        answer = begun-numbers b.reply why (begin-replies one c.image s q a.offset a.text);
+        answer = begun-numbers b.reply;
       };
     })
 
@@ -83,8 +87,8 @@ begin-alike c d a b e p = subst (λ (z : Common). Left (begin_turn_for c a) (beg
 
 -- who goes on, by the numbers of the last answer
 goes-alike : (a : Last) → kind_goes_on (get_or (last_numbers a) 0 0) ≡ is_unfinished a
-goes-alike (begun Done) = refl
-goes-alike (begun (Refused n)) = refl
+goes-alike (begun (Ok x)) = refl
+goes-alike (begun (Err e)) = refl
 goes-alike (stepped a) = goes_same a
 
 -- the step of a record

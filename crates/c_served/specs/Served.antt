@@ -5,6 +5,7 @@
 use Rattle.std.specs.Prelude.{ℕ, zero, suc, ◌≡◌, Bool, true, ◌≢◌, List, [], ◌∷◌, map, length, get_or, set, take, drop}
 use Rattle.words.specs.Edition.{one}
 use Rattle.words.specs.Logic.{between, all_of, list_from}
+use Rattle.block_log.specs.Refusals.{refusal}
 use Rattle.block_log.specs.Opening.{reply_of, open_refusal}
 use Rattle.points.specs.declared.StepAnswer.{StepAnswer}
 use Rattle.points.specs.declared.StepAnswer.TheVariants.{Stored, Moved, Extending, Committed, Refused, Copied, Bytes}
@@ -31,15 +32,15 @@ abbrev pub is_answer : ℕ → Bool
 is_answer kind = between 1 kind 7
 
 abbrev pub answer_of : ℕ → ℕ → StepAnswer
-answer_of zero value = Refused value
+answer_of zero value = Refused (refusal value)
 answer_of (suc zero) value = Stored
 answer_of (suc (suc zero)) value = Moved
 answer_of (suc (suc (suc zero))) value = Extending
 answer_of (suc (suc (suc (suc zero)))) value = Committed value
-answer_of (suc (suc (suc (suc (suc zero))))) value = Refused value
+answer_of (suc (suc (suc (suc (suc zero))))) value = Refused (refusal value)
 answer_of (suc (suc (suc (suc (suc (suc zero)))))) value = Copied
 answer_of (suc (suc (suc (suc (suc (suc (suc zero))))))) value = Bytes value
-answer_of (suc (suc (suc (suc (suc (suc (suc (suc n)))))))) value = Refused value
+answer_of (suc (suc (suc (suc (suc (suc (suc (suc n)))))))) value = Refused (refusal value)
 
 abbrev pub joined_from : PointLeft → Joined
 joined_from l = record { reply = reply_of l.refused; shared = shared_in l.shared; point = point_in l.point }
