@@ -2,7 +2,6 @@
 ghost use Rattle.std.specs.Prelude.{◌≡◌, true, List, ◌++◌, ℕ, ◌≤◌, length, take, set};
 ghost use Rattle.block_log.specs.Refusals.{number};
 ghost use Rattle.block_log.specs.Opening.{number_of};
-ghost use Rattle.points.specs.Stepping.{step_kind, step_value};
 ghost use Rattle.points.specs.Plan.{reported};
 ghost use Rattle.points.specs.Lent.{begun_shared, Lengthens};
 ghost use Rattle.c_lent.specs.Numbers.{opened_numbers, answer_numbers, count_numbers, head_numbers, head_from, is_known};
@@ -25,43 +24,11 @@ pub fn of_reply(reply: Reply) -> u32
     }
 }
 
-// Which answer of a step it is; and its value.
-fn kind(step: StepAnswer) -> u32
-    ensures { result ≡ step_kind step }
-{
-    match step {
-        StepAnswer::Stored => 1,
-        StepAnswer::Moved => 2,
-        StepAnswer::Extending => 3,
-        StepAnswer::Committed(retries) => 4,
-        StepAnswer::Refused(_) => 5,
-        StepAnswer::Copied => 6,
-        StepAnswer::Bytes(n) => 7,
-    }
-}
-
-fn value(step: StepAnswer) -> u32
-    ensures { result ≡ step_value step }
-{
-    match step {
-        StepAnswer::Stored => 0,
-        StepAnswer::Moved => 0,
-        StepAnswer::Extending => 0,
-        StepAnswer::Committed(retries) => retries as u32,
-        StepAnswer::Refused(refusal) => refusal.into(),
-        StepAnswer::Copied => 0,
-        StepAnswer::Bytes(n) => n,
-    }
-}
-
 pub(crate) fn of_step(step: StepAnswer, word: usize) -> Answer
     ensures { result ≡ answer_numbers step word }
 {
-    Answer {
-        kind: kind(step),
-        value: value(step),
-        word,
-    }
+    let [kind, value]: [u32; 2] = step.into();
+    Answer { kind, value, word }
 }
 
 pub fn of_opened(opened: block_log::Opened) -> Opened

@@ -139,14 +139,6 @@ fn reason(
     Ok(())
 }
 
-// How many rounds a list of n points has at most.
-fn most_rounds(n: usize) -> u32
-    requires { (1 ≤ n) × (n ≤ 32) }
-    ensures { result ≡ serve_rounds one n }
-{
-    129 * (n as u32 - 1) + 260
-}
-
 // Serves a list of points, each with one write: `heads`, `tables` and `texts` are their records, `writes` the offsets and sizes, `bytes` the texts one after
 // the other; `answers` gets what each point's last beginning or step answered, kind and value. Answers 26 or 27, or 0.
 pub fn serve(
@@ -179,7 +171,7 @@ pub fn serve(
     crate::turn::begin_all(
         image, shared, taken, heads, tables, texts, answers, writes, bytes,
     );
-    let most = most_rounds(heads.len());
+    let most = points::answers::most_rounds(heads.len());
     all_rounds(image, shared, taken, heads, tables, texts, answers, most);
     0
 }

@@ -8,12 +8,7 @@ ghost use Rattle.c_lent.specs.Batch.{AllReady, Steps, MovesOn, CommitsOn};
 ghost use Rattle.c_lent.specs.Batch.{Lengths};
 ghost use Rattle.c_lent.specs.Serving.{Lent, begun_answer};
 
-// Whether the write goes on after an answer of this kind.
-pub(crate) fn goes_on(kind: u32) -> bool
-    ensures { result ≡ kind_goes_on kind }
-{
-    (kind <= 3) | (kind == 6)
-}
+pub(crate) use points::answers::goes_on;
 
 // What a beginning answers, kind and value, by the refusal's number.
 fn begun_answer(refused: u32) -> [u32; 2]

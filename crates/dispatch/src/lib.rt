@@ -5,12 +5,13 @@
 ghost use Rattle.std.specs.Prelude.{◌≡◌, List, ◌≤◌, length, get_or, eqb};
 ghost use Rattle.std.specs.List.{list_any};
 ghost use Rattle.words.specs.Edition.{one};
-ghost use Rattle.points.specs.Serving.{begun, stepped, serve_rounds, twice, point_numbers, Listed, asking, in_turn, rounds, begin_turn, step_turn};
+ghost use Rattle.points.specs.Serving.{begun, twice, point_numbers, Listed, asking, in_turn, rounds, begin_turn, step_turn};
 ghost use Rattle.dispatch.specs.Dispatch.{sizes_of, requests_of, last_numbers, lent_for_each, dispatch_left, dispatched};
 ghost use Rattle.dispatch.specs.Turns.{kind_goes_on, common, asking_for, Lent, Shows, TurnLeaves, Leaves};
 
 use block_log::{Refusal, Reply, Shared};
-use points::{Point, StepAnswer};
+use points::Point;
+use points::answers::{goes_on, most_rounds};
 
 // What serving answers, and the shared record that it leaves.
 #[derive(Clone, Copy)]
@@ -19,29 +20,7 @@ pub struct Served {
     pub shared: Shared,
 }
 
-// Whether the write goes on after an answer of this kind.
-fn goes_on(kind: u32) -> bool
-    ensures { result ≡ kind_goes_on kind }
-{
-    (kind <= 3) | (kind == 6)
-}
-
-// A step's answer in numbers, kind and value.
-fn step_numbers(step: StepAnswer) -> [u32; 2]
-    ensures { result ≡ last_numbers (stepped step) }
-{
-    match step {
-        StepAnswer::Stored => [1, 0],
-        StepAnswer::Moved => [2, 0],
-        StepAnswer::Extending => [3, 0],
-        StepAnswer::Committed(retries) => [4, retries as u32],
-        StepAnswer::Refused(refusal) => [5, refusal.into()],
-        StepAnswer::Copied => [6, 0],
-        StepAnswer::Bytes(n) => [7, n],
-    }
-}
-
-// A beginning's, as a step's: kind 0 where it is done, else that of a refused step.
+// A beginning's answer in numbers, as a step's: kind 0 where it is done, else that of a refused step.
 fn begun_numbers(reply: Reply) -> [u32; 2]
     ensures { result ≡ last_numbers (begun reply) }
 {
@@ -90,14 +69,6 @@ fn listed_twice(points: &[Point]) -> bool
         }
     }
     false
-}
-
-// How many rounds a list of n points has at most.
-fn most_rounds(n: usize) -> u32
-    requires { (1 ≤ n) × (n ≤ 32) }
-    ensures { result ≡ serve_rounds one n }
-{
-    129 * (n as u32 - 1) + 260
 }
 
 // One point's beginning.
@@ -158,7 +129,7 @@ fn step_turn(image: &mut [u64], shared: Shared, point: &mut Point, answer: &mut 
     let mut bytes = [0u8; 1024];
     let stepped = points::step::step(image, shared, *point, &mut bytes);
     *point = stepped.point;
-    *answer = step_numbers(stepped.step);
+    *answer = stepped.step.into();
     stepped.shared
 }
 

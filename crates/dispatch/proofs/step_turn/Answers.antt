@@ -6,4 +6,4 @@ pub returns-then-not-goes_on : goal.returns-then-not-goes_on
 returns-then-not-goes_on c = no-turn-made _ _ _ _ (search rules)
 
 pub returns : goal.returns
-returns c = let s = c.step-stepped in turn-made _ _ _ _ _ s.result _ (search rules) s.ensures.answers s.ensures.stored c.step_numbers.ensures
+returns c = let s = c.step-stepped in turn-made _ _ _ _ _ s.result _ (search rules) s.ensures.answers s.ensures.stored c.into.ensures
