@@ -172,11 +172,19 @@ word_bytes w (suc n) h =
 abbrev place : Edition → Head → ℕ → ℕ → ℕ
 place E h k j = run_start E h.write + 8 * k + j
 
--- word k of the run, from the word copied there and `lead`, the run's bytes before the text. `mixed`: byte by byte. `same`: the copied word itself, where
--- none of its bytes is the text's
-pub record Laid (E : Edition) (m : Memory) (h : Head) (table text : List ℕ) (k copied lead : ℕ) : Type 0 where
-  pub mixed : new_word E m h table text k ≡ from_bytes (list_from (8 * k) 8 (mixed_byte copied text lead (lead + h.write.size) (8 * k)))
-  pub same : copied < 2 ^ 64 → (8 * k + 8 ≤ lead) ⊎ (lead + h.write.size ≤ 8 * k) → new_word E m h table text k ≡ copied
+-- where no byte of a word is the text's, it is the word that is copied there
+pub mixed-copied : (copied : ℕ) (text : List ℕ) (lead end at : ℕ) → copied < 2 ^ 64 → (at + 8 ≤ lead) ⊎ (end ≤ at)
+    → from_bytes (list_from at 8 (mixed_byte copied text lead end at)) ≡ copied
+mixed-copied copied text lead end at small out =
+    same_bytes at 0 8 (mixed_byte copied text lead end at) (byte_of copied) (byte out) ∙ word_bytes copied 8 small
+  where
+    byte : (at + 8 ≤ lead) ⊎ (end ≤ at) → (j : ℕ) → j < 8 → mixed_byte copied text lead end at (at + j) ≡ byte_of copied (0 + j)
+    byte (inl a) j l =
+        let d : at + j - at ≡ 0 + j = omega arith in
+        mixed-before copied text lead end at (at + j) (omega arith) ∙ rw d
+    byte (inr a) j l =
+        let d : at + j - at ≡ 0 + j = omega arith in
+        mixed-after copied text lead end at (at + j) (omega arith) ∙ rw d
 
 -- word k of the run lies at word i of virtual block v
 module _ (E : Edition) (m : Memory) (h : Head) (table text : List ℕ) (k copied lead v i : ℕ) (is_lead : lead ≡ h.write.offset % block_bytes E)
@@ -219,25 +227,10 @@ module _ (E : Edition) (m : Memory) (h : Head) (table text : List ℕ) (k copied
           laid-before E m (file_at h table) h.write.offset h.write.size text (place E h k j) (omega arith)
           ∙ file-byte c j l ∙ sym (mixed-before copied text lead end (8 * k) (8 * k + j) (omega arith))
 
-  byte-by-byte : Copied → new_word E m h table text k ≡ from_bytes (list_from (8 * k) 8 mixed)
+  -- the word, byte by byte, from the word copied there and `lead`, the run's bytes before the text
+  pub new_word_lem : Copied → new_word E m h table text k ≡ from_bytes (list_from (8 * k) 8 mixed)
   unfolding new_word
-  byte-by-byte c = same_bytes (run_start E h.write + 8 * k) (8 * k) 8 (new_byte E m h table text) mixed (new-byte c)
-
-  as-it-is : Copied → copied < 2 ^ 64 → (8 * k + 8 ≤ lead) ⊎ (end ≤ 8 * k) → new_word E m h table text k ≡ copied
-  as-it-is c l out = byte-by-byte c ∙ same_bytes (8 * k) 0 8 mixed (byte_of copied) (byte out) ∙ word_bytes copied 8 l
-    where
-      byte :
-          (8 * k + 8 ≤ lead) ⊎ (end ≤ 8 * k) → (j : ℕ) → j < 8
-          → mixed (8 * k + j) ≡ byte_of copied (0 + j)
-      byte (inl a) j l =
-          let d : 8 * k + j - 8 * k ≡ 0 + j = omega arith in
-          mixed-before copied text lead end (8 * k) (8 * k + j) (omega arith) ∙ rw d
-      byte (inr a) j l =
-          let d : 8 * k + j - 8 * k ≡ 0 + j = omega arith in
-          mixed-after copied text lead end (8 * k) (8 * k + j) (omega arith) ∙ rw d
-
-  pub new_word_lem : Copied → Laid E m h table text k copied lead
-  new_word_lem c = record { mixed = byte-by-byte c; same = as-it-is c }
+  new_word_lem c = same_bytes (run_start E h.write + 8 * k) (8 * k) 8 (new_byte E m h table text) mixed (new-byte c)
 
 -- where all of its bytes are the text's, they are eight in a row of it
 pub new-word-text :

@@ -28,8 +28,8 @@ use Rattle.points.specs.Batch.{filled_at, filled_on, row_of, Fillable, Prepared,
 use Rattle.points.specs.Batch.{copied_word, mixed_word, row_word, row_put, row_stored, round_stored, rounds_stored, RowFits}
 use Rattle.points.proofs.Spans.{lies}
 use Rattle.points.proofs.Planned.{word-from-put}
-use Rattle.points.proofs.NewWord.{Laid, new_word_lem, new-word-text, same_bytes, word_bytes}
-use Rattle.points.proofs.NewWord.{mixed-text, mixed-before, mixed-after, mapped-none, mapped-word}
+use Rattle.points.proofs.NewWord.{new_word_lem, new-word-text, same_bytes, word_bytes}
+use Rattle.points.proofs.NewWord.{mixed-text, mixed-copied, mapped-none, mapped-word}
 
 -- where word k goes there is a virtual block
 pub fillable-block : (h : Head) (k : ℕ) → Fillable h k → run_first one h.write + k / one.block_words < 256
@@ -79,9 +79,8 @@ by_row m r h table text k copied i e c p =
     let lead : r.lead ≡ h.write.offset % block_bytes one = ap (λ (x : Row). x.lead) p.0 in
     let end : r.end ≡ r.lead + h.write.size = ap (λ (x : Row). x.end) p.0 ∙ omega arith in
     let from : r.from ≡ get_or table (run_first one h.write + k / one.block_words) 0 = ap (λ (x : Row). x.from) p.0 in
-    let l : Laid one m h table text k copied r.lead =
-    new_word_lem one m h table text k copied r.lead (run_first one h.write + k / one.block_words) i lead refl (omega arith) (rw from at c) in
-    rw end l.mixed
+    let l = new_word_lem one m h table text k copied r.lead (run_first one h.write + k / one.block_words) i lead refl (omega arith) (rw from at c) in
+    rw end l
 
 -- ---- words in a row
 
@@ -156,17 +155,7 @@ mixed-whole copied r text k lo hi =
 pub mixed-none : (copied : ℕ) (r : Row) (text : List ℕ) (k : ℕ) → copied < 2 ^ 64 → (8 * k + 8 ≤ r.lead) ⊎ (r.end ≤ 8 * k)
     → mixed_word copied r text k ≡ copied
 unfolding mixed_word
-mixed-none copied r text k small out =
-    same_bytes (8 * k) 0 8 (mixed_byte copied text r.lead r.end (8 * k)) (byte_of copied) (byte out) ∙ word_bytes copied 8 small
-  where
-    byte : (8 * k + 8 ≤ r.lead) ⊎ (r.end ≤ 8 * k) → (j : ℕ) → j < 8
-        → mixed_byte copied text r.lead r.end (8 * k) (8 * k + j) ≡ byte_of copied (0 + j)
-    byte (inl a) j l =
-        let d : 8 * k + j - 8 * k ≡ 0 + j = omega arith in
-        mixed-before copied text r.lead r.end (8 * k) (8 * k + j) (omega arith) ∙ rw d
-    byte (inr a) j l =
-        let d : 8 * k + j - 8 * k ≡ 0 + j = omega arith in
-        mixed-after copied text r.lead r.end (8 * k) (8 * k + j) (omega arith) ∙ rw d
+mixed-none copied r text k small out = mixed-copied copied text r.lead r.end (8 * k) small out
 
 pub mixed-is : (copied : ℕ) (r : Row) (text : List ℕ) (k at : ℕ) → at ≡ 8 * k
     → from_bytes (list_from at 8 (mixed_byte copied text r.lead r.end at)) ≡ mixed_word copied r text k

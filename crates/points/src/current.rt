@@ -46,13 +46,10 @@ pub(crate) fn settle(
 }
 
 // The logical block of a virtual one; 0 where nothing is mapped, and past the table.
-pub(crate) fn mapped(table: &[u16], v: usize) -> usize
+pub(crate) fn mapped(table: &[u16], v: usize) -> u16
     ensures { result ≡ get_or table.now v 0 }
 {
-    if v < table.len() {
-        return table[v] as usize;
-    }
-    0
+    table.get(v).copied().unwrap_or(0)
 }
 
 // The part of the image that a logical index names: the block itself, not a copy; empty for 0.

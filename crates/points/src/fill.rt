@@ -27,12 +27,10 @@ pub(crate) fn text_word(text: &[u8; 1024], from: usize) -> u64
         | u64::from(text[from + 7]) << 56
 }
 
-// Word i of the block that is mapped at virtual block v, as it is now; 0 where nothing is mapped.
-fn copied_word(image: &[u64], table: &[u16; 256], v: usize, i: usize) -> u64
-    requires { v < 256 }
-    ensures { (j : ℕ) → j < 8 → byte_of result j ≡ mapped_byte (memory one image.now) (get_or table.now v 0) (8 * i + j) }
+// Word i of a block, as it is now; 0 for block 0, where nothing is mapped.
+pub(crate) fn mapped_word(image: &[u64], b: usize, i: usize) -> u64
+    ensures { (j : ℕ) → j < 8 → byte_of result j ≡ mapped_byte (memory one image.now) b (8 * i + j) }
 {
-    let b = usize::from(table[v]);
     if b == 0 {
         return 0;
     }
@@ -65,6 +63,20 @@ pub(crate) fn edge_word(copied: u64, text: &[u8; 1024], lead: usize, end: usize,
     word
 }
 
+// The word at bytes `at` to `at + 7` of the run, not all of which are the text's, from the word that is copied there.
+pub(crate) fn mixed_word(copied: u64, text: &[u8; 1024], lead: usize, end: usize, at: usize) -> u64
+    requires { (end ≤ lead + 1024) × (at ≤ 1536) }
+    ensures { result ≡ from_bytes (list_from at 8 (mixed_byte copied text.now lead end at)) }
+{
+    if at + 8 <= lead {
+        return copied;
+    }
+    if end <= at {
+        return copied;
+    }
+    edge_word(copied, text, lead, end, at)
+}
+
 // Word k of the run: bytes of the write from its text, the others copied from the mapped block as it is now, or 0.
 pub(crate) fn new_word<'a>(
     image: &[u64],
@@ -85,19 +97,9 @@ pub(crate) fn new_word<'a>(
             return text_word(text, at - lead);
         }
     }
-    let copied = copied_word(
-        image,
-        table,
-        crate::record::run_first(write) as usize + words::offset::block(at),
-        words::offset::word(at),
-    );
-    if at + 8 <= lead {
-        return copied;
-    }
-    if end <= at {
-        return copied;
-    }
-    edge_word(copied, text, lead, end, at)
+    let v = crate::record::run_first(write) as usize + words::offset::block(at);
+    let copied = mapped_word(image, usize::from(table[v]), words::offset::word(at));
+    mixed_word(copied, text, lead, end, at)
 }
 
 // The first word from a place on that has a copied byte, be it of the run or past it.

@@ -112,7 +112,7 @@ fn fill(image: &[u64], table: &[u16; 256], offset: usize, buffer: &mut [u8], n: 
     let mut done = 0;
     while done < n {
         let p = offset + done;
-        let b = crate::current::mapped(table, words::offset::block(p));
+        let b = usize::from(crate::current::mapped(table, words::offset::block(p)));
         let from = words::offset::in_block(p);
         let count = (n - done).min(512 - from);
         copy_block(image, b, from, buffer, done, count);

@@ -24,7 +24,7 @@ fn copy_word(image: &[u64], head: Head, table: &[u16; 256], text: &mut [u8; 1024
     let from = start.max(at);
     let to = (start + write.size as usize).min(at + 8);
     let end = from.max(to.min(head.length as usize));
-    let b = crate::current::mapped(table, words::offset::block(at));
+    let b = usize::from(crate::current::mapped(table, words::offset::block(at)));
     crate::read::copy_block(
         image,
         b,

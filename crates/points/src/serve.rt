@@ -33,16 +33,6 @@ pub struct Due {
     pub next: u32,
 }
 
-// The block that is mapped at a virtual block, 0 for none, also past the table.
-fn mapped(table: &[u16; 256], v: usize) -> u32
-    ensures { v < 256 → result ≡ get_or table.now v 0 }
-{
-    if v < 256 {
-        return u32::from(table[v]);
-    }
-    0
-}
-
 // The row of the block of the run in which word k lies.
 pub fn row_at(head: Head, table: &[u16; 256], k: u32) -> Row
     ensures { (Fillable head k → result ≡ row_of one head table.now k) × (result.end ≤ result.lead + text_max) }
@@ -53,37 +43,10 @@ pub fn row_at(head: Head, table: &[u16; 256], k: u32) -> Row
     let v = crate::record::run_first(write) as usize + words::offset::block(8 * k as usize);
     Row {
         run: write.run,
-        from: mapped(table, v),
+        from: u32::from(crate::current::mapped(table, v)),
         lead,
         end: lead + size,
     }
-}
-
-// Word i of a block, 0 for block 0.
-fn word_of(image: &[u64], b: u32, i: usize) -> u64
-    ensures { (j : ℕ) → j < 8 → byte_of result j ≡ mapped_byte (memory one image.now) b (8 * i + j) }
-{
-    if b == 0 {
-        return 0;
-    }
-    words::image::word(words::image::block(image, b as usize), i)
-}
-
-// Word k of the run from the word copied there, where not all of its bytes are the text's.
-fn mixed_word(copied: u64, row: Row, text: &[u8; 1024], k: u32) -> u64
-    requires { InRow row k }
-    ensures { result ≡ mixed_word copied row text.now k }
-{
-    let at = 8 * k as usize;
-    let lead = row.lead as usize;
-    let end = row.end as usize;
-    if at + 8 <= lead {
-        return copied;
-    }
-    if end <= at {
-        return copied;
-    }
-    crate::fill::edge_word(copied, text, lead, end, at)
 }
 
 // Word k of the run, by its row.
@@ -94,13 +57,14 @@ fn row_word<'a>(image: &'a [u64], row: Row, text: &'a [u8; 1024], k: u32) -> u64
 {
     let at = 8 * k as usize;
     let lead = row.lead as usize;
+    let end = row.end as usize;
     if lead <= at {
-        if at + 8 <= row.end as usize {
+        if at + 8 <= end {
             return crate::fill::text_word(text, at - lead);
         }
     }
-    let copied = word_of(image, row.from, words::offset::word(at));
-    mixed_word(copied, row, text, k)
+    let copied = crate::fill::mapped_word(image, row.from as usize, words::offset::word(at));
+    crate::fill::mixed_word(copied, text, lead, end, at)
 }
 
 // Word k of the run is stored: one store, behind a branch of the word's own, so that stores stay single.
@@ -152,13 +116,14 @@ fn next_word<'a>(image: &'a [u64], row: Row, text: &'a [u8; 1024], k: u32) -> u6
 {
     let at = 8 * k as usize;
     let lead = row.lead as usize;
+    let end = row.end as usize;
     if lead <= at {
-        if at + 8 <= row.end as usize {
+        if at + 8 <= end {
             return crate::fill::text_word(text, at - lead);
         }
     }
     let copied = copied_word(image, row.from, words::offset::word(at));
-    mixed_word(copied, row, text, k)
+    crate::fill::mixed_word(copied, text, lead, end, at)
 }
 
 // It is stored: the part from the run's first block on is lent on.

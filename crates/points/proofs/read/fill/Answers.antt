@@ -25,7 +25,7 @@ loop-done-preserved c = let a = c.args in
     let z : 0 + l.done ≡ l.done = omega arith in
     let from = c.in_block-from in
     let block = c.block in
-    let piece = file-piece one (memory one a.image.now) f p n block.result from.result _ block.ensures from.ensures c.mapped-b.ensures
+    let piece = file-piece one (memory one a.image.now) f p n block.result from.result _ block.ensures from.ensures (c.from-b.ensures ∙ c.mapped.ensures)
     (omega arith) in
     copied_more (byte_from a.image.now a.table.now) a.buffer.now 0 a.offset a.n l.buffer l.done l.invariant _ n (omega arith)
     (rw z (c.copy_block.ensures ∙ ap (sets l.buffer l.done) piece))

@@ -1,7 +1,7 @@
 -- `points::read_step::copy_word` meets its contract: the word lies in one block, and its bytes are that block's up to the file's end, then zeros.
 -- Assumes nothing.
 use native.Mathlib.Omega.{arith}
-use mathlib.Core.Path.{◌≡◌}
+use mathlib.Core.Path.{◌≡◌, ◌∙◌}
 use Prim.Native.Nat.{◌/◌}
 use Rattle.words.specs.Edition.{one, block_bytes}
 use Rattle.words.specs.Memory.{memory}
@@ -47,4 +47,4 @@ pub returns : goal.returns
 returns c = let a = c.args in
     word_copied one (memory one a.image.now) (file_at a.head a.table.now) a.head.write a.text.now _ _ _ _ _ _ _ _ _
     (is-from (goal.at.returns c).After-max-from) (is-to (goal.at.returns c).After-min-to) c.min.ensures c.max-end.ensures (lain (goal.at.returns c).After-block)
-    c.in_block.ensures c.mapped-b.ensures c.copy_block.ensures c.clear.ensures
+    c.in_block.ensures (c.from-b.ensures ∙ c.mapped.ensures) c.copy_block.ensures c.clear.ensures

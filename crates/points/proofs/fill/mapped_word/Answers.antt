@@ -1,4 +1,4 @@
--- `points::serve::word_of`: nothing is mapped, and every byte is 0; or the bytes are those of the block.
+-- `points::fill::mapped_word`: nothing is mapped, and every byte is 0; or the bytes are those of the block.
 use Prim.Native.Nat.{ℕ, ◌+◌, ◌*◌}
 use mathlib.Core.Path.{◌≡◌, ap, ◌∙◌}
 use mathlib.Core.List.{List}
@@ -6,7 +6,7 @@ use lib.ListN.{get_or}
 use Rattle.words.specs.Edition.{one}
 use Rattle.words.specs.Memory.{memory, word_at}
 use Rattle.points.proofs.NewWord.{mapped-none, mapped-word}
-use Rattle.points.proofs.serve.word_of.Goals as goal
+use Rattle.points.proofs.fill.mapped_word.Goals as goal
 
 pub returns-then-b-eq0 : goal.returns-then-b-eq0
 returns-then-b-eq0 c j l = let a = c.args in rw c.if-b-eq0.true (mapped-none (memory one a.image.now) (8 * a.i + j) j)
