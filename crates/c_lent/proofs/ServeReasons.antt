@@ -2,56 +2,26 @@
 use mathlib.Core.Path.{◌≡◌, refl, sym}
 use mathlib.Core.Bool.{Bool, true, false, ◌&&◌, not}
 use mathlib.Core.List.{List, [], ◌∷◌}
-use Prim.Native.Nat.{ℕ, zero, suc, ◌≤◌, ◌<◌}
-use native.Mathlib.Omega.{arith}
-use lib.ListN.{length, get_or}
+use Prim.Native.Nat.{ℕ, ◌≤◌}
+use lib.ListN.{length}
 use lib.Dec.{eqb}
-use borrow.Author.Tests.{leb-true, eqb-true, le-leb, lt-leb, eq-eqb, ne_eqb, not-false}
+use borrow.Author.Tests.{leb-true, eqb-true, not-false}
 use Rattle.words.specs.Logic.{list_from, every, ◌when◌}
 use Rattle.words.proofs.Logic.{every-all}
 use Rattle.words.proofs.Tests.{passes}
 use Rattle.points.specs.Serving.{twice}
 use Rattle.c_lent.specs.Serving.{number_at, start_at, one_for_each, serve_reason}
 
--- one test that fails is enough
-every-false : (ts : List Bool) (k : ℕ) → get_or ts k true ≡ false → every ts ≡ false
+-- six tests, one after the other
+pub six : (a b c d e f : Bool) → (((((a && b) && c) && d) && e) && f) ≡ every (a ∷ b ∷ c ∷ d ∷ e ∷ f ∷ [])
 unfolding every
-every-false [] k e = let q : ◌≡◌ {A = ℕ} 0 1 = cc in absurd (omega arith)
-every-false (t ∷ ts) zero e = rw e
-every-false (t ∷ ts) (suc k) e = rw (every-false ts k e) (false_right t)
-  where
-    false_right : (b : Bool) → (b && false) ≡ false
-    false_right true = refl
-    false_right false = refl
-
-module _ (n tables texts writes answers : ℕ) where
-  pub none : n < 1 → false ≡ one_for_each n tables texts writes answers
-  unfolding one_for_each
-  none h = sym (every-false _ 0 (lt-leb 1 n h))
-
-  pub many : 32 < n → false ≡ one_for_each n tables texts writes answers
-  unfolding one_for_each
-  many h = sym (every-false _ 1 (lt-leb n 32 h))
-
-  pub no_table : (tables ≡ n → ⊥) → false ≡ one_for_each n tables texts writes answers
-  unfolding one_for_each
-  no_table h = sym (every-false _ 2 (ne_eqb tables n h))
-
-  pub no_text : (texts ≡ n → ⊥) → false ≡ one_for_each n tables texts writes answers
-  unfolding one_for_each
-  no_text h = sym (every-false _ 3 (ne_eqb texts n h))
-
-  pub no_write : (writes ≡ n → ⊥) → false ≡ one_for_each n tables texts writes answers
-  unfolding one_for_each
-  no_write h = sym (every-false _ 4 (ne_eqb writes n h))
-
-  pub all_but : (1 ≤ n) → (n ≤ 32) → tables ≡ n → texts ≡ n → writes ≡ n → eqb answers n ≡ one_for_each n tables texts writes answers
-  unfolding one_for_each every
-  all_but a b c d e = sym (rw (le-leb 1 n a, le-leb n 32 b, eq-eqb tables n c, eq-eqb texts n d, eq-eqb writes n e) (true-right (eqb answers n)))
-    where
-      true-right : (b : Bool) → (b && true) ≡ b
-      true-right true = refl
-      true-right false = refl
+six false b c d e f = refl
+six true false c d e f = refl
+six true true false d e f = refl
+six true true true false e f = refl
+six true true true true false f = refl
+six true true true true true false = refl
+six true true true true true true = refl
 
 module _ (heads : List (List ℕ)) (tables texts : ℕ) (writes : List (List ℕ)) (answers bytes : ℕ) where
   abbrev each : Bool

@@ -50,8 +50,8 @@ fn plain_words(heads: &[[u32; 11]], answers: &[[u32; 2]]) -> u32
         → PlainAt result (get_or heads.now i []) }
 {
     let mut least: u32 = 64;
-    for i in 0..heads.len() {
-        least = least_left(least, answers[i][0], &heads[i]);
+    for (head, answer) in heads.iter().zip(answers) {
+        least = least_left(least, answer[0], head);
         if least == 0 {
             return 0;
         }
@@ -219,16 +219,6 @@ fn plain_batch(
     }
 }
 
-// The lesser of two numbers.
-fn lesser(a: u32, b: u32) -> u32
-    ensures { (result ≤ a) × (result ≤ b) }
-{
-    if a < b {
-        return a;
-    }
-    b
-}
-
 // Some rounds, one at least and so many at most: as many as all points have words left to store one by one. How many there were.
 pub(crate) fn batch(
     image: &mut [u64],
@@ -252,7 +242,7 @@ pub(crate) fn batch(
         (listed_at heads.new tables.new texts.new answers.new) }
 {
     let words = plain_words(heads, answers);
-    let m = lesser(words, most);
+    let m = words.min(most);
     if m == 0 {
         crate::turn::round(image, shared, taken, heads, tables, texts, answers, bytes);
         return 1;

@@ -16,12 +16,7 @@ use block_log::{Refusal, Reply};
 fn anybody(answers: &[[u32; 2]]) -> bool
     ensures { result ≡ any_goes_on answers.now }
 {
-    for i in 0..answers.len() {
-        if crate::turn::goes_on(answers[i][0]) {
-            return true;
-        }
-    }
-    false
+    answers.iter().any(|answer| crate::turn::goes_on(answer[0]))
 }
 
 // So many rounds, as long as there is somebody whose write goes on.
@@ -52,27 +47,19 @@ fn all_rounds(
     }
 }
 
-// Whether the number of point i stands again after it.
-fn again(heads: &[[u32; 11]], i: usize) -> bool
-    requires { i < length heads.now }
-    ensures { result ≡ member (number_at heads.now i)
-        (list_from (suc i) (length heads.now - suc i) (number_at heads.now)) }
+// Whether one of these points has the number.
+fn has_number(heads: &[[u32; 11]], number: u32) -> bool
+    ensures { result ≡ member number (list_from 0 (length heads.now) (number_at heads.now)) }
 {
-    let number = heads[i][0];
-    for j in i + 1..heads.len() {
-        if heads[j][0] == number {
-            return true;
-        }
-    }
-    false
+    heads.iter().any(|head| number == head[0])
 }
 
 // Whether a point is listed twice.
 fn listed_twice(heads: &[[u32; 11]]) -> bool
     ensures { result ≡ twice (list_from 0 (length heads.now) (number_at heads.now)) }
 {
-    for i in 0..heads.len() {
-        if again(heads, i) {
+    for (i, head) in heads.iter().enumerate() {
+        if has_number(&heads[i + 1..], head[0]) {
             return true;
         }
     }
@@ -84,8 +71,8 @@ fn adds_up(writes: &[[usize; 2]], bytes: usize) -> bool
     ensures { result ≡ eqb (start_at writes.now (length writes.now)) bytes }
 {
     let mut left = bytes;
-    for i in 0..writes.len() {
-        let size = writes[i][1];
+    for write in writes {
+        let size = write[1];
         if left < size {
             return false;
         }
@@ -98,22 +85,7 @@ fn adds_up(writes: &[[usize; 2]], bytes: usize) -> bool
 fn one_for_each(n: usize, tables: usize, texts: usize, writes: usize, answers: usize) -> bool
     ensures { result ≡ one_for_each n tables texts writes answers }
 {
-    if n < 1 {
-        return false;
-    }
-    if 32 < n {
-        return false;
-    }
-    if tables != n {
-        return false;
-    }
-    if texts != n {
-        return false;
-    }
-    if writes != n {
-        return false;
-    }
-    answers == n
+    (1 <= n) & (n <= 32) & (tables == n) & (texts == n) & (writes == n) & (answers == n)
 }
 
 // 26: no point, more than 32, or not one write, with its room, for each; 27: a point is listed twice.

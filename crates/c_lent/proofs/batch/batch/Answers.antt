@@ -1,6 +1,6 @@
 use mathlib.Core.Path.{◌≡◌, sym, ◌∙◌}
 use mathlib.Core.List.{List, []}
-use Prim.Native.Nat.{◌<◌}
+use Prim.Native.Nat.{◌<◌, ◌≤◌}
 use native.Mathlib.Omega.{arith}
 use lib.ListN.{get_or}
 use Rattle.points.specs.Serving.{in_turn, rounds}
@@ -24,7 +24,8 @@ returns-then-m-eq0 c = let y = c.round in
 pub plain_batch-requires : goal.plain_batch-requires
 plain_batch-requires c = let p = c.requires in
     let words = c.plain_words-words in
-    let m = c.lesser-m in
-    let some : 0 < words.result = omega (arith, m.ensures.0) in
+    let m = c.min-m in
+    let some : 0 < words.result = omega (arith, m.ensures) in
+    let fewer : m.result ≤ words.result = omega (arith, m.ensures) in
     let made : 0 < m.result = omega arith in
-    (p.0, p.1, made, p.3, λ i l g. plain-fewer words.result m.result (get_or c.args.heads.now i []) m.ensures.0 (words.ensures some i l g))
+    (p.0, p.1, made, p.3, λ i l g. plain-fewer words.result m.result (get_or c.args.heads.now i []) fewer (words.ensures some i l g))

@@ -1,5 +1,5 @@
 use mathlib.Core.Path.{◌≡◌}
-use Prim.Native.Nat.{◌≤◌, ◌-◌}
+use Prim.Native.Nat.{◌-◌}
 use lib.ListN.{length}
 use Rattle.words.specs.Logic.{list_from}
 use Rattle.points.specs.Serving.{twice}
@@ -7,9 +7,4 @@ use Rattle.c_lent.specs.Serving.{number_at}
 use Rattle.c_lent.proofs.serve.listed_twice.Given as goal
 
 abbrev pub invariant-loop-i : goal.invariant-loop-i
-invariant-loop-i l =
-    (l.i-end ≡ length l.heads) × (l.i ≤ length l.heads)
-    × (twice (list_from 0 (length l.heads) (number_at l.heads)) ≡ twice (list_from l.i (length l.heads - l.i) (number_at l.heads)))
-
-abbrev pub decreases-loop-i : goal.decreases-loop-i
-decreases-loop-i l = length l.heads - l.i
+invariant-loop-i l = twice (list_from 0 (length l.heads) (number_at l.heads)) ≡ twice (list_from l.i (length l.heads - l.i) (number_at l.heads))
