@@ -124,7 +124,7 @@ fn longer(size: u32, e: u64) -> u32
 }
 
 // One entry is taken in: the table, and the length that is handed back.
-pub fn take_in(e: u64, table: &mut [u16; 256], size: u32) -> u32
+fn take_in(e: u64, table: &mut [u16; 256], size: u32) -> u32
     requires { Mappable e }
     ensures alone { TakenIn (e ∷ []) table.old size table.new result }
     ensures applied { record { table = table.new; size = result } ≡ apply one (record { table = table.old; size = size }) e }
@@ -186,22 +186,18 @@ pub fn catch_up(image: &[u64], blocks: u32, from: Place, table: &mut [u16; 256],
     }
 }
 
-// One entry is taken in, where it keeps the rules in an image of at most 1,024 blocks. What is tested keeps table and length in bounds.
+// One entry is taken in, where its runs lie inside a table and an image of 1,024 blocks, as those of an entry that keeps the rules do. Otherwise nothing changes.
 pub fn take_entry(e: u64, table: &mut [u16; 256], size: u32) -> u32
-    ensures { (blocks : ℕ) → blocks ≤ 1024 → legal one blocks e ≡ true
+    ensures legal { (blocks : ℕ) → blocks ≤ 1024 → legal one blocks e ≡ true
         → TakenIn (e ∷ []) table.old size table.new result }
+    ensures mappable { Mappable e
+        → record { table = table.new; size = result } ≡ apply one (record { table = table.old; size = size }) e }
 {
     let n = crate::count(e);
-    if n == 0 {
+    if n == 0 || 256 < n {
         return size;
     }
-    if 64 < n {
-        return size;
-    }
-    if 256 < crate::first_virtual(e) + n {
-        return size;
-    }
-    if 1024 < crate::first_block(e) + n {
+    if 256 < crate::first_virtual(e) + n || 1024 < crate::first_block(e) + n {
         return size;
     }
     if 512 < crate::used(e) {

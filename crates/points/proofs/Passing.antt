@@ -120,10 +120,3 @@ moves-by-one words blocks h g table left e length x f k =
 
 pub stays : (words : List ℕ) (blocks : ℕ) (h : Head) (table : List ℕ) → MovesByOne words blocks h table None table
 stays words blocks h table = record { moved = λ g d. cc; stayed = λ d. refl }
-
--- an entry taken in, by its fields
-pub taken_in :
-    (table left : List ℕ) (length size e v b n : ℕ) → left ≡ map_run table v b n → v ≡ entry_v e → b ≡ entry_b e → n ≡ entry_n e
-    → size ≡ max length (entry_end one e) → record { table = left; size = size } ≡ apply one (record { table = table; size = length }) e
-unfolding apply
-taken_in table left length size e v b n el ev eb en es = rw (es, el, ev, eb, en)

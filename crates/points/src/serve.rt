@@ -275,39 +275,6 @@ fn entry_alone(image: &[u64], blocks: u32, head: Head) -> Option<u64>
     Some(e)
 }
 
-// The blocks of an entry are mapped.
-fn map_run(table: &mut [u16; 256], v: usize, b: u16, n: usize)
-    requires { (v + n ≤ 256) × (b + n ≤ 1024) }
-    ensures { table.new ≡ map_run table.old v b n }
-{
-    let mut i = v;
-    let mut at = b;
-    let mut left = n;
-    while 0 < left {
-        table[i] = at;
-        i += 1;
-        at += 1;
-        left -= 1;
-    }
-}
-
-// An entry is taken in: the table, and the length that is handed back.
-fn take_in(e: u64, table: &mut [u16; 256], length: u32) -> u32
-    requires { Mappable e }
-    ensures { record { table = table.exit.now; size = result } ≡ apply one (record { table = table.entry.now; size = length }) e }
-{
-    let v = block_log::first_virtual(e);
-    let n = block_log::count(e);
-    map_run(
-        table,
-        v as usize,
-        block_log::first_block(e) as u16,
-        n as usize,
-    );
-    let end = (512 * (v + n - 1) + block_log::used(e)) as u32;
-    length.max(end)
-}
-
 // The head one slot on.
 fn passing(head: Head, length: u32) -> Head
     requires { (head.write.position ≡ run_words one head.write) × (head.place.slot < 64) }
@@ -336,7 +303,7 @@ pub fn move_by_one(image: &[u64], blocks: u32, head: Head, table: &mut [u16; 256
     ensures { MovesByOne image.now blocks head table.old result table.new }
 {
     let e = entry_alone(image, blocks, head)?;
-    let length = take_in(e, table, head.length);
+    let length = block_log::ahead::take_entry(e, table, head.length);
     Some(passing(head, length))
 }
 
@@ -405,7 +372,7 @@ pub fn commit_by_head(
     }
     let entry = crate::commit::entry_for(head);
     crate::release::free_replaced(taken, table, head.write);
-    let length = take_in(entry, table, head.length);
+    let length = block_log::ahead::take_entry(entry, table, head.length);
     *text = crate::record::no_text();
     let place = head.place;
     words::image::store(image, place.block, place.slot as usize, entry);

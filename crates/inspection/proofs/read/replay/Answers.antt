@@ -14,7 +14,7 @@ loop-j-preserved c = let l = c.loop-j in
     let p = c.requires in
     let h : l.j < length a.entries.now = omega (arith, c.sized_words-arg-1.given, p.0) in (
       omega arith,
-      taken-on a.entries.now a.n l.j a.table.now l.table _ l.size _ h (omega arith) p.1 l.invariant.1 c.take_entry-size.ensures,
+      taken-on a.entries.now a.n l.j a.table.now l.table _ l.size _ h (omega arith) p.1 l.invariant.1 c.take_entry-size.ensures.legal,
     )
 
 pub returns : goal.returns

@@ -19,15 +19,13 @@ entry_for-entry-requires c = entry-fits _ (ready (goal.at.entry_for-entry-requir
 pub free_replaced-requires : goal.free_replaced-requires
 free_replaced-requires c = in_table c.args.head (ready (goal.at.free_replaced-requires c).Else-not-commits).entry
 
-pub take_in-length-requires : goal.take_in-length-requires
-take_in-length-requires c = rw c.entry_for-entry.ensures (entry-mappable c.args.head (ready (goal.at.take_in-length-requires c).Else-not-commits).entry)
-
 pub next_slot-requires : goal.next_slot-requires
 next_slot-requires c = (ready (goal.at.next_slot-requires c).Else-not-commits).slot
 
 pub returns : goal.returns
 returns c = let a = c.args in
     commits-by-head a.image.now c.store.new.image a.taken.now c.free_replaced.new.map a.head c.head_of.result a.table.now
-    c.take_in-length.new.table a.text.now c.no_text.result c.entry_for-entry.result c.take_in-length.result c.next_slot.result
-    c.no_write-idle.result (ready (goal.at.returns c).Else-not-commits) c.entry_for-entry.ensures c.free_replaced.ensures c.take_in-length.ensures
+    c.take_entry-length.new.table a.text.now c.no_text.result c.entry_for-entry.result c.take_entry-length.result c.next_slot.result
+    c.no_write-idle.result (ready (goal.at.returns c).Else-not-commits) c.entry_for-entry.ensures c.free_replaced.ensures
+    (c.take_entry-length.ensures.mappable (rw c.entry_for-entry.ensures (entry-mappable c.args.head (ready (goal.at.returns c).Else-not-commits).entry)))
     c.no_text.ensures c.store.ensures c.next_slot.ensures c.no_write-idle.ensures c.head_of.ensures

@@ -15,15 +15,12 @@ passes c = c.entry_alone.ensures c.in_ok-e.e c.in_ok-e.was
 pub returns-in_err-e : goal.returns-in_err-e
 returns-in_err-e c = let a = c.args in rw c.from_residual.ensures (stays a.image.now a.blocks a.head a.table.now)
 
-pub take_in-length-requires : goal.take_in-length-requires
-take_in-length-requires c = let x = passes (goal.at.take_in-length-requires c).In_ok-e in
-    legal-mappable c.args.blocks c.in_ok-e.e x.aside.few x.aside.legal
-
 pub passing-requires : goal.passing-requires
 passing-requires c = let x = passes (goal.at.passing-requires c).In_ok-e in
     (x.ready.filled, omega (arith, x.alone.slot))
 
 pub returns : goal.returns
 returns c = let a = c.args in
-    moves-by-one a.image.now a.blocks a.head c.passing.result a.table.now c.take_in-length.new.table c.in_ok-e.e
-    c.take_in-length.result (passes (goal.at.returns c).In_ok-e) c.take_in-length.ensures c.passing.ensures
+    let x = passes (goal.at.returns c).In_ok-e in
+    moves-by-one a.image.now a.blocks a.head c.passing.result a.table.now c.take_entry-length.new.table c.in_ok-e.e
+    c.take_entry-length.result x (c.take_entry-length.ensures.mappable (legal-mappable a.blocks c.in_ok-e.e x.aside.few x.aside.legal)) c.passing.ensures

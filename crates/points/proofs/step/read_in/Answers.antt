@@ -11,7 +11,7 @@ pub returns-in-OwnEntry : goal.returns-in-OwnEntry
 unfolding read_in replay_on
 returns-in-OwnEntry c = let told = c.in-OwnEntry.is in
     let f = rw told at c.requires in
-    rw told (c.take_entry.ensures _ f.0 f.1)
+    rw told (c.take_entry.ensures.legal _ f.0 f.1)
 
 pub returns-in-AllAhead : goal.returns-in-AllAhead
 unfolding read_in
