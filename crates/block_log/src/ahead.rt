@@ -46,6 +46,7 @@ pub fn covered_in(part: &[u64], from: usize, x: u32) -> bool
         .any(|e| covers(*e, x))
 }
 
+// Stays: a literal of `Lookahead` at each of the four ways out of `look` is no plainer.
 fn lookahead(
     block: u32,
     slot: u32,
