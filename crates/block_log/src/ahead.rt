@@ -46,6 +46,7 @@ pub fn covered_in(part: &[u64], from: usize, x: u32) -> bool
         .any(|e| covers(*e, x))
 }
 
+// Stays: a literal of `Lookahead` at each of the four ways out of `look` is no plainer.
 fn lookahead(
     block: u32,
     slot: u32,
@@ -106,7 +107,7 @@ fn map_run(table: &mut [u16; 256], v: usize, b: u16, n: usize)
     requires { (v + n ≤ 256) × (b + n ≤ 1024) }
     ensures { table.new ≡ map_run table.old v b n }
 {
-    // Stays: `table[v..v + n].iter_mut().zip(b..)` doesn't prove, since nothing is known of a slice after an adapter of `iter_mut`.
+    // Stays: `for (i, row) in table[v..v + n].iter_mut().enumerate()` is no plainer, since blocks and rows both go up with i.
     for i in 0..n {
         table[v + i] = b + i as u16;
     }

@@ -133,8 +133,8 @@ pub fn digits_of(e: u64) -> [u8; 16]
     ensures { result ≡ digits_of e }
 {
     let mut text = [0u8; 16];
-    for i in 0..16 {
-        text[i] = hex_digit((e >> (60 - 4 * i)) % 16);
+    for (i, digit) in text.iter_mut().enumerate() {
+        *digit = hex_digit((e >> (60 - 4 * i)) % 16);
     }
     text
 }

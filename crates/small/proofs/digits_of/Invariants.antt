@@ -1,5 +1,4 @@
 -- After i digits the first i stand there.
-use Prim.Native.Nat.{◌-◌, ◌≤◌}
 use mathlib.Core.Path.{◌≡◌}
 use mathlib.Core.List.{◌++◌}
 use lib.ListN.{drop, replicate}
@@ -8,7 +7,4 @@ use Rattle.small.specs.SmallLogs.{digit_at}
 use Rattle.small.proofs.digits_of.Given as goal
 
 abbrev pub invariant-loop-i : goal.invariant-loop-i
-invariant-loop-i l = (l.i ≤ 16) × (l.text ≡ list_from 0 l.i (digit_at l.e) ++ drop l.i (replicate 16 0))
-
-abbrev pub decreases-loop-i : goal.decreases-loop-i
-decreases-loop-i l = 16 - l.i
+invariant-loop-i l = l.digit-items ≡ list_from 0 l.i (digit_at l.e) ++ drop l.i (replicate 16 0)

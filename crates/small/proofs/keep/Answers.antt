@@ -3,7 +3,7 @@ use Prim.Native.Nat.{◌+◌, ◌*◌, ◌<◌}
 use native.Mathlib.Omega.{arith}
 use mathlib.Core.Path.{sym, ◌∙◌}
 use mathlib.Core.List.{[], ◌∷◌}
-use lib.ListN.{length, length-set}
+use lib.ListN.{length}
 use borrow.Author.Tests.{not-true, not-false}
 use Rattle.small.proofs.Slice.{keep-full, keep-refused, keeps_same, keeps-one}
 use Rattle.small.proofs.keep.Goals as goal
@@ -24,10 +24,6 @@ returns-then-not-accepts c = let a = c.args in
 -- where there is room and the log is accepted
 room-for-two : (c : Else-not-accepts) → let a = c.args in 2 * a.count + 1 < length a.out.now
 room-for-two c = omega (arith, c.if-out-at-lt2.false)
-
-pub bounds-out-at-2 : goal.bounds-out-at-2
-bounds-out-at-2 c = let a = c.args in
-    omega (arith, length-set a.out.now (2 * a.count) a.first, room-for-two (goal.at.bounds-out-at-2 c).Else-not-accepts)
 
 pub returns : goal.returns
 returns c = let a = c.args in

@@ -8,9 +8,6 @@ use Rattle.small.proofs.keep_each.Goals as goal
 pub loop-k-init : goal.loop-k-init
 loop-k-init c = let a = c.args in (omega arith, refl, c.requires, ap (keep_all (filled a.out.now a.count)) (each-longer (log_of a.first)))
 
-pub keep_longer-n-requires : goal.keep_longer-n-requires
-keep_longer-n-requires c = c.loop-k.invariant.2
-
 pub loop-k-preserved : goal.loop-k-preserved
 loop-k-preserved c = let l = c.loop-k in
     let a = c.args in
@@ -21,9 +18,6 @@ loop-k-preserved c = let l = c.loop-k in
       next-entry (longer es) (keep_all (filled a.out.now a.count) (one_more es)) l.out l.n c.keep_longer-n.new.out c.keep_longer-n.result
           l.k c.legal_entry.result (omega arith) c.legal_entry.ensures c.keep_longer-n.ensures l.invariant.3,
     )
-
-pub shape_of-out : goal.shape_of-out
-shape_of-out c = c.loop-k.invariant.1
 
 pub returns : goal.returns
 returns c = let l = c.loop-k in

@@ -8,9 +8,6 @@ use Rattle.small.proofs.keep_pairs.Goals as goal
 pub loop-k-init : goal.loop-k-init
 loop-k-init c = let a = c.args in (omega arith, refl, c.requires, ap (keep_all (filled a.out.now a.count)) each-pair)
 
-pub keep_each-n-requires : goal.keep_each-n-requires
-keep_each-n-requires c = c.loop-k.invariant.2
-
 pub loop-k-preserved : goal.loop-k-preserved
 loop-k-preserved c = let l = c.loop-k in
     let a = c.args in (
@@ -20,9 +17,6 @@ loop-k-preserved c = let l = c.loop-k in
       next-entry (λ c. one_more (log_of c)) (keep_all (filled a.out.now a.count) pairs) l.out l.n c.keep_each-n.new.out
           c.keep_each-n.result l.k c.legal_entry.result (omega arith) c.legal_entry.ensures c.keep_each-n.ensures l.invariant.3,
     )
-
-pub shape_of-out : goal.shape_of-out
-shape_of-out c = c.loop-k.invariant.1
 
 pub returns : goal.returns
 returns c = let l = c.loop-k in

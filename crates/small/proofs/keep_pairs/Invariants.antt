@@ -1,5 +1,5 @@
 -- One first entry after the other.
-use Prim.Native.Nat.{◌-◌, ◌≤◌}
+use Prim.Native.Nat.{◌≤◌}
 use mathlib.Core.Path.{◌≡◌}
 use lib.ListN.{length}
 use Rattle.small.specs.Tried.{entry_count, one_more, pairs}
@@ -11,6 +11,3 @@ abbrev pub invariant-loop-k : goal.invariant-loop-k
 invariant-loop-k l =
     (l.k ≤ entry_count) × (length l.out ≡ length l.initial.out) × Room l.out l.n
     × (keep_all (filled l.initial.out l.count) pairs ≡ keep_all (filled l.out l.n) (logs_from (λ e. one_more (log_of e)) l.k))
-
-abbrev pub decreases-loop-k : goal.decreases-loop-k
-decreases-loop-k l = entry_count - l.k

@@ -6,4 +6,4 @@ use Rattle.words.specs.Word.{words_of}
 use Rattle.words.proofs.bytes.words_of.Given as goal
 
 abbrev pub invariant-loop-i : goal.invariant-loop-i
-invariant-loop-i l = (length l.words ≡ length l.initial.words) × (l.words ≡ words_of l.bytes l.i ++ drop l.i l.initial.words)
+invariant-loop-i l = (length l.initial.word-items ≡ l.n) × (l.word-items ≡ words_of l.bytes l.i ++ drop l.i l.initial.word-items)
