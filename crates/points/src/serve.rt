@@ -276,6 +276,7 @@ fn entry_alone(image: &[u64], blocks: u32, head: Head) -> Option<u64>
 }
 
 // The blocks of an entry are mapped.
+// Stays: its loop writes the table at an index, and after `iter_mut` no proof knows what the table holds.
 fn map_run(table: &mut [u16; 256], v: usize, b: u16, n: usize)
     requires { (v + n ≤ 256) × (b + n ≤ 1024) }
     ensures { table.new ≡ map_run table.old v b n }
