@@ -1,14 +1,12 @@
 -- The shared tests as the code makes them, from the first on, are the definitions' lists of tests. Assumes nothing.
 use Prim.Native.Nat.{ℕ, zero, suc, ◌+◌, ◌*◌, ◌-◌, ◌/◌, ◌^◌, ◌≤◌, ◌<◌, max}
 use native.Mathlib.Omega.{arith}
-use native.Mathlib.Numerals.{add-one}
 use mathlib.Core.Path.{◌≡◌, refl, sym, ◌∙◌, ap}
 use mathlib.Core.Logic.{◌≢◌}
 use mathlib.Core.Bool.{Bool, true, false, ◌&&◌, ◌||◌, not, and-true, and_assoc, or-false, or_assoc}
 use mathlib.Core.List.{List, [], ◌∷◌}
-use lib.ListN.{length, get_or, drop}
+use lib.ListN.{length}
 use Rattle.std.specs.List.{fold}
-use lib.Seq.{drop-cons, drop-length}
 use lib.Dec.{leb, ltb, eqb}
 use lib.Pow.{shr_lt, pow_mono}
 use native.Mathlib.Nat.{lt_of_lt_of_le, zero-add}
@@ -193,18 +191,13 @@ phase-none (suc (suc (suc (suc (suc zero))))) a b c d e f = absurd (e refl)
 phase-none (suc (suc (suc (suc (suc (suc zero)))))) a b c d e f = absurd (f refl)
 phase-none (suc (suc (suc (suc (suc (suc (suc n))))))) a b c d e f = refl
 
--- ---- the table, from an index on
+-- ---- the table
 
-module _ (blocks : ℕ) (table : List ℕ) where
-  pub table-next :
-      (i : ℕ) (ok : Bool) → i < length table
-      → ok && all_below blocks (drop i table) ≡ (ok && ltb (get_or table i 0) blocks) && all_below blocks (drop (i + 1) table)
-  unfolding all_below
-  table-next i ok h = rw (add-one, drop-cons table i 0) (sym (and_assoc ok (ltb (get_or table i 0) blocks) (all_of (λ b. ltb b blocks) (drop (suc i) table))))
-
-  pub table-end : (ok : Bool) → ok && all_below blocks (drop (length table) table) ≡ ok
-  unfolding all_below
-  table-end ok = rw drop-length (and-true ok)
+-- test by test
+pub folded : (n : ℕ) (a : Bool) (xs : List ℕ) → fold (λ (ok : Bool) (b : ℕ). ok && ltb b n) a xs ≡ (a && all_below n xs)
+unfolding all_below
+folded n a [] = sym (and-true a)
+folded n a (x ∷ xs) = folded n (a && ltb x n) xs ∙ and_assoc a (ltb x n) (all_of (λ b. ltb b n) xs)
 
 -- a number joins the greatest so far; 0 stands for none
 pub below_both : (a b n : ℕ) → ltb (max a b) n ≡ (ltb a n && ltb b n)

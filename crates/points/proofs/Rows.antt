@@ -4,7 +4,7 @@ use native.Mathlib.Numerals.{add-one}
 use native.Mathlib.Omega.{arith}
 use native.Mathlib.Decide.{ℕ_discrete}
 use mathlib.Core.Path.{◌≡◌, refl, sym, ap, ◌∙◌, subst}
-use mathlib.Core.Logic.{◌≢◌, ◌⊎◌, inl, inr}
+use mathlib.Core.Logic.{◌≢◌, ◌⊎◌, inl}
 use mathlib.Core.List.{List, []}
 use lib.ListN.{length, get_or, take, drop}
 use lib.Seq.{get_or-take, get_or-drop}
@@ -28,7 +28,7 @@ use Rattle.points.specs.Batch.{filled_at, filled_on, row_of, Fillable, Prepared,
 use Rattle.points.specs.Batch.{copied_word, mixed_word, row_word, row_put, row_stored, round_stored, rounds_stored, RowFits}
 use Rattle.points.proofs.Spans.{lies}
 use Rattle.points.proofs.Planned.{word-from-put}
-use Rattle.points.proofs.NewWord.{new_word_lem, new-word-text, same_bytes, word_bytes}
+use Rattle.points.proofs.NewWord.{new_word_lem, new-word-text, same_bytes}
 use Rattle.points.proofs.NewWord.{mixed-text, mixed-copied, mapped-none, mapped-word}
 
 -- where word k goes there is a virtual block

@@ -40,11 +40,6 @@ use Rattle.points.specs.Reading.{seen}
 
 -- ---- answers: the record is the head that is answered, with the arrays as they are left
 
--- a count, one more where it is so
-abbrev pub counted : ℕ → Bool → ℕ
-counted n true = suc n
-counted n false = n
-
 -- a beginning that is done reports where the point stands
 abbrev pub begun_shared : Reply → Head → Shared → Shared
 begun_shared (Ok x) h s = reporting_place h s

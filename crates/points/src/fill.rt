@@ -13,6 +13,7 @@ ghost use Rattle.points.specs.Lent.{TextFits, InRun, mixed_byte};
 use crate::{Head, Phase, Write};
 
 // Eight bytes of the text as a word.
+// Stays: a rule of the project, shifts place the text's bytes into words; `from_le_bytes` takes an array, which eight such lines would have to make.
 pub(crate) fn text_word(text: &[u8; 1024], from: usize) -> u64
     requires { from + 8 ≤ 1024 }
     ensures { result ≡ from_bytes (list_from from 8 (λ i. get_or text.now i 0)) }

@@ -10,7 +10,7 @@ use crate::{Head, Phase, StepAnswer, Write};
 use block_log::{Place, Refusal};
 
 // What the record takes in: nothing, the entry that the plan stores, all entries ahead.
-#[derive(Clone, Copy)]
+#[derive(Clone, Copy, PartialEq, Eq, Debug)]
 pub enum Reads {
     NoEntry,
     OwnEntry,
@@ -18,7 +18,7 @@ pub enum Reads {
 }
 
 // What becomes free: nothing, what the write holds, the blocks that the write replaces, the log block that was zeroed.
-#[derive(Clone, Copy)]
+#[derive(Clone, Copy, PartialEq, Eq, Debug)]
 pub enum Frees {
     NoBlock,
     Held,
@@ -27,7 +27,7 @@ pub enum Frees {
 }
 
 // What is reported: nothing, the log block where the point stands then, that and one log block more in the chain.
-#[derive(Clone, Copy)]
+#[derive(Clone, Copy, PartialEq, Eq, Debug)]
 pub enum Reports {
     NoReport,
     Standing,
@@ -35,7 +35,7 @@ pub enum Reports {
 }
 
 // What is stored: nothing, a word of the run, a zero, an entry, a next index.
-#[derive(Clone, Copy)]
+#[derive(Clone, Copy, PartialEq, Eq, Debug)]
 pub enum Kind {
     NoStore,
     Fill,

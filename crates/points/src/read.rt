@@ -40,6 +40,7 @@ fn copy_words(part: &[u64], buffer: &mut [u8])
 }
 
 // n bytes of a part go to the buffer from a place on, one by one.
+// Stays: over `buffer[at..at + n].iter_mut()` it was tried: what its elements are after it no proof knows, and k would still be counted for the part.
 fn copy_bytes(part: &[u64], from: usize, buffer: &mut [u8], at: usize, n: usize)
     requires { (from + n ≤ 8 * length part.now) × (at + n ≤ length buffer.old) }
     ensures { buffer.new ≡ sets buffer.old at (list_from from n (byte_in part.now)) }
@@ -104,6 +105,7 @@ pub(crate) fn copy_block(
 }
 
 // n bytes of the file from an offset on go to the buffer's front, block by block.
+// Stays: each turn goes on by a length of its own; `for v in first..=last` would find the same three numbers in each turn, and n = 0 apart.
 fn fill(image: &[u64], table: &[u16; 256], offset: usize, buffer: &mut [u8], n: usize)
     requires { (n ≤ length buffer.old) × (offset + n < 2 ^ 64) }
     ensures { buffer.new

@@ -1,8 +1,7 @@
 // The shared record: its numbers, and its changes: points that join or leave, blocks that are taken or become free, log blocks that are reported.
-ghost use Rattle.std.specs.Prelude.{◌≡◌, true, false, [], ◌∷◌, suc, ◌<◌, ◌≤◌, length, set};
+ghost use Rattle.std.specs.Prelude.{◌≡◌, true, false, [], ◌∷◌, ◌<◌, set};
 ghost use Rattle.words.specs.BlockMap.{with_bit, set_all};
 ghost use Rattle.points.specs.Record.{all_below};
-ghost use Rattle.points.specs.Lent.{counted};
 ghost use Rattle.points.specs.Search.{with_joined, with_taken, reporting, lengthening, numbers_of};
 ghost use Rattle.points.specs.Plan.{reported};
 ghost use Rattle.points.specs.Lent.{begun_shared, Lengthens};
@@ -94,29 +93,11 @@ pub(crate) fn without_point(joined: u32, number: u32) -> u32
     joined & !(1u32 << number)
 }
 
-// One more, modulo 2^32: counts so kept become vectors.
-fn one_more(n: u32) -> u32
-    ensures { n < 32 → result ≡ suc n }
-{
-    if n < 4294967295 { n + 1 } else { 0 }
-}
-
-// One more where it is so.
-fn counted(n: u32, so: bool) -> u32
-    ensures { n < 32 → result ≡ counted n so }
-{
-    if so { one_more(n) } else { n }
-}
-
-// Whether each of these blocks, at most 32, is below the block count: a loop without branches, which becomes vectors.
+// Whether each of these blocks is below the block count: a fold without branches, which becomes vectors.
 pub fn all_below(bs: &[u32], blocks: u32) -> bool
-    ensures { length bs.now ≤ 32 → result ≡ all_below blocks bs.now }
+    ensures { result ≡ all_below blocks bs.now }
 {
-    let mut below = 0u32;
-    for i in 0..bs.len() {
-        below = counted(below, bs[i] < blocks);
-    }
-    below as usize == bs.len()
+    bs.iter().fold(true, |ok, b| ok & (*b < blocks))
 }
 
 // The numbers of a shared record.

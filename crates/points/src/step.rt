@@ -131,13 +131,7 @@ fn keep_text(text: &mut [u8; 1024], clears: bool)
 fn stores(kind: Kind) -> bool
     ensures { result ≡ stores kind }
 {
-    match kind {
-        Kind::NoStore => false,
-        Kind::Fill => true,
-        Kind::Zero => true,
-        Kind::Entry => true,
-        Kind::Link => true,
-    }
+    !matches!(kind, Kind::NoStore)
 }
 
 // The one store of a step, if it has one: the image is lent on as a mutable part that begins at the plan's block, for filling at the run's first word.

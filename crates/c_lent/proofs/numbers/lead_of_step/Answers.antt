@@ -5,4 +5,4 @@ use Rattle.c_lent.proofs.numbers.lead_of_step.Goals as goal
 
 pub returns : goal.returns
 returns c = let a = c.args in
-    rw (c.all_below.ensures (omega arith), rest-whole a.numbers.now)
+    rw (c.all_below.ensures, rest-whole a.numbers.now)

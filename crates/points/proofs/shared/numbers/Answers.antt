@@ -1,6 +1,5 @@
 -- `points::shared::numbers`: the reports are looked at once. Assumes nothing.
-use native.Mathlib.Omega.{arith}
 use Rattle.points.proofs.shared.numbers.Goals as goal
 
 pub returns : goal.returns
-returns c = rw (c.all_below.ensures (omega arith))
+returns c = rw c.all_below.ensures
