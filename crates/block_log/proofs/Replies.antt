@@ -16,7 +16,7 @@ use Rattle.block_log.specs.declared.Refusal.TheVariants.{SharedUnfit, RecordUnfi
 use Rattle.block_log.specs.declared.Refusal.TheVariants.{NoRun, LogFull, NoLogBlock, NotMapped, NotOneEach, ListedTwice}
 use Rattle.block_log.specs.declared.Opened.{Opened}
 use Rattle.block_log.specs.Refusals.{Reply, Done, Refused, number, refusal}
-use Rattle.block_log.specs.Opening.{reply_of, number_of, short_scratch, content_reasons, open_refusal, opened, opened_with}
+use Rattle.block_log.specs.Opening.{reply_of, number_of, short_scratch, content_reasons, layout_refusal, open_refusal, opened, opened_with}
 use Rattle.words.proofs.Tests.{first-is}
 
 -- a reason is the one with its number, which is not 0
@@ -134,3 +134,7 @@ unfolding open_refusal content_reasons
 opened-number E words scratch =
     ap number_of (opened-replies E words scratch)
     ∙ number-back (1 when wrong_size E words ∷ 2 when short_scratch scratch ∷ content_reasons E (block_count E words) (memory E words)) refl
+
+pub layout-number : (E : Edition) (words : List ℕ) → number_of (reply_of (layout_refusal E words)) ≡ layout_refusal E words
+unfolding layout_refusal
+layout-number E words = number-back (1 when wrong_size E words ∷ []) refl
