@@ -1,9 +1,9 @@
 -- Words and numbers of a text.
-use Rattle.std.proofs.Common.{◌≡◌, ◌≢◌, ℕ, suc, Bool, true, false, ◌&&◌, cond, not, List, [], ◌∷◌, length, take, drop, get_or, refl, sym, ◌∙◌, ap, eqb, ltb, leb, ◌+◌, ◌*◌, ◌-◌, ◌^◌, ◌≤◌, ◌<◌, add-one, drop-cons, arith, Option, Some, None}
+use Rattle.std.proofs.Common.{◌≡◌, ◌≢◌, ℕ, suc, Bool, true, false, ◌&&◌, cond, not, List, [], ◌∷◌, length, take, drop, get_or, refl, sym, ◌∙◌, ap, eqb, ltb, leb, ◌+◌, ◌*◌, ◌-◌, ◌^◌, ◌≤◌, ◌<◌, add-one, drop-cons, arith, Some, None}
 use lib.ListN.{drop_of_length-le}
 use lib.Seq.{take_all}
 use native.Mathlib.Decide.{ℕ_discrete}
-use Rattle.std.specs.List.{position_from, position_or_len, prefix_len}
+use Rattle.std.specs.List.{position_from, position_or_len}
 use Rattle.std.specs.Option.{unwrap_or}
 use Rattle.std.proofs.lemmas.Grind.{common_steps}
 use Rattle.std.proofs.lemmas.List.{length-drop}

@@ -1,4 +1,4 @@
-use Rattle.std.proofs.Common.{rules, ◌≡◌, ◌≤◌, ◌<◌, ◌∙◌, ◌^◌, ◌*◌, ◌+◌, ◌-◌, ℕ, length, get_or, true, false, sym, arith}
+use Rattle.std.proofs.Common.{rules, ◌≡◌, ◌≤◌, ◌∙◌, ◌*◌, ◌+◌, ◌-◌, length, get_or, true, false, sym, arith}
 use Rattle.session.specs.Scan.{is_digit}
 use Rattle.session.proofs.ScanLaws.{value-next, value-end, value-least, digits-next, digits-end, digits-stop, too_short, too_long, no_digit, too_large, is-number}
 use Rattle.session.proofs.scan.number_of.Goals as goal

@@ -1,4 +1,4 @@
-use Rattle.std.proofs.Common.{◌∙◌, ap, length, not, eqb}
+use Rattle.std.proofs.Common.{◌∙◌, ap, length, eqb}
 use Rattle.std.specs.Option.{unwrap_or}
 use Rattle.session.proofs.ScanLaws.{word_found, position_within}
 use Rattle.session.proofs.scan.word_len.Goals as goal

@@ -1,4 +1,4 @@
-use Rattle.std.proofs.Common.{◌≡◌, ◌∙◌, ◌∷◌, [], ap, sym}
+use Rattle.std.proofs.Common.{◌∙◌, ◌∷◌, [], ap, sym}
 use Rattle.session.specs.Digest.{digest_from, parts}
 use Rattle.session.proofs.digest.U32Digested.add_to.Goals as goal
 

@@ -1,4 +1,4 @@
-use Rattle.std.proofs.Common.{◌≡◌, ◌∙◌, ap, sym}
+use Rattle.std.proofs.Common.{◌∙◌, ap, sym}
 use Rattle.session.specs.Digest.{digest_from, onward}
 use Rattle.session.proofs.digest.U8Digested.add_to.Goals as goal
 
