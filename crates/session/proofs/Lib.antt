@@ -1,3 +1,2 @@
-pub mod DigestLaws
 pub mod MadeLaws
 pub mod ScanLaws

@@ -1,19 +1,18 @@
--- Words and numbers of a text, from a place on: one byte further, and where a search stops.
-use Prim.Native.Nat.{ℕ, suc, ◌+◌, ◌*◌, ◌-◌, ◌^◌, ◌≤◌, ◌<◌}
-use mathlib.Core.Path.{◌≡◌, refl, sym, ◌∙◌, ap}
-use mathlib.Core.Logic.{◌≢◌}
-use mathlib.Core.Bool.{Bool, true, false, ◌&&◌}
-use mathlib.Core.List.{List, [], ◌∷◌}
-use native.Mathlib.Omega.{arith}
-use native.Mathlib.Numerals.{add-one}
-use lib.ListN.{length, take, drop, get_or, drop_of_length-le}
-use lib.Seq.{drop-cons, drop-drop}
-use lib.Dec.{eqb, ltb, leb}
+-- Words and numbers of a text.
+use Rattle.std.proofs.Common.{◌≡◌, ◌≢◌, ℕ, suc, Bool, true, false, ◌&&◌, cond, not, List, [], ◌∷◌, length, take, drop, get_or, refl, sym, ◌∙◌, ap, eqb, ltb, leb, ◌+◌, ◌*◌, ◌-◌, ◌^◌, ◌≤◌, ◌<◌, add-one, drop-cons, arith, Some, None}
+use lib.ListN.{drop_of_length-le}
+use lib.Seq.{take_all}
 use native.Mathlib.Decide.{ℕ_discrete}
+use Rattle.std.specs.List.{position_from, position_or_len}
+use Rattle.std.specs.Option.{unwrap_or}
+use Rattle.std.proofs.lemmas.Grind.{common_steps}
+use Rattle.std.proofs.lemmas.List.{length-drop}
+use Rattle.std.proofs.lemmas.List.Sums.{prefix_len-le-length}
+use Rattle.std.proofs.lemmas.List.Recursion.{is_position_or_len}
+use Rattle.std.proofs.lemmas.Iterator.Adapters.{position_from-zero}
 use Rattle.words.proofs.Choice.{choose-true, choose-false}
 use Rattle.words.proofs.Logic.{and_both}
 use borrow.Author.Tests.{eq-eqb, ne_eqb, le-leb, lt-leb, lt-ltb, le-ltb}
-use Rattle.session.specs.declared.scan.Number.TheVariants.{Value, Malformed}
 use Rattle.words.specs.Logic.{all_of, between}
 use Rattle.session.specs.Scan.{up_to, blanks, trimmed, after_word, word_at, value_from, is_digit, is_number, number_of}
 
@@ -26,6 +25,27 @@ and-right-false false e = refl
 
 -- ---- words
 
+-- where the test passes first, or the length
+cut : (a n : ℕ) → a ≤ n → unwrap_or (cond (ltb a n) (Some a) None) n ≡ a
+cut a n h = grind (arith, common_steps)
+
+unwrap_position : (test : ℕ → Bool) (xs : List ℕ) → unwrap_or (position_from test 0 xs) (length xs) ≡ position_or_len test xs
+unwrap_position test xs = rw (← position_from-zero test xs) (cut (position_or_len test xs) (length xs) (prefix_len-le-length _ xs))
+
+pub position_within : (test : ℕ → Bool) (xs : List ℕ) → unwrap_or (position_from test 0 xs) (length xs) ≤ length xs
+position_within test xs = rw (unwrap_position test xs) (prefix_len-le-length _ xs)
+
+blanks_step : (x : ℕ) (xs : List ℕ) → blanks (x ∷ xs) ≡ cond (not (eqb x 32)) 0 (1 + blanks xs)
+unfolding blanks
+blanks_step x xs = elim (eqb x 32) as (λ b. elim b [ true ↦ suc (blanks xs) | false ↦ 0 ] ≡ cond (not b) 0 (1 + blanks xs)) [ true ↦ omega arith | false ↦ refl ]
+
+no_blanks : blanks [] ≡ 0
+unfolding blanks
+no_blanks = refl
+
+pub blanks_found : (xs : List ℕ) → unwrap_or (position_from (λ b. not (eqb b 32)) 0 xs) (length xs) ≡ blanks xs
+blanks_found xs = unwrap_position (λ b. not (eqb b 32)) xs ∙ sym (is_position_or_len blanks (λ b. not (eqb b 32)) no_blanks blanks_step xs)
+
 up_to-same : (b x : ℕ) (xs : List ℕ) → x ≡ b → up_to b (x ∷ xs) ≡ []
 unfolding up_to
 up_to-same b x xs e = choose-true (eqb x b) [] (x ∷ up_to b xs) (eq-eqb x b e)
@@ -34,37 +54,26 @@ up_to-other : (b x : ℕ) (xs : List ℕ) → x ≢ b → up_to b (x ∷ xs) ≡
 unfolding up_to
 up_to-other b x xs h = choose-false (eqb x b) [] (x ∷ up_to b xs) (ne_eqb x b h)
 
+one_more : (n : ℕ) → suc n ≡ 1 + n
+one_more n = omega arith
+
+word_step-by : (x : ℕ) (xs : List ℕ) → Dec (x ≡ 32) → length (up_to 32 (x ∷ xs)) ≡ cond (eqb x 32) 0 (1 + length (up_to 32 xs))
+word_step-by x xs (yes e) = rw (up_to-same 32 x xs e, eq-eqb x 32 e)
+word_step-by x xs (no h) = rw (up_to-other 32 x xs h, ne_eqb x 32 h) (one_more (length (up_to 32 xs)))
+
+word_step : (x : ℕ) (xs : List ℕ) → length (up_to 32 (x ∷ xs)) ≡ cond (eqb x 32) 0 (1 + length (up_to 32 xs))
+word_step x xs = word_step-by x xs (ℕ_discrete x 32)
+
+no_word : length (up_to 32 []) ≡ 0
+unfolding up_to
+no_word = refl
+
+pub word_found : (xs : List ℕ) → unwrap_or (position_from (λ b. eqb b 32) 0 xs) (length xs) ≡ length (up_to 32 xs)
+word_found xs = unwrap_position (λ b. eqb b 32) xs ∙ sym (is_position_or_len (λ (l : List ℕ). length (up_to 32 l)) (λ b. eqb b 32) no_word word_step xs)
+
 up_to-none : (b : ℕ) → up_to b [] ≡ []
 unfolding up_to
 up_to-none b = refl
-
-blanks-same : (x : ℕ) (xs : List ℕ) → x ≡ 32 → blanks (x ∷ xs) ≡ suc (blanks xs)
-unfolding blanks
-blanks-same x xs e = choose-true (eqb x 32) (suc (blanks xs)) 0 (eq-eqb x 32 e)
-
-blanks-other : (x : ℕ) (xs : List ℕ) → x ≢ 32 → blanks (x ∷ xs) ≡ 0
-unfolding blanks
-blanks-other x xs h = choose-false (eqb x 32) (suc (blanks xs)) 0 (ne_eqb x 32 h)
-
-module _ (xs : List ℕ) (i : ℕ) where
-  pub up_to-next : (b : ℕ) → i < length xs → get_or xs i 0 ≢ b → length (up_to b (drop i xs)) ≡ suc (length (up_to b (drop (i + 1) xs)))
-  up_to-next b l h = rw (add-one, drop-cons xs i 0 l, up_to-other b (get_or xs i 0) (drop (suc i) xs) h)
-
-  pub up_to-stop : (b : ℕ) → i < length xs → get_or xs i 0 ≡ b → length (up_to b (drop i xs)) ≡ 0
-  up_to-stop b l e = rw (drop-cons xs i 0 l, up_to-same b (get_or xs i 0) (drop (suc i) xs) e)
-
-  pub up_to-end : (b : ℕ) → length xs ≤ i → length (up_to b (drop i xs)) ≡ 0
-  up_to-end b l = rw (drop_of_length-le xs l, up_to-none)
-
-  pub blanks-next : i < length xs → get_or xs i 0 ≡ 32 → blanks (drop i xs) ≡ suc (blanks (drop (i + 1) xs))
-  blanks-next l e = rw (add-one, drop-cons xs i 0 l, blanks-same (get_or xs i 0) (drop (suc i) xs) e)
-
-  pub blanks-stop : i < length xs → get_or xs i 0 ≢ 32 → blanks (drop i xs) ≡ 0
-  blanks-stop l h = rw (drop-cons xs i 0 l, blanks-other (get_or xs i 0) (drop (suc i) xs) h)
-
-  pub blanks-end : length xs ≤ i → blanks (drop i xs) ≡ 0
-  unfolding blanks
-  blanks-end l = rw (drop_of_length-le xs l)
 
 take-cons :
     (b x : ℕ) (xs : List ℕ) → Dec (x ≡ b) → take (length (up_to b xs)) xs ≡ up_to b xs
@@ -76,22 +85,20 @@ up_to-take : (b : ℕ) (xs : List ℕ) → take (length (up_to b xs)) xs ≡ up_
 up_to-take b [] = rw up_to-none
 up_to-take b (x ∷ xs) = take-cons b x xs (ℕ_discrete x b) (up_to-take b xs)
 
--- from a place on, the next word begins at `from` and ends at `to`
-module _ (line : List ℕ) (at from to : ℕ) (begins : from ≡ at + blanks (drop at line)) (ends : to ≡ from + length (up_to 32 (drop from line))) where
-  trim : trimmed (drop at line) ≡ drop from line
+-- the next word begins after n blanks and has m bytes
+module _ (line : List ℕ) (n m : ℕ) (begins : n ≡ blanks line) (ends : m ≡ length (up_to 32 (take (length line - n) (drop n line)))) where
+  trim : take (length line - n) (drop n line) ≡ trimmed line
   unfolding trimmed
-  trim = drop-drop (blanks (drop at line)) at line ∙ rw begins
+  trim = let h : length (drop n line) ≤ length line - n = omega (arith, length-drop n line) in
+      take_all (length line - n) (drop n line) h ∙ ap (λ (k : ℕ). drop k line) begins
 
-  word-suc : (k : ℕ) → word_at (suc k) (drop at line) ≡ word_at k (drop to line)
-  unfolding word_at after_word
-  word-suc k = rw (trim, drop-drop, ← ends)
-
-  pub word_next : (k : ℕ) → 1 ≤ k → word_at k (drop at line) ≡ word_at (k - 1) (drop to line)
-  word_next k h = let e : k ≡ suc (k - 1) = omega arith in ap (λ (n : ℕ). word_at n (drop at line)) e ∙ word-suc (k - 1)
-
-  pub word-here : word_at 0 (drop at line) ≡ take (to - from) (drop from line)
+  pub word_here : take m (take (length line - n) (drop n line)) ≡ word_at 0 line
   unfolding word_at
-  word-here = let e : to - from ≡ length (up_to 32 (drop from line)) = omega arith in rw (trim, e, up_to-take 32 (drop from line))
+  word_here = rw (ends, trim) (up_to-take 32 (trimmed line))
+
+  pub rest_here : drop m (take (length line - n) (drop n line)) ≡ after_word line
+  unfolding after_word
+  rest_here = rw (ends, trim)
 
 -- ---- numbers
 
@@ -133,40 +140,32 @@ above-digits x h = and-right-false (leb 48 x) (lt-leb x 57 h)
 
 -- when a word is a number, and why it is none
 module _ (word : List ℕ) where
-  no_number : is_number word ≡ false → Malformed ≡ number_of word
+  no_number : is_number word ≡ false → None ≡ number_of word
   unfolding number_of
-  no_number e = sym (choose-false (is_number word) (Value (value_from 0 word)) Malformed e)
+  no_number e = sym (choose-false (is_number word) (Some (value_from 0 word)) None e)
 
-  pub too_short : length word < 1 → Malformed ≡ number_of word
+  pub too_short : length word < 1 → None ≡ number_of word
   unfolding is_number
   too_short h = no_number (and-left-false _ (and-left-false (leb (length word) 20) (lt-leb 1 (length word) h)))
 
-  pub too_long : 20 < length word → Malformed ≡ number_of word
+  pub too_long : 20 < length word → None ≡ number_of word
   unfolding is_number
   too_long h = no_number (and-left-false _ (and-right-false (leb 1 (length word)) (lt-leb (length word) 20 h)))
 
-  pub no_digit : all_of is_digit word ≡ false → Malformed ≡ number_of word
+  pub no_digit : all_of is_digit word ≡ false → None ≡ number_of word
   unfolding is_number
   no_digit e = no_number (and-right-false (between 1 (length word) 20) (and-left-false (ltb (value_from 0 word) (2 ^ 64)) e))
 
-  pub too_large : 2 ^ 64 ≤ value_from 0 word → Malformed ≡ number_of word
+  pub too_large : 2 ^ 64 ≤ value_from 0 word → None ≡ number_of word
   unfolding is_number
   too_large h = no_number (and-right-false (between 1 (length word) 20) (and-right-false (all_of is_digit word) (le-ltb (value_from 0 word) (2 ^ 64) h)))
 
   pub is-number :
       (v : ℕ) → v ≡ value_from 0 word → 1 ≤ length word → length word ≤ 20 → all_of is_digit word ≡ true → v < 2 ^ 64
-      → Value v ≡ number_of word
+      → Some v ≡ number_of word
   unfolding number_of is_number
   is-number v e lo hi d h =
       let l = and_both (leb 1 (length word)) (leb (length word) 20) (le-leb 1 (length word) lo) (le-leb (length word) 20 hi) in
       let s : value_from 0 word < 2 ^ 64 = omega arith in
       let b = and_both (all_of is_digit word) (ltb (value_from 0 word) (2 ^ 64)) d (lt-ltb (value_from 0 word) (2 ^ 64) s) in
-      ap Value e ∙ sym (choose-true (is_number word) (Value (value_from 0 word)) Malformed (and_both (between 1 (length word) 20) _ l b))
-
--- ---- names
-
-pub never : {P : Type 0} → false ≡ true → P
-never e = let z : ◌≡◌ {A = ℕ} 0 1 = cc in absurd (omega arith)
-
-pub not_same : {P : Type 0} → (P → ⊥) → (false ≡ true → P) × (P → false ≡ true)
-not_same h = (never, λ p. absurd (h p))
+      ap Some e ∙ sym (choose-true (is_number word) (Some (value_from 0 word)) None (and_both (between 1 (length word) 20) _ l b))

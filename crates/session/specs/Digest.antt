@@ -1,5 +1,5 @@
 -- "digest of a list of numbers below 65,536".
-use Rattle.std.specs.Prelude.{ℕ, ◌+◌, ◌*◌, ◌/◌, ◌%◌, ◌^◌, List, [], ◌∷◌}
+use Rattle.std.specs.Prelude.{ℕ, ◌+◌, ◌*◌, ◌/◌, ◌%◌, ◌^◌, ◌≡◌, refl, List, [], ◌∷◌}
 
 -- "h := (h × 65,599 + x) mod 4,294,967,291"
 abbrev pub onward : ℕ → ℕ → ℕ
@@ -17,3 +17,7 @@ digest = digest_from 1
 unfoldable pub parts : List ℕ → List ℕ
 parts [] = []
 parts (w ∷ ws) = w % 2 ^ 16 ∷ w / 2 ^ 16 % 2 ^ 16 ∷ w / 2 ^ 32 % 2 ^ 16 ∷ w / 2 ^ 48 % 2 ^ 16 ∷ parts ws
+
+pub no_parts : parts [] ≡ []
+unfolding parts
+no_parts = refl

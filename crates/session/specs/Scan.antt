@@ -1,8 +1,6 @@
 -- Lines, words and numbers of a script. Texts are lists of bytes.
-use Rattle.std.specs.Prelude.{ℕ, zero, suc, ◌+◌, ◌*◌, ◌-◌, ◌^◌, Bool, true, false, ◌&&◌, List, [], ◌∷◌, length, drop, eqb, ltb}
+use Rattle.std.specs.Prelude.{ℕ, zero, suc, ◌+◌, ◌*◌, ◌-◌, ◌^◌, Bool, true, false, ◌&&◌, List, [], ◌∷◌, length, drop, eqb, ltb, Option, Some, None}
 use Rattle.words.specs.Logic.{between, all_of}
-use Rattle.session.specs.declared.scan.Number.{Number}
-use Rattle.session.specs.declared.scan.Number.TheVariants.{Value, Malformed}
 
 -- the bytes before the first b, or all
 unfoldable pub up_to : ℕ → List ℕ → List ℕ
@@ -38,5 +36,5 @@ is_digit x = between 48 x 57
 unfoldable pub is_number : List ℕ → Bool
 is_number word = between 1 (length word) 20 && (all_of is_digit word && ltb (value_from 0 word) (2 ^ 64))
 
-unfoldable pub number_of : List ℕ → Number
-number_of word = elim (is_number word) [ true ↦ Value (value_from 0 word) | false ↦ Malformed ]
+unfoldable pub number_of : List ℕ → Option ℕ
+number_of word = elim (is_number word) [ true ↦ Some (value_from 0 word) | false ↦ None ]

@@ -1,131 +1,87 @@
 // Alterations of records.
-ghost use Rattle.std.specs.Prelude.{◌+◌, ◌≤◌, ◌<◌};
-
-use crate::order::Order;
-use crate::records::Places;
-use crate::{calls, order, print, records};
-use block_log::Shared;
+use crate::bench::{Bench, PlaceNumber};
+use crate::number::UpTo;
+use crate::order::{PointField, SharedField};
 use std::io;
 use std::io::Write;
 
-// The greatest number that a field of a point's record takes: 6 for the phase, 16 bits for the retries.
-fn most(field: u64) -> u64
-    ensures { result < 4294967296 }
-{
-    if field == 4 {
-        return 6;
-    }
-    if field == 10 {
-        return 65535;
-    }
-    4294967295
+fn altered(out: &mut impl Write) -> io::Result<()> {
+    writeln!(out, "altered")
 }
 
-// Number `o.b` of the `count` numbers of a record from `first` on becomes `o.c`, which is at most `most`.
-fn put(
-    out: &mut impl Write,
-    places: &mut Places,
-    o: Order,
-    first: usize,
-    count: u64,
-    most: u64,
-) -> io::Result<()>
-    requires { (first + count ≤ 1291) × (most < 4294967296) }
-{
-    if 31 < o.a {
-        return print::error(out);
+impl Bench {
+    pub fn alter(
+        &mut self,
+        out: &mut impl Write,
+        p: PlaceNumber,
+        field: PointField,
+    ) -> io::Result<()> {
+        let mut head = self.point(p).head;
+        match field {
+            PointField::Number(n) => head.number = n,
+            PointField::Length(n) => head.length = n,
+            PointField::Block(n) => head.place.block = n,
+            PointField::Slot(n) => head.place.slot = n,
+            PointField::Phase(phase) => head.write.phase = phase,
+            PointField::Offset(n) => head.write.offset = n,
+            PointField::TextLength(n) => head.write.size = n,
+            PointField::Run(n) => head.write.run = n,
+            PointField::Position(n) => head.write.position = n,
+            PointField::Zeroing(n) => head.write.zeroing = n,
+            PointField::Retries(n) => head.write.retries = n,
+        }
+        self.points[p.n].head = head;
+        altered(out)
     }
-    if count <= o.b {
-        return print::error(out);
-    }
-    if most < o.c {
-        return print::error(out);
-    }
-    records::set_number(places, o.a as usize, first + o.b as usize, o.c as u32);
-    print::altered(out)
-}
 
-fn copy(out: &mut impl Write, places: &mut Places, o: Order) -> io::Result<()> {
-    if 31 < o.a {
-        return print::error(out);
+    pub fn alter_table(
+        &mut self,
+        out: &mut impl Write,
+        p: PlaceNumber,
+        i: u8,
+        entry: u16,
+    ) -> io::Result<()> {
+        self.points[p.n].table[usize::from(i)] = entry;
+        altered(out)
     }
-    if 31 < o.b {
-        return print::error(out);
-    }
-    let point = records::load(places, o.a as usize);
-    records::save(places, o.b as usize, point);
-    print::words(out, b"copied\n")
-}
 
-fn shared_field(out: &mut impl Write, shared: Shared, o: Order) -> io::Result<Shared> {
-    if 4294967295 < o.b {
-        return calls::wrong(out, shared);
+    pub fn alter_text(
+        &mut self,
+        out: &mut impl Write,
+        p: PlaceNumber,
+        i: UpTo<1023>,
+        byte: u8,
+    ) -> io::Result<()> {
+        self.points[p.n].text[i.n] = byte;
+        altered(out)
     }
-    let mut after = shared;
-    let x = o.b as u32;
-    if o.a == 0 {
-        after.blocks = x;
-    } else if o.a == 1 {
-        after.joined = x;
-    } else {
-        after.chain = x;
-    }
-    print::altered(out)?;
-    Ok(after)
-}
 
-fn map(out: &mut impl Write, shared: Shared, o: Order) -> io::Result<Shared> {
-    if 15 < o.a {
-        return calls::wrong(out, shared);
+    pub fn copy(
+        &mut self,
+        out: &mut impl Write,
+        from: PlaceNumber,
+        to: PlaceNumber,
+    ) -> io::Result<()> {
+        self.points[to.n] = self.point(from);
+        writeln!(out, "copied")
     }
-    let mut after = shared;
-    after.taken[o.a as usize] = o.b;
-    print::altered(out)?;
-    Ok(after)
-}
 
-fn report(out: &mut impl Write, shared: Shared, o: Order) -> io::Result<Shared> {
-    if 31 < o.a {
-        return calls::wrong(out, shared);
+    pub fn alter_shared(&mut self, out: &mut impl Write, field: SharedField) -> io::Result<()> {
+        match field {
+            SharedField::Blocks(n) => self.shared.blocks = n,
+            SharedField::Joined(n) => self.shared.joined = n,
+            SharedField::Chain(n) => self.shared.chain = n,
+        }
+        altered(out)
     }
-    if 4294967295 < o.b {
-        return calls::wrong(out, shared);
-    }
-    let mut after = shared;
-    after.reports[o.a as usize] = o.b as u32;
-    print::altered(out)?;
-    Ok(after)
-}
 
-// Alters a record and writes the line; the shared record after it.
-pub fn obey(
-    out: &mut impl Write,
-    shared: Shared,
-    places: &mut Places,
-    o: Order,
-) -> io::Result<Shared> {
-    let command = o.command;
-    if command == order::ALTERSHARED {
-        return shared_field(out, shared, o);
+    pub fn alter_map(&mut self, out: &mut impl Write, i: UpTo<15>, word: u64) -> io::Result<()> {
+        self.shared.taken[i.n] = word;
+        altered(out)
     }
-    if command == order::MAP {
-        return map(out, shared, o);
+
+    pub fn report(&mut self, out: &mut impl Write, p: PlaceNumber, block: u32) -> io::Result<()> {
+        self.shared.reports[p.n] = block;
+        altered(out)
     }
-    if command == order::REPORT {
-        return report(out, shared, o);
-    }
-    if command == order::COPY {
-        copy(out, places, o)?;
-        return Ok(shared);
-    }
-    if command == order::ALTER {
-        put(out, places, o, 0, 11, most(o.b))?;
-        return Ok(shared);
-    }
-    if command == order::TABLE {
-        put(out, places, o, records::TABLE, 256, 65535)?;
-        return Ok(shared);
-    }
-    put(out, places, o, records::TEXT, 1024, 255)?;
-    Ok(shared)
 }

@@ -1,6 +1,6 @@
-// Digests of bytes, of 16-bit numbers, of words and of block numbers.
-ghost use Rattle.std.specs.Prelude.{◌≡◌, [], ◌∷◌, ◌<◌, take};
-ghost use Rattle.session.specs.Digest.{digest, digest_from, onward, parts};
+// Digests of lists: of bytes and 16-bit numbers as they are, of block numbers and words by their 16-bit parts.
+ghost use Rattle.std.specs.Prelude.{◌≡◌, refl, List, ℕ, [], ◌∷◌, ◌<◌, take};
+ghost use Rattle.session.specs.Digest.{digest, digest_from, onward, parts, no_parts};
 
 // A digest with one number more.
 fn add(h: u64, x: u64) -> u64
@@ -21,53 +21,73 @@ fn add_word(h: u64, w: u64) -> u64
     add(c, (w >> 48) % 65536)
 }
 
-pub fn of_bytes(bytes: &[u8]) -> u64
-    ensures { result ≡ digest bytes.now }
+// What a digest is made of.
+pub trait Digested: Copy {
+    // The numbers that a list counts as.
+    ghost numbers: { List Self → List ℕ };
+
+    ghost none: { numbers [] ≡ [] };
+
+    // A digest with this one more.
+    fn add_to(self, h: u64) -> u64
+        requires { h < 4294967291 }
+        ensures on { (xs : List Self) → digest_from h (numbers (self ∷ xs)) ≡ digest_from result (numbers xs) }
+        ensures below { result < 4294967291 };
+}
+
+impl Digested for u8 {
+    ghost numbers = { λ xs. xs };
+
+    ghost none = { refl };
+
+    fn add_to(self, h: u64) -> u64 {
+        add(h, u64::from(self))
+    }
+}
+
+impl Digested for u16 {
+    ghost numbers = { λ xs. xs };
+
+    ghost none = { refl };
+
+    fn add_to(self, h: u64) -> u64 {
+        add(h, u64::from(self))
+    }
+}
+
+impl Digested for u32 {
+    ghost numbers = { parts };
+
+    ghost none = { no_parts };
+
+    fn add_to(self, h: u64) -> u64 {
+        add_word(h, u64::from(self))
+    }
+}
+
+impl Digested for u64 {
+    ghost numbers = { parts };
+
+    ghost none = { no_parts };
+
+    fn add_to(self, h: u64) -> u64 {
+        add_word(h, self)
+    }
+}
+
+pub fn of<T: Digested>(list: &[T]) -> u64
+    ensures { result ≡ digest (T.numbers list.now) }
 {
     let mut h: u64 = 1;
-    for i in 0..bytes.len() {
-        h = add(h, bytes[i] as u64);
+    for x in list {
+        h = x.add_to(h);
     }
     h
 }
 
-// Of the first n bytes; of all where there are fewer.
-pub fn of_front(bytes: &[u8], n: usize) -> u64
-    ensures { result ≡ digest (take n bytes.now) }
+// Of the first n; of all where there are fewer.
+pub fn of_front<T: Digested>(list: &[T], n: usize) -> u64
+    ensures { result ≡ digest (T.numbers (take n list.now)) }
 {
-    if bytes.len() < n {
-        return of_bytes(bytes);
-    }
-    of_bytes(&bytes[0..n])
-}
-
-pub fn of_numbers(numbers: &[u16]) -> u64
-    ensures { result ≡ digest numbers.now }
-{
-    let mut h: u64 = 1;
-    for i in 0..numbers.len() {
-        h = add(h, numbers[i] as u64);
-    }
-    h
-}
-
-pub fn of_words(words: &[u64]) -> u64
-    ensures { result ≡ digest (parts words.now) }
-{
-    let mut h: u64 = 1;
-    for i in 0..words.len() {
-        h = add_word(h, words[i]);
-    }
-    h
-}
-
-// Of 32-bit numbers, each as a word.
-pub fn of_blocks(blocks: &[u32]) -> u64
-    ensures { result ≡ digest (parts blocks.now) }
-{
-    let mut h: u64 = 1;
-    for i in 0..blocks.len() {
-        h = add_word(h, blocks[i] as u64);
-    }
-    h
+    of(&list[..n.min(list.len())])
 }

@@ -1,61 +1,60 @@
 // Commands on the image alone.
-use crate::order::Order;
-use crate::{digest, noise, order, print};
+use crate::bench::{Bench, ImageSize};
+use crate::{bench, digest, noise, print};
 use std::io;
 use std::io::Write;
 
-fn make_noise(
-    out: &mut impl Write,
-    image: &mut [u64],
-    from: usize,
-    size: usize,
-    seed: u64,
-) -> io::Result<()> {
-    if image.len() < from {
-        return print::error(out);
+impl Bench {
+    // An image of so many zero words; all records become zero.
+    pub fn renew(&mut self, out: &mut impl Write, size: ImageSize) -> io::Result<()> {
+        self.room = [0; 65600];
+        self.size = size;
+        self.shared = bench::NO_SHARED;
+        self.clear_points();
+        writeln!(out, "image {}", size.n)
     }
-    if image.len() - from < size {
-        return print::error(out);
-    }
-    let to = from + size;
-    noise::fill(&mut image[from..to], seed);
-    print::words(out, b"noise\n")
-}
 
-fn set(out: &mut impl Write, image: &mut [u64], at: usize, value: u64) -> io::Result<()> {
-    if image.len() <= at {
-        return print::error(out);
+    // The words from a place on, so many, become the noise of a seed.
+    pub fn make_noise(
+        &mut self,
+        out: &mut impl Write,
+        from: u64,
+        size: u64,
+        seed: u64,
+    ) -> io::Result<()> {
+        let image = self.image_mut();
+        let from = from as usize;
+        let size = size as usize;
+        if image.len() < from || image.len() - from < size {
+            return print::error(out);
+        }
+        noise::fill(&mut image[from..from + size], seed);
+        writeln!(out, "noise")
     }
-    words::image::put_word(image, at, value);
-    print::words(out, b"set\n")
-}
 
-fn word(out: &mut impl Write, image: &[u64], at: usize) -> io::Result<()> {
-    if image.len() <= at {
-        return print::error(out);
+    pub fn set(&mut self, out: &mut impl Write, at: u64, word: u64) -> io::Result<()> {
+        let image = self.image_mut();
+        let at = at as usize;
+        if image.len() <= at {
+            return print::error(out);
+        }
+        words::image::put_word(image, at, word);
+        writeln!(out, "set")
     }
-    print::line(out, b"word ", words::image::word(image, at))
-}
 
-fn lay_out(out: &mut impl Write, image: &mut [u64]) -> io::Result<()> {
-    let reply = block_log::layout::lay_out(image);
-    print::reply(out, reply, b"laid out\n")
-}
+    pub fn word(&self, out: &mut impl Write, at: u64) -> io::Result<()> {
+        match self.image().get(at as usize) {
+            Some(word) => writeln!(out, "word {word}"),
+            None => print::error(out),
+        }
+    }
 
-// Does a command on the image and writes its line.
-pub fn obey(out: &mut impl Write, image: &mut [u64], o: Order) -> io::Result<()> {
-    let command = o.command;
-    if command == order::NOISE {
-        return make_noise(out, image, o.a as usize, o.b as usize, o.c);
+    pub fn lay_out(&mut self, out: &mut impl Write) -> io::Result<()> {
+        let laid_out = print::outcome(block_log::layout::lay_out(self.image_mut()));
+        print::reply(out, laid_out, "laid out")
     }
-    if command == order::SET {
-        return set(out, image, o.a as usize, o.b);
+
+    pub fn print_digest(&self, out: &mut impl Write) -> io::Result<()> {
+        writeln!(out, "digest {}", digest::of(self.image()))
     }
-    if command == order::WORD {
-        return word(out, image, o.a as usize);
-    }
-    if command == order::LAYOUT {
-        return lay_out(out, image);
-    }
-    print::line(out, b"digest ", digest::of_words(image))
 }

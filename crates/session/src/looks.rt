@@ -1,200 +1,139 @@
 // Looks: what a point reads, and the records.
-ghost use Rattle.std.specs.Prelude.{◌≤◌, ◌<◌};
-
-use crate::order::Order;
-use crate::records::Places;
-use crate::{digest, order, print, records};
-use block_log::{Reply, Shared};
-use points::{Count, Point};
+use crate::bench::{Bench, PlaceNumber};
+use crate::number::UpTo;
+use crate::{digest, print};
 use std::io;
 use std::io::Write;
 
-// The first n bytes of a buffer, two digits each; a blank before them if there is one.
-fn print_bytes(out: &mut impl Write, buffer: &[u8], n: usize) -> io::Result<()> {
-    if n == 0 {
+// A blank and two digits for each byte; nothing for none.
+fn print_bytes(out: &mut impl Write, bytes: &[u8]) -> io::Result<()> {
+    if bytes.is_empty() {
         return Ok(());
     }
-    print::words(out, b" ")?;
-    let mut i: usize = 0;
-    while i < n {
-        if buffer.len() <= i {
-            return Ok(());
-        }
-        print::hex(out, buffer[i])?;
-        i += 1;
+    write!(out, " ")?;
+    for byte in bytes {
+        write!(out, "{byte:02x}")?;
     }
     Ok(())
 }
 
-fn print_read(out: &mut impl Write, count: Count, buffer: &[u8]) -> io::Result<()> {
-    let reply = count.reply;
-    match reply {
-        Reply::Done => print::labelled(out, b"read ", count.count as u64)?,
-        Reply::Refused(reason) => print::labelled(out, b"refused ", reason as u64)?,
-    }
-    print::line(out, b" digest ", digest::of_bytes(buffer))
-}
-
-fn print_shown(out: &mut impl Write, count: Count, buffer: &[u8]) -> io::Result<()> {
-    let reply = count.reply;
-    match reply {
-        Reply::Done => {
-            print::words(out, b"show")?;
-            print_bytes(out, buffer, count.count as usize)?;
-            print::words(out, b"\n")
+impl Bench {
+    // Reads into a buffer of so many bytes, each 170 before.
+    pub fn read(
+        &self,
+        out: &mut impl Write,
+        p: PlaceNumber,
+        offset: u32,
+        size: UpTo<4096>,
+    ) -> io::Result<()> {
+        let mut room = [170u8; 4096];
+        let buffer = &mut room[..size.n];
+        let offset = offset as usize;
+        let count = points::read::read(self.image(), self.shared, self.point(p), offset, buffer);
+        match print::counted(count) {
+            Ok(n) => write!(out, "read {n}")?,
+            Err(refused) => write!(out, "{refused}")?,
         }
-        Reply::Refused(reason) => print::refused(out, reason),
+        writeln!(out, " digest {}", digest::of(buffer))
     }
-}
 
-// Reads into a buffer of so many bytes, each 170 before.
-fn read(
-    out: &mut impl Write,
-    image: &[u64],
-    shared: Shared,
-    point: Point,
-    offset: usize,
-    size: usize,
-    shown: bool,
-) -> io::Result<()>
-    requires { size ≤ 4096 }
-{
-    let mut bytes = [170u8; 4096];
-    let buffer = &mut bytes[0..size];
-    let count = points::read::read(image, shared, point, offset, buffer);
-    if shown {
-        return print_shown(out, count, buffer);
-    }
-    print_read(out, count, buffer)
-}
-
-fn locate(
-    out: &mut impl Write,
-    image: &[u64],
-    shared: Shared,
-    point: Point,
-    v: usize,
-) -> io::Result<()> {
-    let count = points::locate::locate(image, shared, point, v);
-    let reply = count.reply;
-    match reply {
-        Reply::Done => print::line(out, b"located ", count.count as u64),
-        Reply::Refused(reason) => print::refused(out, reason),
-    }
-}
-
-// The part's first word stands at 64 times the block that locating answers.
-fn view(
-    out: &mut impl Write,
-    image: &[u64],
-    shared: Shared,
-    point: Point,
-    v: usize,
-) -> io::Result<()> {
-    let part = points::locate::view(image, shared, point, v);
-    if part.len() == 0 {
-        return print::words(out, b"view empty\n");
-    }
-    let count = points::locate::locate(image, shared, point, v);
-    print::labelled(out, b"view ", 64 * count.count as u64)?;
-    print::line(out, b" digest ", digest::of_words(part))
-}
-
-fn number_of(x: u32) -> u64 {
-    x as u64
-}
-
-fn print_numbers(out: &mut impl Write, places: &Places, p: usize) -> io::Result<()>
-    requires { p < 32 }
-{
-    for i in 0..11 {
-        print::labelled(out, b" ", number_of(records::number(places, p, i)))?;
-    }
-    Ok(())
-}
-
-// The numbers of place p's record, and the digests of its table and its text.
-fn record(out: &mut impl Write, places: &Places, point: Point, p: usize) -> io::Result<()>
-    requires { p < 32 }
-{
-    print::words(out, b"record")?;
-    print_numbers(out, places, p)?;
-    print::labelled(out, b" ", digest::of_numbers(&point.table))?;
-    print::line(out, b" ", digest::of_bytes(&point.text))
-}
-
-fn print_shared(out: &mut impl Write, shared: Shared) -> io::Result<()> {
-    print::labelled(out, b"shared ", shared.blocks as u64)?;
-    print::labelled(out, b" ", shared.joined as u64)?;
-    print::labelled(out, b" ", digest::of_words(&shared.taken))?;
-    print::labelled(out, b" ", shared.chain as u64)?;
-    print::line(out, b" ", digest::of_blocks(&shared.reports))
-}
-
-fn at_most(n: usize, most: usize) -> usize
-    ensures { result ≤ most }
-{
-    if n < most { n } else { most }
-}
-
-// The free blocks below the block count, or below 1,024.
-fn free(out: &mut impl Write, shared: Shared) -> io::Result<()> {
-    let blocks = at_most(shared.blocks as usize, 1024);
-    let free = words::map::free_count(&shared.taken, blocks);
-    print::line(out, b"free ", free as u64)
-}
-
-// A look by a place's record.
-fn look(
-    out: &mut impl Write,
-    image: &[u64],
-    shared: Shared,
-    point: Point,
-    o: Order,
-) -> io::Result<()> {
-    if 4294967295 < o.b {
-        return print::error(out);
-    }
-    let at = o.b as usize;
-    if o.command == order::READ {
-        if 4096 < o.c {
-            return print::error(out);
+    // Reads likewise, and writes the bytes read.
+    pub fn show(
+        &self,
+        out: &mut impl Write,
+        p: PlaceNumber,
+        offset: u32,
+        size: UpTo<64>,
+    ) -> io::Result<()> {
+        let mut room = [170u8; 64];
+        let buffer = &mut room[..size.n];
+        let offset = offset as usize;
+        let count = points::read::read(self.image(), self.shared, self.point(p), offset, buffer);
+        match print::counted(count) {
+            Ok(n) => {
+                write!(out, "show")?;
+                print_bytes(out, &buffer[..buffer.len().min(n as usize)])?;
+                writeln!(out)
+            }
+            Err(refused) => writeln!(out, "{refused}"),
         }
-        return read(out, image, shared, point, at, o.c as usize, false);
     }
-    if o.command == order::SHOW {
-        if 64 < o.c {
-            return print::error(out);
-        }
-        return read(out, image, shared, point, at, o.c as usize, true);
-    }
-    if o.command == order::LOCATE {
-        return locate(out, image, shared, point, at);
-    }
-    view(out, image, shared, point, at)
-}
 
-// Looks, and writes the line.
-pub fn obey(
-    out: &mut impl Write,
-    image: &[u64],
-    shared: Shared,
-    places: &Places,
-    o: Order,
-) -> io::Result<()> {
-    if o.command == order::SHARED {
-        return print_shared(out, shared);
+    pub fn locate(&self, out: &mut impl Write, p: PlaceNumber, block: u32) -> io::Result<()> {
+        let count = points::locate::locate(
+            self.image(),
+            self.shared,
+            self.point(p),
+            block as usize,
+        );
+        match print::counted(count) {
+            Ok(located) => writeln!(out, "located {located}"),
+            Err(refused) => writeln!(out, "{refused}"),
+        }
     }
-    if o.command == order::FREE {
-        return free(out, shared);
+
+    // The part's first word stands at 64 times the block that locating answers.
+    pub fn view(&self, out: &mut impl Write, p: PlaceNumber, block: u32) -> io::Result<()> {
+        let part = points::locate::view(self.image(), self.shared, self.point(p), block as usize);
+        if part.is_empty() {
+            return writeln!(out, "view empty");
+        }
+        let count = points::locate::locate(
+            self.image(),
+            self.shared,
+            self.point(p),
+            block as usize,
+        );
+        let at = 64 * u64::from(count.count);
+        writeln!(out, "view {at} digest {}", digest::of(part))
     }
-    if 31 < o.a {
-        return print::error(out);
+
+    // The numbers of place p's record, and the digests of its table and its text.
+    pub fn print_record(&self, out: &mut impl Write, p: PlaceNumber) -> io::Result<()> {
+        let point = self.point(p);
+        let head = point.head;
+        let write = head.write;
+        write!(
+            out,
+            "record {} {} {} {}",
+            head.number, head.length, head.place.block, head.place.slot
+        )?;
+        let phase = points::record::phase_number(write.phase);
+        write!(
+            out,
+            " {phase} {} {} {}",
+            write.offset, write.size, write.run
+        )?;
+        write!(
+            out,
+            " {} {} {}",
+            write.position, write.zeroing, write.retries
+        )?;
+        writeln!(
+            out,
+            " {} {}",
+            digest::of(&point.table),
+            digest::of(&point.text)
+        )
     }
-    let p = o.a as usize;
-    let point = records::load(places, p);
-    if o.command == order::RECORD {
-        return record(out, places, point, p);
+
+    pub fn print_shared(&self, out: &mut impl Write) -> io::Result<()> {
+        let shared = self.shared;
+        writeln!(
+            out,
+            "shared {} {} {} {} {}",
+            shared.blocks,
+            shared.joined,
+            digest::of(&shared.taken),
+            shared.chain,
+            digest::of(&shared.reports)
+        )
     }
-    look(out, image, shared, point, o)
+
+    // The free blocks below the block count, or below 1,024.
+    pub fn print_free(&self, out: &mut impl Write) -> io::Result<()> {
+        let blocks = self.shared.blocks.min(1024) as usize;
+        let free = words::map::free_count(&self.shared.taken, blocks);
+        writeln!(out, "free {free}")
+    }
 }

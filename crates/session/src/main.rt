@@ -1,147 +1,76 @@
 // A bench for the store: does the commands of a script from standard input, and writes what each leaves.
 #![tactic(auto)]
 
-ghost use Rattle.std.specs.Prelude.{IfOk, ◌≤◌, ◌<◌, length};
-
 mod alter;
+mod bench;
 mod calls;
 mod digest;
 mod image;
 mod looks;
 mod noise;
+mod number;
 mod order;
 mod print;
-mod records;
 mod scan;
 mod serve;
 mod steps;
 
-use block_log::Shared;
+use bench::Bench;
 use order::Order;
-use records::Places;
 use std::io;
 use std::io::{BufWriter, Read, Write};
 
-// What lasts from line to line beside the image's words and the record places: how many words the image has, and the shared record.
-#[derive(Clone, Copy)]
-struct Bench {
-    words: usize,
-    shared: Shared,
-}
+impl Bench {
+    // Does a command and writes its lines.
+    fn obey(&mut self, out: &mut impl Write, order: Order) -> io::Result<()> {
+        match order {
+            Order::Image(size) => self.renew(out, size),
+            Order::Noise { from, size, seed } => self.make_noise(out, from, size, seed),
+            Order::Set { at, word } => self.set(out, at, word),
+            Order::Word { at } => self.word(out, at),
+            Order::Layout => self.lay_out(out),
+            Order::Digest => self.print_digest(out),
+            Order::Open { scratch } => self.open(out, scratch),
+            Order::Cut => self.cut(out),
+            Order::Join { number } => self.join(out, number),
+            Order::Begin { p, write } => self.begin(out, p, write),
+            Order::BeginRead { p, offset, size } => self.begin_read(out, p, offset, size),
+            Order::Step { p, most } => self.step(out, p, most),
+            Order::Leave { p } => self.leave(out, p),
+            Order::Serve(words) => self.serve(out, words),
+            Order::Read { p, offset, size } => self.read(out, p, offset, size),
+            Order::Show { p, offset, size } => self.show(out, p, offset, size),
+            Order::Locate { p, block } => self.locate(out, p, block),
+            Order::View { p, block } => self.view(out, p, block),
+            Order::Record { p } => self.print_record(out, p),
+            Order::Shared => self.print_shared(out),
+            Order::Free => self.print_free(out),
+            Order::Alter { p, field } => self.alter(out, p, field),
+            Order::Table { p, i, entry } => self.alter_table(out, p, i, entry),
+            Order::Text { p, i, byte } => self.alter_text(out, p, i, byte),
+            Order::Copy { from, to } => self.copy(out, from, to),
+            Order::AlterShared(field) => self.alter_shared(out, field),
+            Order::Map { i, word } => self.alter_map(out, i, word),
+            Order::Report { p, block } => self.report(out, p, block),
+        }
+    }
 
-// Does a line's command but `image` and writes its lines; the shared record after it.
-fn obey(
-    out: &mut impl Write,
-    image: &mut [u64],
-    shared: Shared,
-    places: &mut Places,
-    line: &[u8],
-    o: Order,
-) -> io::Result<Shared> {
-    let command = o.command;
-    if command == order::SERVE {
-        return serve::obey(out, image, shared, places, line, o);
+    // Does what a line orders and writes its lines.
+    fn do_line(&mut self, out: &mut impl Write, line: &[u8]) -> io::Result<()> {
+        match order::order_of(line) {
+            Ok(Some(order)) => self.obey(out, order),
+            Ok(None) => Ok(()),
+            Err(_) => print::error(out),
+        }
     }
-    if command < order::OPEN {
-        image::obey(out, image, o)?;
-        return Ok(shared);
-    }
-    if command < order::READ {
-        return calls::obey(out, image, shared, places, o);
-    }
-    if command < order::ALTER {
-        looks::obey(out, image, shared, places, o)?;
-        return Ok(shared);
-    }
-    alter::obey(out, shared, places, o)
-}
 
-// The same on the first words of the room that images stand in.
-fn obey_in(
-    out: &mut impl Write,
-    room: &mut [u64],
-    words: usize,
-    shared: Shared,
-    places: &mut Places,
-    line: &[u8],
-    o: Order,
-) -> io::Result<Shared>
-    requires { words ≤ length room.old }
-{
-    obey(out, &mut room[0..words], shared, places, line, o)
-}
-
-// An image of so many zero words; all records become zero.
-fn renew(
-    out: &mut impl Write,
-    room: &mut [u64; 65600],
-    bench: Bench,
-    places: &mut Places,
-    words: u64,
-) -> io::Result<Bench>
-    requires { bench.words ≤ 65600 }
-    ensures { IfOk result (λ b. b.words ≤ 65600) }
-{
-    if 65600 < words {
-        print::error(out)?;
-        return Ok(bench);
+    // Does the lines of a script in turn.
+    fn run(&mut self, out: &mut impl Write, script: &[u8]) -> io::Result<()> {
+        for line in script.split(|b| *b == b'\n') {
+            self.do_line(out, line)?;
+        }
+        Ok(())
     }
-    *room = [0u64; 65600];
-    records::clear_all(places);
-    print::line(out, b"image ", words)?;
-    let shared = records::no_shared();
-    Ok(Bench {
-        words: words as usize,
-        shared: shared,
-    })
-}
-
-// Does what a line orders and writes its lines.
-fn do_line(
-    out: &mut impl Write,
-    line: &[u8],
-    room: &mut [u64; 65600],
-    bench: Bench,
-    places: &mut Places,
-) -> io::Result<Bench>
-    requires { bench.words ≤ 65600 }
-    ensures { IfOk result (λ b. b.words ≤ 65600) }
-{
-    let o = order::order_of(line);
-    if o.command == order::SILENT {
-        return Ok(bench);
-    }
-    if o.command == order::WRONG {
-        print::error(out)?;
-        return Ok(bench);
-    }
-    if o.command == order::IMAGE {
-        return renew(out, room, bench, places, o.a);
-    }
-    let words = bench.words;
-    let before = bench.shared;
-    let shared = obey_in(out, room, words, before, places, line, o)?;
-    Ok(Bench { words, shared })
-}
-
-// Does the lines of a script in turn.
-fn run(
-    out: &mut impl Write,
-    script: &[u8],
-    room: &mut [u64; 65600],
-    places: &mut Places,
-) -> io::Result<()> {
-    let mut bench = Bench {
-        words: 0,
-        shared: records::no_shared(),
-    };
-    let mut at: usize = 0;
-    while at < script.len() {
-        let end = scan::find(script, at, b'\n');
-        bench = do_line(out, &script[at..end], room, bench, places)?;
-        at = end + 1;
-    }
-    Ok(())
 }
 
 // Does the script that is read, of at most 262,144 bytes.
@@ -149,11 +78,10 @@ fn play(input: &mut impl Read, out: &mut impl Write) -> io::Result<()> {
     let mut script = [0u8; 262145];
     let n = streams::read_full(input, &mut script)?;
     if 262144 < n {
-        return out.write_all(b"error long\n");
+        return writeln!(out, "error long");
     }
-    let mut room = [0u64; 65600];
-    let mut places = [0u32; 41312];
-    run(out, &script[..n], &mut room, &mut places)
+    let mut bench = Bench::new();
+    bench.run(out, &script[..n])
 }
 
 // Writes in large pieces where there is memory for a buffer, and else each piece as it comes.

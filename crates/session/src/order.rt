@@ -1,330 +1,327 @@
-// What a line orders: a command and its numbers.
-use crate::scan;
-use crate::scan::Number;
-
-// Nothing to do, and nothing to write.
-pub const SILENT: u32 = 0;
+// What a line orders: a command and its numbers, each within its limits.
+use crate::bench::{ImageSize, PlaceNumber};
+use crate::number::UpTo;
+use crate::scan::Words;
+use points::Phase;
 
 // No command, or not with these words.
-pub const WRONG: u32 = 1;
+#[derive(Clone, Copy, Debug, PartialEq, Eq)]
+pub struct Malformed;
 
-// Commands on the image alone.
-pub const IMAGE: u32 = 10;
-
-pub const NOISE: u32 = 11;
-
-pub const SET: u32 = 12;
-
-pub const WORD: u32 = 13;
-
-pub const LAYOUT: u32 = 14;
-
-pub const DIGEST: u32 = 15;
-
-// Calls of the store.
-pub const OPEN: u32 = 20;
-
-pub const CUT: u32 = 21;
-
-pub const JOIN: u32 = 22;
-
-pub const JOINAS: u32 = 23;
-
-pub const BEGIN: u32 = 24;
-
-pub const BEGINREAD: u32 = 25;
-
-pub const STEP: u32 = 26;
-
-pub const LEAVE: u32 = 27;
-
-pub const SERVE: u32 = 28;
-
-// Looks.
-pub const READ: u32 = 30;
-
-pub const SHOW: u32 = 31;
-
-pub const LOCATE: u32 = 32;
-
-pub const VIEW: u32 = 33;
-
-pub const RECORD: u32 = 34;
-
-pub const SHARED: u32 = 35;
-
-pub const FREE: u32 = 36;
-
-// Alterations of records.
-pub const ALTER: u32 = 40;
-
-pub const TABLE: u32 = 41;
-
-pub const TEXT: u32 = 42;
-
-pub const COPY: u32 = 43;
-
-pub const ALTERSHARED: u32 = 44;
-
-pub const MAP: u32 = 45;
-
-pub const REPORT: u32 = 46;
-
-// A command, and how many words follow its name: of `serve`, the two that say how many more.
+// A write that is to begin: byte i of its text is (seed + 7 i) mod 256.
 #[derive(Clone, Copy)]
-struct Verb {
-    command: u32,
-    words: u32,
+pub struct Asked {
+    pub offset: u32,
+    pub size: UpTo<1100>,
+    pub seed: u8,
 }
 
-// A command and its numbers, in the line's order, 0 where it has fewer. The name of a field stands as the field's number.
+// A field of a point's record, and what it becomes.
 #[derive(Clone, Copy)]
-pub struct Order {
-    pub command: u32,
-    pub a: u64,
-    pub b: u64,
-    pub c: u64,
-    pub d: u64,
+pub enum PointField {
+    Number(u32),
+    Length(u32),
+    Block(u32),
+    Slot(u32),
+    Phase(Phase),
+    Offset(u32),
+    TextLength(u32),
+    Run(u32),
+    Position(u32),
+    Zeroing(u32),
+    Retries(u16),
 }
 
-fn taking(command: u32, words: u32) -> Verb {
-    Verb { command, words }
+// A field of the shared record, and what it becomes.
+#[derive(Clone, Copy)]
+pub enum SharedField {
+    Blocks(u32),
+    Joined(u32),
+    Chain(u32),
 }
 
-fn image_verb(name: &[u8]) -> Verb {
-    if scan::is(name, b"image") {
-        return taking(IMAGE, 1);
-    }
-    if scan::is(name, b"noise") {
-        return taking(NOISE, 3);
-    }
-    if scan::is(name, b"set") {
-        return taking(SET, 2);
-    }
-    if scan::is(name, b"word") {
-        return taking(WORD, 1);
-    }
-    if scan::is(name, b"layout") {
-        return taking(LAYOUT, 0);
-    }
-    if scan::is(name, b"digest") {
-        return taking(DIGEST, 0);
-    }
-    taking(WRONG, 0)
+#[derive(Clone, Copy)]
+pub enum Order<'a> {
+    // Commands on the image alone.
+    Image(ImageSize),
+    Noise {
+        from: u64,
+        size: u64,
+        seed: u64,
+    },
+    Set {
+        at: u64,
+        word: u64,
+    },
+    Word {
+        at: u64,
+    },
+    Layout,
+    Digest,
+
+    // Calls of the store.
+    Open {
+        scratch: UpTo<2048>,
+    },
+    Cut,
+    Join {
+        number: u32,
+    },
+    Begin {
+        p: PlaceNumber,
+        write: Asked,
+    },
+    BeginRead {
+        p: PlaceNumber,
+        offset: u32,
+        size: UpTo<1100>,
+    },
+    Step {
+        p: PlaceNumber,
+        most: UpTo<100000>,
+    },
+    Leave {
+        p: PlaceNumber,
+    },
+    Serve(Words<'a>),
+
+    // Looks.
+    Read {
+        p: PlaceNumber,
+        offset: u32,
+        size: UpTo<4096>,
+    },
+    Show {
+        p: PlaceNumber,
+        offset: u32,
+        size: UpTo<64>,
+    },
+    Locate {
+        p: PlaceNumber,
+        block: u32,
+    },
+    View {
+        p: PlaceNumber,
+        block: u32,
+    },
+    Record {
+        p: PlaceNumber,
+    },
+    Shared,
+    Free,
+
+    // Alterations of records.
+    Alter {
+        p: PlaceNumber,
+        field: PointField,
+    },
+    Table {
+        p: PlaceNumber,
+        i: u8,
+        entry: u16,
+    },
+    Text {
+        p: PlaceNumber,
+        i: UpTo<1023>,
+        byte: u8,
+    },
+    Copy {
+        from: PlaceNumber,
+        to: PlaceNumber,
+    },
+    AlterShared(SharedField),
+    Map {
+        i: UpTo<15>,
+        word: u64,
+    },
+    Report {
+        p: PlaceNumber,
+        block: u32,
+    },
 }
 
-fn call_verb(name: &[u8]) -> Verb {
-    if scan::is(name, b"open") {
-        return taking(OPEN, 1);
-    }
-    if scan::is(name, b"cut") {
-        return taking(CUT, 0);
-    }
-    if scan::is(name, b"join") {
-        return taking(JOIN, 1);
-    }
-    if scan::is(name, b"joinas") {
-        return taking(JOINAS, 1);
-    }
-    if scan::is(name, b"begin") {
-        return taking(BEGIN, 4);
-    }
-    if scan::is(name, b"beginread") {
-        return taking(BEGINREAD, 3);
-    }
-    if scan::is(name, b"step") {
-        return taking(STEP, 2);
-    }
-    if scan::is(name, b"leave") {
-        return taking(LEAVE, 1);
-    }
-    if scan::is(name, b"serve") {
-        return taking(SERVE, 2);
-    }
-    image_verb(name)
+// `O L S`
+pub fn write_asked(words: &mut Words) -> Option<Asked> {
+    Some(Asked {
+        offset: words.number32()?,
+        size: words.up_to()?,
+        seed: words.number8()?,
+    })
 }
 
-fn look_verb(name: &[u8]) -> Verb {
-    if scan::is(name, b"read") {
-        return taking(READ, 3);
-    }
-    if scan::is(name, b"show") {
-        return taking(SHOW, 3);
-    }
-    if scan::is(name, b"locate") {
-        return taking(LOCATE, 2);
-    }
-    if scan::is(name, b"view") {
-        return taking(VIEW, 2);
-    }
-    if scan::is(name, b"record") {
-        return taking(RECORD, 1);
-    }
-    if scan::is(name, b"shared") {
-        return taking(SHARED, 0);
-    }
-    if scan::is(name, b"free") {
-        return taking(FREE, 0);
-    }
-    call_verb(name)
+fn phase_asked(words: &mut Words) -> Option<Phase> {
+    let number: UpTo<6> = words.up_to()?;
+    Some(points::record::phase_of(number.n as u32))
 }
 
-// The command of a name, WRONG where no command has it.
-fn verb_of(name: &[u8]) -> Verb {
-    if scan::is(name, b"alter") {
-        return taking(ALTER, 3);
-    }
-    if scan::is(name, b"table") {
-        return taking(TABLE, 3);
-    }
-    if scan::is(name, b"text") {
-        return taking(TEXT, 3);
-    }
-    if scan::is(name, b"copy") {
-        return taking(COPY, 2);
-    }
-    if scan::is(name, b"altershared") {
-        return taking(ALTERSHARED, 2);
-    }
-    if scan::is(name, b"map") {
-        return taking(MAP, 2);
-    }
-    if scan::is(name, b"report") {
-        return taking(REPORT, 2);
-    }
-    look_verb(name)
+// `P`, a number to be joined with.
+fn place_to_join(words: &mut Words) -> Option<u32> {
+    let p: PlaceNumber = words.up_to()?;
+    Some(p.n as u32)
 }
 
-// The number of a field of a record's write: its place in the numbers of a record place.
-fn write_field(name: &[u8]) -> Number {
-    if scan::is(name, b"phase") {
-        return Number::Value(4);
-    }
-    if scan::is(name, b"offset") {
-        return Number::Value(5);
-    }
-    if scan::is(name, b"textlength") {
-        return Number::Value(6);
-    }
-    if scan::is(name, b"run") {
-        return Number::Value(7);
-    }
-    if scan::is(name, b"position") {
-        return Number::Value(8);
-    }
-    if scan::is(name, b"zeroing") {
-        return Number::Value(9);
-    }
-    if scan::is(name, b"retries") {
-        return Number::Value(10);
-    }
-    Number::Malformed
+// Steps: one at least.
+fn steps(words: &mut Words) -> Option<UpTo<100000>> {
+    let most: UpTo<100000> = words.up_to()?;
+    if most.n == 0 { None } else { Some(most) }
 }
 
-// The number of a field of a point's record.
-fn point_field(name: &[u8]) -> Number {
-    if scan::is(name, b"number") {
-        return Number::Value(0);
-    }
-    if scan::is(name, b"length") {
-        return Number::Value(1);
-    }
-    if scan::is(name, b"block") {
-        return Number::Value(2);
-    }
-    if scan::is(name, b"slot") {
-        return Number::Value(3);
-    }
-    write_field(name)
+fn point_field(words: &mut Words) -> Option<PointField> {
+    Some(match words.next_word() {
+        b"number" => PointField::Number(words.number32()?),
+        b"length" => PointField::Length(words.number32()?),
+        b"block" => PointField::Block(words.number32()?),
+        b"slot" => PointField::Slot(words.number32()?),
+        b"phase" => PointField::Phase(phase_asked(words)?),
+        b"offset" => PointField::Offset(words.number32()?),
+        b"textlength" => PointField::TextLength(words.number32()?),
+        b"run" => PointField::Run(words.number32()?),
+        b"position" => PointField::Position(words.number32()?),
+        b"zeroing" => PointField::Zeroing(words.number32()?),
+        b"retries" => PointField::Retries(words.number16()?),
+        _ => return None,
+    })
 }
 
-// The number of a field of the shared record.
-fn shared_field(name: &[u8]) -> Number {
-    if scan::is(name, b"blocks") {
-        return Number::Value(0);
-    }
-    if scan::is(name, b"joined") {
-        return Number::Value(1);
-    }
-    if scan::is(name, b"chain") {
-        return Number::Value(2);
-    }
-    Number::Malformed
+fn shared_field(words: &mut Words) -> Option<SharedField> {
+    Some(match words.next_word() {
+        b"blocks" => SharedField::Blocks(words.number32()?),
+        b"joined" => SharedField::Joined(words.number32()?),
+        b"chain" => SharedField::Chain(words.number32()?),
+        _ => return None,
+    })
 }
 
-// The value of word k of a line: a field's number where the command has a name there, 0 past its words.
-fn value(line: &[u8], verb: Verb, k: usize) -> Number {
-    if (verb.words as usize) < k {
-        return Number::Value(0);
-    }
-    let word = scan::word(line, k);
-    if verb.command == ALTER {
-        if k == 2 {
-            return point_field(word);
-        }
-    }
-    if verb.command == ALTERSHARED {
-        if k == 1 {
-            return shared_field(word);
-        }
-    }
-    scan::number_of(word)
+// A command on the image, by its name and the words after it.
+fn image_order<'a>(name: &[u8], words: &mut Words<'a>) -> Option<Order<'a>> {
+    Some(match name {
+        b"image" => Order::Image(words.up_to()?),
+        b"noise" => Order::Noise {
+            from: words.number()?,
+            size: words.number()?,
+            seed: words.number()?,
+        },
+        b"set" => Order::Set {
+            at: words.number()?,
+            word: words.number()?,
+        },
+        b"word" => Order::Word {
+            at: words.number()?,
+        },
+        b"layout" => Order::Layout,
+        b"digest" => Order::Digest,
+        _ => return None,
+    })
 }
 
-fn plain(command: u32) -> Order {
-    Order {
-        command: command,
-        a: 0,
-        b: 0,
-        c: 0,
-        d: 0,
-    }
+// A call, or a command on the image.
+fn call_order<'a>(name: &[u8], words: &mut Words<'a>) -> Option<Order<'a>> {
+    Some(match name {
+        b"open" => Order::Open {
+            scratch: words.up_to()?,
+        },
+        b"cut" => Order::Cut,
+        b"join" => Order::Join {
+            number: place_to_join(words)?,
+        },
+        b"joinas" => Order::Join {
+            number: words.number32()?,
+        },
+        b"begin" => Order::Begin {
+            p: words.up_to()?,
+            write: write_asked(words)?,
+        },
+        b"beginread" => Order::BeginRead {
+            p: words.up_to()?,
+            offset: words.number32()?,
+            size: words.up_to()?,
+        },
+        b"step" => Order::Step {
+            p: words.up_to()?,
+            most: steps(words)?,
+        },
+        b"leave" => Order::Leave { p: words.up_to()? },
+        b"serve" => Order::Serve(words.take()),
+        _ => return image_order(name, words),
+    })
 }
 
-// Whether a line has a word more than its command takes. (Those of `serve` are counted where they are read.)
-fn has_more(line: &[u8], verb: Verb) -> bool {
-    if verb.command == SERVE {
-        return false;
-    }
-    let extra = scan::word(line, verb.words as usize + 1);
-    extra.len() != 0
+// A look, a call, or a command on the image.
+fn look_order<'a>(name: &[u8], words: &mut Words<'a>) -> Option<Order<'a>> {
+    Some(match name {
+        b"read" => Order::Read {
+            p: words.up_to()?,
+            offset: words.number32()?,
+            size: words.up_to()?,
+        },
+        b"show" => Order::Show {
+            p: words.up_to()?,
+            offset: words.number32()?,
+            size: words.up_to()?,
+        },
+        b"locate" => Order::Locate {
+            p: words.up_to()?,
+            block: words.number32()?,
+        },
+        b"view" => Order::View {
+            p: words.up_to()?,
+            block: words.number32()?,
+        },
+        b"record" => Order::Record { p: words.up_to()? },
+        b"shared" => Order::Shared,
+        b"free" => Order::Free,
+        _ => return call_order(name, words),
+    })
 }
 
-// Whether a line writes nothing: it is empty, or its first word begins with '#'.
-fn is_silent(name: &[u8]) -> bool {
-    if name.len() == 0 {
-        return true;
-    }
-    name[0] == b'#'
+// Any command.
+fn any_order<'a>(name: &[u8], words: &mut Words<'a>) -> Option<Order<'a>> {
+    Some(match name {
+        b"alter" => Order::Alter {
+            p: words.up_to()?,
+            field: point_field(words)?,
+        },
+        b"table" => Order::Table {
+            p: words.up_to()?,
+            i: words.number8()?,
+            entry: words.number16()?,
+        },
+        b"text" => Order::Text {
+            p: words.up_to()?,
+            i: words.up_to()?,
+            byte: words.number8()?,
+        },
+        b"copy" => Order::Copy {
+            from: words.up_to()?,
+            to: words.up_to()?,
+        },
+        b"altershared" => Order::AlterShared(shared_field(words)?),
+        b"map" => Order::Map {
+            i: words.up_to()?,
+            word: words.number()?,
+        },
+        b"report" => Order::Report {
+            p: words.up_to()?,
+            block: words.number32()?,
+        },
+        _ => return look_order(name, words),
+    })
 }
 
-// What a line orders.
-pub fn order_of(line: &[u8]) -> Order {
-    let name = scan::word(line, 0);
-    if is_silent(name) {
-        return plain(SILENT);
+// A command with no word more than it takes.
+fn whole_order<'a>(name: &[u8], words: &mut Words<'a>) -> Option<Order<'a>> {
+    let order = any_order(name, words)?;
+    words.end()?;
+    Some(order)
+}
+
+// What a line orders: nothing where it is empty, or its first word begins with '#'.
+pub fn order_of<'a>(line: &'a [u8]) -> Result<Option<Order<'a>>, Malformed> {
+    let mut words = Words::of(line);
+    let name = words.next_word();
+    if name.is_empty() || name[0] == b'#' {
+        return Ok(None);
     }
-    let v = verb_of(name);
-    if has_more(line, v) {
-        return plain(WRONG);
-    }
-    let Number::Value(a) = value(line, v, 1) else {
-        return plain(WRONG);
-    };
-    let Number::Value(b) = value(line, v, 2) else {
-        return plain(WRONG);
-    };
-    let Number::Value(c) = value(line, v, 3) else {
-        return plain(WRONG);
-    };
-    let Number::Value(d) = value(line, v, 4) else {
-        return plain(WRONG);
-    };
-    Order {
-        command: v.command,
-        a: a,
-        b: b,
-        c: c,
-        d: d,
-    }
+    let order = whole_order(name, &mut words).ok_or(Malformed)?;
+    Ok(Some(order))
 }

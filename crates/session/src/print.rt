@@ -1,45 +1,41 @@
-// Writes words and numbers.
+// Writes what a call answered.
 use block_log::Reply;
-use std::io;
+use points::Count;
 use std::io::Write;
+use std::{fmt, io};
 
-pub fn words(out: &mut impl Write, text: &[u8]) -> io::Result<()> {
-    out.write_all(text)
+// The store turned a call down, for this reason.
+#[derive(Clone, Copy, Debug, PartialEq, Eq)]
+pub struct Refused(pub u32);
+
+impl fmt::Display for Refused {
+    fn fmt<W: fmt::Write>(&self, f: &mut fmt::Formatter<W>) -> fmt::Result {
+        write!(f, "refused {}", self.0)
+    }
 }
 
-// A text, and a number after it.
-pub fn labelled(out: &mut impl Write, text: &[u8], n: u64) -> io::Result<()> {
-    out.write_all(text)?;
-    write!(out, "{n}")
+// What a call answered.
+pub fn outcome(reply: Reply) -> Result<(), Refused> {
+    match reply {
+        Reply::Done => Ok(()),
+        Reply::Refused(reason) => Err(Refused(reason)),
+    }
 }
 
-// A line of a text and a number.
-pub fn line(out: &mut impl Write, text: &[u8], n: u64) -> io::Result<()> {
-    labelled(out, text, n)?;
-    out.write_all(b"\n")
-}
-
-pub fn error(out: &mut impl Write) -> io::Result<()> {
-    out.write_all(b"error\n")
-}
-
-pub fn altered(out: &mut impl Write) -> io::Result<()> {
-    out.write_all(b"altered\n")
-}
-
-// A byte's two digits.
-pub fn hex(out: &mut impl Write, byte: u8) -> io::Result<()> {
-    write!(out, "{byte:02x}")
-}
-
-pub fn refused(out: &mut impl Write, reason: u32) -> io::Result<()> {
-    line(out, b"refused ", reason as u64)
+// What a call that counts answered.
+pub fn counted(count: Count) -> Result<u32, Refused> {
+    outcome(count.reply)?;
+    Ok(count.count)
 }
 
 // The line of a call that is done, or why it was turned down.
-pub fn reply(out: &mut impl Write, reply: Reply, done: &[u8]) -> io::Result<()> {
-    match reply {
-        Reply::Done => words(out, done),
-        Reply::Refused(reason) => refused(out, reason),
+pub fn reply(out: &mut impl Write, outcome: Result<(), Refused>, done: &str) -> io::Result<()> {
+    match outcome {
+        Ok(()) => writeln!(out, "{done}"),
+        Err(refused) => writeln!(out, "{refused}"),
     }
+}
+
+pub fn error(out: &mut impl Write) -> io::Result<()> {
+    writeln!(out, "error")
 }

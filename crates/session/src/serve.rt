@@ -1,334 +1,234 @@
 // `serve N M P1 .. PN O1 L1 S1 .. OM LM SM`: the one call that serves a list of points.
 ghost use Rattle.std.specs.Prelude.{◌≡◌, ◌+◌, ◌*◌, ◌≤◌, ◌<◌, length};
 
-use crate::order::Order;
-use crate::records::Places;
-use crate::scan::Number;
-use crate::{calls, print, records, scan, steps};
-use block_log::Shared;
+use crate::bench::{Bench, PlaceNumber};
+use crate::number::UpTo;
+use crate::order::Asked;
+use crate::print::Refused;
+use crate::scan::Words;
+use crate::steps::Told;
+use crate::{calls, order, print};
+use block_log::{Place, Shared};
+use points::{Head, Write as PointWrite};
 use std::io;
 use std::io::Write;
 
-// What the call answers, and the shared record after it.
-#[derive(Clone, Copy)]
-struct Served {
-    refused: u32,
-    shared: Shared,
+// A head's numbers, in the order in which they are lent.
+fn lent_head(head: Head) -> [u32; 11] {
+    let write = head.write;
+    [
+        head.number,
+        head.length,
+        head.place.block,
+        head.place.slot,
+        write.offset,
+        write.size,
+        write.run,
+        points::record::phase_number(write.phase),
+        write.position,
+        write.zeroing,
+        u32::from(write.retries),
+    ]
 }
 
-// The numbers of a line from its third on; false where a word is malformed or missing.
-fn read_numbers(line: &[u8], numbers: &mut [u64]) -> bool
-    requires { length numbers.old ≤ 160 }
-{
-    for i in 0..numbers.len() {
-        let Number::Value(n) = scan::number_of(scan::word(line, 3 + i)) else {
-            return false;
-        };
-        numbers[i] = n;
+// The head of such numbers.
+fn head_of(lent: [u32; 11]) -> Head {
+    let [
+        number,
+        length,
+        block,
+        slot,
+        offset,
+        size,
+        run,
+        phase,
+        position,
+        zeroing,
+        retries,
+    ] = lent;
+    Head {
+        number,
+        length,
+        place: Place { block, slot },
+        write: PointWrite {
+            offset,
+            size,
+            run,
+            phase: points::record::phase_of(phase),
+            position,
+            zeroing,
+            retries: (retries & 0xffff) as u16,
+        },
     }
-    true
 }
 
-// Whether all are places.
-fn are_places(list: &[u64]) -> bool {
-    for i in 0..list.len() {
-        if 31 < list[i] {
-            return false;
-        }
+// The shared record's numbers as they are lent, beside its map.
+fn lent_shared(shared: Shared) -> [u32; 35] {
+    let mut numbers = [0u32; 35];
+    numbers[0] = shared.blocks;
+    numbers[1] = shared.joined;
+    numbers[2] = shared.chain;
+    numbers[3..].copy_from_slice(&shared.reports);
+    numbers
+}
+
+// The shared record of such numbers and its map.
+fn shared_of(numbers: [u32; 35], taken: [u64; 16]) -> Shared {
+    let mut reports = [0u32; 32];
+    reports.copy_from_slice(&numbers[3..]);
+    Shared {
+        blocks: numbers[0],
+        taken,
+        joined: numbers[1],
+        chain: numbers[2],
+        reports,
     }
-    true
 }
 
-// Whether these are offset, size and seed of a write.
-fn is_write(offset: u64, size: u64, seed: u64) -> bool {
-    if 4294967295 < offset {
-        return false;
+// The places and the writes of a line; nothing where a word is malformed, missing or too many.
+fn read_lists(words: &mut Words, list: &mut [PlaceNumber], asked: &mut [Asked]) -> Option<()> {
+    for p in list {
+        *p = words.up_to()?;
     }
-    if 1100 < size {
-        return false;
+    for write in asked {
+        *write = order::write_asked(words)?;
     }
-    seed < 256
+    words.end()
 }
 
-// Whether all are offset, size and seed of writes.
-fn are_writes(numbers: &[u64]) -> bool
-    requires { length numbers.now ≤ 120 }
-{
-    let mut at: usize = 0;
-    while at + 2 < numbers.len() {
-        if !is_write(numbers[at], numbers[at + 1], numbers[at + 2]) {
-            return false;
-        }
-        at += 3;
-    }
-    true
-}
-
-// A number that was found to be a place; a size; a seed.
-fn place_of(n: u64) -> usize
-    ensures { result < 32 }
-{
-    (n % 32) as usize
-}
-
-fn size_of(n: u64) -> usize
-    ensures { result ≤ 1100 }
-{
-    (n % 1101) as usize
-}
-
-fn seed_of(n: u64) -> u64
-    ensures { result < 256 }
-{
-    n % 256
-}
-
-// The writes of a line, and their texts one after the other; how many bytes these have.
-fn make_writes(numbers: &[u64], writes: &mut [[usize; 2]], bytes: &mut [u8]) -> usize
-    requires { (length writes.old ≤ 40) × (3 * length writes.old ≤ length numbers.now) × (length bytes.old ≡ 44000) }
+// The texts of the writes, one after the other; how many bytes these have.
+fn fill_texts(asked: &[Asked], bytes: &mut [u8; 44000]) -> usize
+    requires { length asked.now ≤ 40 }
     ensures { result ≤ 44000 }
 {
-    let mut start: usize = 0;
-    for i in 0..writes.len() {
-        let size = size_of(numbers[3 * i + 1]);
-        let end = start + size;
-        calls::fill_text(&mut bytes[start..end], seed_of(numbers[3 * i + 2]));
-        writes[i] = [numbers[3 * i] as usize, size];
+    let mut start = 0;
+    for write in asked {
+        let end = start + write.size.n;
+        calls::fill_text(&mut bytes[start..end], write.seed);
         start = end;
     }
     start
 }
 
-// The records of these places, in this order.
-fn load(
-    places: &Places,
-    list: &[u64],
-    heads: &mut [[u32; 11]],
-    tables: &mut [[u16; 256]],
-    texts: &mut [[u8; 1024]],
-)
-    requires { (length heads.old ≡ length list.now) × (length tables.old ≡ length list.now) × (length texts.old ≡ length list.now) }
-{
-    for i in 0..list.len() {
-        let p = place_of(list[i]);
-        heads[i] = records::lent_head(places, p);
-        tables[i] = records::load_table(places, p);
-        texts[i] = records::load_text(places, p);
-    }
-}
-
-// Each of these places gets its record of the list.
-fn save(
-    places: &mut Places,
-    list: &[u64],
-    heads: &[[u32; 11]],
-    tables: &[[u16; 256]],
-    texts: &[[u8; 1024]],
-)
-    requires { (length heads.now ≡ length list.now) × (length tables.now ≡ length list.now) × (length texts.now ≡ length list.now) }
-{
-    for i in 0..list.len() {
-        let p = place_of(list[i]);
-        records::save_lent_head(places, p, &heads[i]);
-        records::save_table(places, p, &tables[i]);
-        records::save_text(places, p, &texts[i]);
-    }
-}
-
 // A line for each point: what its last beginning or step answered.
-fn print_answers(out: &mut impl Write, list: &[u64], answers: &[[u32; 2]]) -> io::Result<()>
-    requires { length answers.now ≡ length list.now }
-{
-    for i in 0..list.len() {
-        print::labelled(out, b"served ", list[i])?;
-        print::words(out, b" ")?;
-        steps::print_told(out, steps::without_bytes(answers[i][0], answers[i][1]))?;
-        print::words(out, b"\n")?;
+fn print_answers(
+    out: &mut impl Write,
+    list: &[PlaceNumber],
+    answers: &[[u32; 2]],
+) -> io::Result<()> {
+    for (p, answer) in list.iter().zip(answers) {
+        writeln!(out, "served {} {}", p.n, Told::lent(*answer))?;
     }
     Ok(())
 }
 
-// The call, with the shared record in numbers.
-fn call(
-    image: &mut [u64],
-    shared: Shared,
-    heads: &mut [[u32; 11]],
-    tables: &mut [[u16; 256]],
-    texts: &mut [[u8; 1024]],
-    answers: &mut [[u32; 2]],
-    writes: &[[usize; 2]],
-    bytes: &[u8],
-) -> Served {
-    let mut taken = shared.taken;
-    let mut numbers = records::lent_shared(shared);
-    let refused = c_lent::serve::serve(
-        image,
-        &mut numbers,
-        &mut taken,
-        heads,
-        tables,
-        texts,
-        answers,
-        writes,
-        bytes,
-    );
-    Served {
-        refused: refused,
-        shared: records::shared_of(numbers, taken),
+// The offset and the size of each write.
+fn lend_writes(asked: &[Asked], writes: &mut [[usize; 2]]) {
+    for (write, asked) in writes.iter_mut().zip(asked) {
+        *write = [asked.offset as usize, asked.size.n];
     }
 }
 
-// Serves the points of these places with these writes and writes the lines. The records are taken into the lists that are lent, and put back.
-fn serve_in(
-    out: &mut impl Write,
-    image: &mut [u64],
-    shared: Shared,
-    places: &mut Places,
-    list: &[u64],
-    heads: &mut [[u32; 11]],
-    tables: &mut [[u16; 256]],
-    texts: &mut [[u8; 1024]],
-    answers: &mut [[u32; 2]],
-    writes: &[[usize; 2]],
-    bytes: &[u8],
-) -> io::Result<Shared>
-    requires { (length heads.old ≡ length list.now) × (length tables.old ≡ length list.now) × (length texts.old ≡ length list.now)
-        × (length answers.old ≡ length list.now) }
-{
-    load(places, list, heads, tables, texts);
-    let served = call(image, shared, heads, tables, texts, answers, writes, bytes);
-    save(places, list, heads, tables, texts);
-    if served.refused != 0 {
-        print::refused(out, served.refused)?;
-    } else {
-        print_answers(out, list, answers)?;
+impl Bench {
+    // The records of these places, in this order.
+    fn lend(
+        &self,
+        list: &[PlaceNumber],
+        heads: &mut [[u32; 11]],
+        tables: &mut [[u16; 256]],
+        texts: &mut [[u8; 1024]],
+    ) {
+        for (head, p) in heads.iter_mut().zip(list) {
+            *head = lent_head(self.points[p.n].head);
+        }
+        for (table, p) in tables.iter_mut().zip(list) {
+            *table = self.points[p.n].table;
+        }
+        for (text, p) in texts.iter_mut().zip(list) {
+            *text = self.points[p.n].text;
+        }
     }
-    Ok(served.shared)
-}
 
-// The same, with lists of its own.
-fn serve(
-    out: &mut impl Write,
-    image: &mut [u64],
-    shared: Shared,
-    places: &mut Places,
-    list: &[u64],
-    writes: &[[usize; 2]],
-    bytes: &[u8],
-) -> io::Result<Shared>
-    requires { length list.now ≤ 40 }
-{
-    let n = list.len();
-    let mut heads = [[0u32; 11]; 40];
-    let mut tables = [[0u16; 256]; 40];
-    let mut texts = [[0u8; 1024]; 40];
-    let mut answers = [[0u32; 2]; 40];
-    serve_in(
-        out,
-        image,
-        shared,
-        places,
-        list,
-        &mut heads[0..n],
-        &mut tables[0..n],
-        &mut texts[0..n],
-        &mut answers[0..n],
-        writes,
-        bytes,
-    )
-}
+    // Each of these places gets its record of the list.
+    fn put_back(
+        &mut self,
+        list: &[PlaceNumber],
+        heads: &[[u32; 11]],
+        tables: &[[u16; 256]],
+        texts: &[[u8; 1024]],
+    ) {
+        for (p, head) in list.iter().zip(heads) {
+            self.points[p.n].head = head_of(*head);
+        }
+        for (p, table) in list.iter().zip(tables) {
+            self.points[p.n].table = *table;
+        }
+        for (p, text) in list.iter().zip(texts) {
+            self.points[p.n].text = *text;
+        }
+    }
 
-// The same with the writes of these numbers, made where there is room.
-fn serve_made(
-    out: &mut impl Write,
-    image: &mut [u64],
-    shared: Shared,
-    places: &mut Places,
-    list: &[u64],
-    numbers: &[u64],
-    writes: &mut [[usize; 2]],
-    bytes: &mut [u8],
-) -> io::Result<Shared>
-    requires { (length list.now ≤ 40) × (length writes.old ≤ 40) × (3 * length writes.old ≤ length numbers.now) × (length bytes.old ≡ 44000) }
-{
-    let size = make_writes(numbers, writes, bytes);
-    let all = &bytes[..];
-    serve(out, image, shared, places, list, writes, &all[0..size])
-}
+    // Serves the points of these places with these writes and writes the lines. The records are taken into lists that are lent, and put back.
+    fn serve_list(
+        &mut self,
+        out: &mut impl Write,
+        list: &[PlaceNumber],
+        asked: &[Asked],
+    ) -> io::Result<()>
+        requires points { length list.now ≤ 40 }
+        requires writes { length asked.now ≤ 40 }
+    {
+        let n = list.len();
+        let mut heads = [[0u32; 11]; 40];
+        let mut tables = [[0u16; 256]; 40];
+        let mut texts = [[0u8; 1024]; 40];
+        let mut answers = [[0u32; 2]; 40];
+        let mut writes = [[0usize; 2]; 40];
+        let mut bytes = [0u8; 44000];
+        self.lend(list, &mut heads[..n], &mut tables[..n], &mut texts[..n]);
+        lend_writes(asked, &mut writes);
+        let size = fill_texts(asked, &mut bytes);
+        let mut numbers = lent_shared(self.shared);
+        let mut taken = self.shared.taken;
+        let refused = c_lent::serve::serve(
+            self.image_mut(),
+            &mut numbers,
+            &mut taken,
+            &mut heads[..n],
+            &mut tables[..n],
+            &mut texts[..n],
+            &mut answers[..n],
+            &writes[..asked.len()],
+            &bytes[..size],
+        );
+        self.shared = shared_of(numbers, taken);
+        self.put_back(list, &heads, &tables, &texts);
+        if refused != 0 {
+            return writeln!(out, "{}", Refused(refused));
+        }
+        print_answers(out, list, &answers)
+    }
 
-// The same, if these are the numbers of n places and of writes.
-fn serve_checked(
-    out: &mut impl Write,
-    image: &mut [u64],
-    shared: Shared,
-    places: &mut Places,
-    numbers: &[u64],
-    n: usize,
-) -> io::Result<Shared>
-    requires { (n ≤ 40) × (n ≤ length numbers.now) × (length numbers.now ≤ n + 120) }
-{
-    let list = &numbers[0..n];
-    let rest = &numbers[n..];
-    if !are_places(list) {
-        return calls::wrong(out, shared);
+    // Serves as the words say.
+    pub fn serve(&mut self, out: &mut impl Write, line: Words) -> io::Result<()> {
+        let mut words = line;
+        let n: Option<UpTo<40>> = words.up_to();
+        let m: Option<UpTo<40>> = words.up_to();
+        let (Some(n), Some(m)) = (n, m) else {
+            return print::error(out);
+        };
+        let mut places = [UpTo::zero(); 40];
+        let none = Asked {
+            offset: 0,
+            size: UpTo::zero(),
+            seed: 0,
+        };
+        let mut writes = [none; 40];
+        let list = &mut places[..n.n];
+        let asked = &mut writes[..m.n];
+        if read_lists(&mut words, list, asked).is_none() {
+            return print::error(out);
+        }
+        self.serve_list(out, list, asked)
     }
-    if !are_writes(rest) {
-        return calls::wrong(out, shared);
-    }
-    let mut writes = [[0usize; 2]; 40];
-    let mut bytes = [0u8; 44000];
-    let m = rest.len() / 3;
-    serve_made(
-        out,
-        image,
-        shared,
-        places,
-        list,
-        rest,
-        &mut writes[0..m],
-        &mut bytes,
-    )
-}
-
-// The same with the numbers of a line, read where there is room for so many.
-fn serve_line(
-    out: &mut impl Write,
-    image: &mut [u64],
-    shared: Shared,
-    places: &mut Places,
-    line: &[u8],
-    numbers: &mut [u64],
-    n: usize,
-) -> io::Result<Shared>
-    requires { (n ≤ 40) × (n ≤ length numbers.old) × (length numbers.old ≤ n + 120) }
-{
-    if !read_numbers(line, numbers) {
-        return calls::wrong(out, shared);
-    }
-    serve_checked(out, image, shared, places, numbers, n)
-}
-
-// Serves, and writes the lines; the shared record after it.
-pub fn obey(
-    out: &mut impl Write,
-    image: &mut [u64],
-    shared: Shared,
-    places: &mut Places,
-    line: &[u8],
-    o: Order,
-) -> io::Result<Shared> {
-    if 40 < o.a {
-        return calls::wrong(out, shared);
-    }
-    if 40 < o.b {
-        return calls::wrong(out, shared);
-    }
-    let n = o.a as usize;
-    let count = n + 3 * o.b as usize;
-    let extra = scan::word(line, 3 + count);
-    if extra.len() != 0 {
-        return calls::wrong(out, shared);
-    }
-    let mut numbers = [0u64; 160];
-    serve_line(out, image, shared, places, line, &mut numbers[0..count], n)
 }

@@ -1,4 +1,5 @@
-use mathlib.Core.Path.{refl}
+use Prim.Native.Nat.{ℕ, ◌+◌, ◌*◌, ◌%◌}
+use mathlib.Core.Path.{refl, ap}
 use native.Mathlib.Omega.{arith}
 use lib.ListN.{length-set}
 use Rattle.session.specs.Made.{text_byte}
@@ -12,7 +13,7 @@ loop-i-init c = (refl, omega arith, refl, refl)
 pub loop-i-preserved : goal.loop-i-preserved
 loop-i-preserved c = let l = c.loop-i in
     let a = c.args in
-    (refl, omega arith, simp length-set l.invariant.2, list_from-next (text_byte a.seed) l.text a.text.now l.i _ l.invariant.3 refl (omega arith))
+    (refl, omega arith, simp length-set l.invariant.2, list_from-next (text_byte a.seed) l.text a.text.now l.i _ l.invariant.3 (ap (λ (s : ℕ). (s + 7 * l.i) % 256) c.from.ensures) (omega arith))
 
 pub shape_of-text : goal.shape_of-text
 shape_of-text c = c.loop-i.invariant.2

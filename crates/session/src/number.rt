@@ -1,0 +1,21 @@
+// Numbers with a limit.
+ghost use Rattle.std.specs.Prelude.{◌≤◌};
+
+// A number that is at most MOST.
+#[derive(Clone, Copy, Debug, PartialEq, Eq)]
+pub struct UpTo<const MOST: usize> {
+    pub n: usize,
+    ghost within: { n ≤ MOST },
+}
+
+impl<const MOST: usize> UpTo<MOST> {
+    pub fn zero() -> UpTo<MOST> {
+        UpTo { n: 0 }
+    }
+
+    // None where the number is above MOST.
+    pub fn of(n: u64) -> Option<UpTo<MOST>> {
+        let n = usize::try_from(n).ok()?;
+        if n <= MOST { Some(UpTo { n }) } else { None }
+    }
+}
