@@ -98,7 +98,7 @@ impl Bench {
             "record {} {} {} {}",
             head.number, head.length, head.place.block, head.place.slot
         )?;
-        let phase = points::record::phase_number(write.phase);
+        let phase = u32::from(write.phase);
         write!(
             out,
             " {phase} {} {} {}",

@@ -151,7 +151,7 @@ pub fn write_asked(words: &mut Words) -> Option<Asked> {
 
 fn phase_asked(words: &mut Words) -> Option<Phase> {
     let number: UpTo<6> = words.up_to()?;
-    Some(points::record::phase_of(number.n as u32))
+    Some(Phase::from(number.n as u32))
 }
 
 // `P`, a number to be joined with.

@@ -4,7 +4,7 @@ use points::Count;
 use std::io::Write;
 use std::{fmt, io};
 
-// The store turned a call down, for this reason.
+// The store turned a call down, for the reason of this number, as serving answers it.
 #[derive(Clone, Copy, Debug, PartialEq, Eq)]
 pub struct Refused(pub u32);
 
@@ -17,8 +17,8 @@ impl fmt::Display for Refused {
 // What a call answered.
 pub fn outcome(reply: Reply) -> Result<(), Refused> {
     match reply {
-        Reply::Done => Ok(()),
-        Reply::Refused(reason) => Err(Refused(reason)),
+        Ok(()) => Ok(()),
+        Err(refusal) => Err(Refused(refusal.into())),
     }
 }
 

@@ -9,7 +9,7 @@ use crate::scan::Words;
 use crate::steps::Told;
 use crate::{calls, order, print};
 use block_log::{Place, Shared};
-use points::{Head, Write as PointWrite};
+use points::{Head, Phase, Write as PointWrite};
 use std::io;
 use std::io::Write;
 
@@ -24,7 +24,7 @@ fn lent_head(head: Head) -> [u32; 11] {
         write.offset,
         write.size,
         write.run,
-        points::record::phase_number(write.phase),
+        u32::from(write.phase),
         write.position,
         write.zeroing,
         u32::from(write.retries),
@@ -54,7 +54,7 @@ fn head_of(lent: [u32; 11]) -> Head {
             offset,
             size,
             run,
-            phase: points::record::phase_of(phase),
+            phase: Phase::from(phase),
             position,
             zeroing,
             retries: (retries & 0xffff) as u16,

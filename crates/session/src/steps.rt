@@ -43,7 +43,7 @@ impl Told {
             StepAnswer::Moved => Told::Moved,
             StepAnswer::Extending => Told::Extending,
             StepAnswer::Committed(retries) => Told::Committed(u32::from(retries)),
-            StepAnswer::Refused(reason) => Told::Refused(Refused(reason)),
+            StepAnswer::Refused(refusal) => Told::Refused(Refused(refusal.into())),
             StepAnswer::Copied => Told::Copied,
             StepAnswer::Bytes(count) => Told::Read {
                 count,
