@@ -28,4 +28,4 @@ pub returns : goal.returns
 returns c =
     let b = c.begin_all-begun.ensures in
     served _ _ _ _ _ _ c.if-n-lt1.false c.if-n-gt32.false (search rules) (sym c.listed_twice.ensures ∙ c.if-listed_twice.false) _ _ _ _ _ _
-    b.common_is c.most_rounds.ensures (c.all_rounds.ensures _ b.shows)
+    b.common_is (c.most_rounds.ensures c.if-n-lt1.false c.if-n-gt32.false) (c.all_rounds.ensures _ b.shows)

@@ -26,11 +26,6 @@ pub begin_all-requires : goal.begin_all-requires
 begin_all-requires c = let x = each (goal.at.begin_all-requires c).In_default in
     (x.tables-are, x.texts-are, x.answers_are, x.writes_are, x.bytes_are)
 
-pub most_rounds-most-requires : goal.most_rounds-most-requires
-most_rounds-most-requires c = let x = each (goal.at.most_rounds-most-requires c).In_default in
-    let h = c.heads-1.given in
-    (omega (arith, x.least, h), omega (arith, x.most, h))
-
 pub all_rounds-requires : goal.all_rounds-requires
 all_rounds-requires c = let x = each (goal.at.all_rounds-requires c).In_default in
     let h = c.heads-1.given in (
@@ -47,7 +42,8 @@ returns c = let a = c.args in
     let l = c.begin_all.new in
     let back = sym one-h ∙ sym two-h in
     serve-done (common_lent a.image.now (shared_as a.shared.now a.taken.now)) a.heads.now a.tables.now a.texts.now a.answers.now a.writes.now a.bytes.now
-    _ _ l.heads l.tables l.texts l.answers _ _ _ _ _ (sym (ok-none c.reason-refused.ensures c.in_default.is)) one-h c.most_rounds-most.ensures (
+    _ _ l.heads l.tables l.texts l.answers _ _ _ _ _ (sym (ok-none c.reason-refused.ensures c.in_default.is)) one-h
+    (c.most_rounds-most.ensures (omega (arith, x.least, one-h)) (omega (arith, x.most, one-h))) (
       refl,
       c.tables-2-1.given ∙ c.tables-1.given ∙ x.tables-are ∙ back,
       c.texts-2-1.given ∙ c.texts-1.given ∙ x.texts-are ∙ back,
