@@ -127,6 +127,7 @@ pub struct Place {
 
 // What a walk from a log place to the tail saw: where it ended, how many log blocks it entered, whether it is broken (18), and whether an entry passed
 // covers each of two virtual blocks.
+// Stays: `broken` is a flag beside the rest, since `lookahead_of` says of a broken walk too where it ended.
 #[derive(Clone, Copy)]
 pub struct Lookahead {
     pub place: Place,
