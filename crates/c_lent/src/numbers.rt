@@ -1,7 +1,6 @@
 // Enums and records in numbers, and records from their numbers.
 ghost use Rattle.std.specs.Prelude.{◌≡◌, true, List, ◌++◌, ℕ, ◌≤◌, length, take, set};
 ghost use Rattle.block_log.specs.Opening.{number_of};
-ghost use Rattle.points.specs.Stepping.{step_kind, step_value};
 ghost use Rattle.points.specs.Plan.{reported};
 ghost use Rattle.points.specs.Lent.{begun_shared, Lengthens};
 ghost use Rattle.c_lent.specs.Numbers.{opened_numbers, answer_numbers, count_numbers, head_numbers, head_from, is_known};
@@ -24,64 +23,50 @@ pub fn of_reply(reply: Reply) -> u32
     }
 }
 
-// Which answer of a step it is; and its value.
-fn kind(step: StepAnswer) -> u32
-    ensures { result ≡ step_kind step }
-{
-    match step {
-        StepAnswer::Stored => 1,
-        StepAnswer::Moved => 2,
-        StepAnswer::Extending => 3,
-        StepAnswer::Committed(retries) => 4,
-        StepAnswer::Refused(n) => 5,
-        StepAnswer::Copied => 6,
-        StepAnswer::Bytes(n) => 7,
+// A step's answer that stored no word.
+impl From<StepAnswer> for Answer {
+    ghost from_gives = { λ step answer. answer ≡ answer_numbers step 0 };
+
+    fn from(step: StepAnswer) -> Answer {
+        let (kind, value) = match step {
+            StepAnswer::Stored => (1, 0),
+            StepAnswer::Moved => (2, 0),
+            StepAnswer::Extending => (3, 0),
+            StepAnswer::Committed(retries) => (4, retries as u32),
+            StepAnswer::Refused(n) => (5, n),
+            StepAnswer::Copied => (6, 0),
+            StepAnswer::Bytes(n) => (7, n),
+        };
+        Answer {
+            kind,
+            value,
+            word: 0,
+        }
     }
 }
 
-fn value(step: StepAnswer) -> u32
-    ensures { result ≡ step_value step }
-{
-    match step {
-        StepAnswer::Stored => 0,
-        StepAnswer::Moved => 0,
-        StepAnswer::Extending => 0,
-        StepAnswer::Committed(retries) => retries as u32,
-        StepAnswer::Refused(n) => n,
-        StepAnswer::Copied => 0,
-        StepAnswer::Bytes(n) => n,
+impl From<block_log::Opened> for Opened {
+    ghost from_gives = { λ opened numbers. numbers ≡ opened_numbers opened };
+
+    fn from(opened: block_log::Opened) -> Opened {
+        let reply = opened.reply;
+        Opened {
+            refused: of_reply(reply),
+            length: opened.length,
+            entries: opened.entries,
+            free: opened.free,
+        }
     }
 }
 
-pub(crate) fn of_step(step: StepAnswer, word: usize) -> Answer
-    ensures { result ≡ answer_numbers step word }
-{
-    Answer {
-        kind: kind(step),
-        value: value(step),
-        word,
-    }
-}
+impl From<points::Count> for Count {
+    ghost from_gives = { λ count numbers. numbers ≡ count_numbers count };
 
-pub fn of_opened(opened: block_log::Opened) -> Opened
-    ensures { result ≡ opened_numbers opened }
-{
-    let reply = opened.reply;
-    Opened {
-        refused: of_reply(reply),
-        length: opened.length,
-        entries: opened.entries,
-        free: opened.free,
-    }
-}
-
-pub(crate) fn of_count(count: points::Count) -> Count
-    ensures { result ≡ count_numbers count }
-{
-    let reply = count.reply;
-    Count {
-        refused: of_reply(reply),
-        count: count.count,
+    fn from(count: points::Count) -> Count {
+        Count {
+            refused: of_reply(count.reply),
+            count: count.count,
+        }
     }
 }
 
@@ -191,17 +176,19 @@ pub(crate) fn lead_of_step(numbers: &[u32; 35]) -> points::Numbers
 }
 
 // The shared record of its numbers and its map.
-pub(crate) fn shared(from: &SharedRecord) -> Shared
-    ensures { result ≡ shared_in (shared_parts from.now) }
-{
-    let mut reports = [0u32; 32];
-    reports.copy_from_slice(&from.numbers[3..]);
-    Shared {
-        blocks: from.numbers[0],
-        taken: from.taken,
-        joined: from.numbers[1],
-        chain: from.numbers[2],
-        reports,
+impl From<&SharedRecord> for Shared {
+    ghost from_gives = { λ lent shared. shared ≡ shared_in (shared_parts lent.now) };
+
+    fn from(lent: &SharedRecord) -> Shared {
+        let mut reports = [0u32; 32];
+        reports.copy_from_slice(&lent.numbers[3..]);
+        Shared {
+            blocks: lent.numbers[0],
+            taken: lent.taken,
+            joined: lent.numbers[1],
+            chain: lent.numbers[2],
+            reports,
+        }
     }
 }
 

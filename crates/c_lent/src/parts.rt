@@ -54,7 +54,7 @@ pub(crate) fn step(
         bytes.old }
 {
     if !numbers::is_known(head) {
-        return numbers::of_step(StepAnswer::Refused(numbers::unknown(image, shared)), 0);
+        return Answer::from(StepAnswer::Refused(numbers::unknown(image, shared)));
     }
     let lead = numbers::lead_of_step(shared);
     let stepped = points::step::step_lent(
@@ -71,5 +71,7 @@ pub(crate) fn step(
     let reports = stepped.reports;
     numbers::put_reported(shared, reports, left);
     *head = numbers::of_head(left);
-    numbers::of_step(step, stepped.word)
+    let mut answer = Answer::from(step);
+    answer.word = stepped.word;
+    answer
 }

@@ -1,4 +1,6 @@
 -- `c_lent::parts::step`: refused where the record's numbers are none, else as the call answers. Assumes nothing.
+use mathlib.Core.Path.{ap}
+use Rattle.c_lent.specs.declared.Answer.{Answer}
 use Rattle.c_lent.specs.Numbers.{shared_lent, point_lent}
 use Rattle.c_lent.proofs.Calls.{tests-none, tests-known, is_none, step-known}
 use borrow.Author.Rules.{rules}
@@ -6,7 +8,7 @@ use Rattle.c_lent.proofs.parts.step.Goals as goal
 
 pub returns-then-not-is_known : goal.returns-then-not-is_known
 returns-then-not-is_known c = let a = c.args in
-    rw c.of_step.ensures
+    rw c.from.ensures
     (is_none a.image.now (shared_lent a.shared.now a.taken.now) (point_lent a.head.now a.table.now a.text.now) _ _
     (tests-none c.is_known.ensures c.if-not-is_known.true-raw) _ (c.unknown.ensures a.taken.now))
 
@@ -22,4 +24,4 @@ returns c = let a = c.args in
     step-known a.image.now (shared_lent a.shared.now a.taken.now) (point_lent a.head.now a.table.now a.text.now)
     (tests-known c.is_known.ensures c.if-not-is_known.false-raw) _ c.head.ensures _ c.lead_of_step-lead.ensures a.bytes.now
     y.result y.new.taken y.new.table y.new.text _ y.new.bytes y.ensures.0
-    _ c.of_step-2.ensures _ c.of_head.ensures _ c.put_reported.ensures
+    _ (ap (λ (x : Answer). record { kind = x.kind; value = x.value; word = y.result.word }) c.from-answer.ensures) _ c.of_head.ensures _ c.put_reported.ensures
