@@ -161,20 +161,6 @@ pub(crate) fn lead(numbers: &[u32; 35]) -> points::Numbers
     }
 }
 
-// The same for a step, which alone calls it: it becomes part of the step.
-pub(crate) fn lead_of_step(numbers: &[u32; 35]) -> points::Numbers
-    ensures { result ≡ lead_from numbers.now }
-{
-    let all = &numbers[..];
-    let blocks = numbers[0];
-    points::Numbers {
-        blocks,
-        joined: numbers[1],
-        chain: numbers[2],
-        inside: points::shared::all_below(&all[3..], blocks),
-    }
-}
-
 // The shared record of its numbers and its map.
 impl From<&SharedRecord> for Shared {
     ghost from_gives = { λ lent shared. shared ≡ shared_in (shared_parts lent.now) };

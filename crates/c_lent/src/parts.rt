@@ -56,7 +56,7 @@ pub(crate) fn step(
     if !numbers::is_known(head) {
         return Answer::from(StepAnswer::Refused(numbers::unknown(image, shared)));
     }
-    let lead = numbers::lead_of_step(shared);
+    let lead = numbers::lead(shared);
     let stepped = points::step::step_lent(
         image,
         lead,

@@ -16,12 +16,12 @@ pub head-requires : goal.head-requires
 head-requires c = tests-known c.is_known.ensures c.if-not-is_known.false-raw
 
 pub put_reported-requires : goal.put_reported-requires
-put_reported-requires c = (search rules, rw c.lead_of_step-lead.ensures at c.step_lent-stepped.ensures.1)
+put_reported-requires c = (search rules, rw c.lead-lead.ensures at c.step_lent-stepped.ensures.1)
 
 pub returns : goal.returns
 returns c = let a = c.args in
     let y = c.step_lent-stepped in
     step-known a.image.now (shared_lent a.shared.now a.taken.now) (point_lent a.head.now a.table.now a.text.now)
-    (tests-known c.is_known.ensures c.if-not-is_known.false-raw) _ c.head.ensures _ c.lead_of_step-lead.ensures a.bytes.now
+    (tests-known c.is_known.ensures c.if-not-is_known.false-raw) _ c.head.ensures _ c.lead-lead.ensures a.bytes.now
     y.result y.new.taken y.new.table y.new.text _ y.new.bytes y.ensures.0
     _ (ap (λ (x : Answer). record { kind = x.kind; value = x.value; word = y.result.word }) c.from-answer.ensures) _ c.of_head.ensures _ c.put_reported.ensures
