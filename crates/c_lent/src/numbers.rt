@@ -81,6 +81,7 @@ pub(crate) fn no_count(reason: u32) -> Count
 }
 
 // The numbers of a head, in the order of C's record.
+// Stays: `impl From<Head> for [u32; 11]`, and `TryFrom` back, would be of two types of other crates, which Rust refuses (so `is_known`, `head`, `lead`).
 pub(crate) fn of_head(head: points::Head) -> [u32; 11]
     ensures { result ≡ head_numbers head }
 {

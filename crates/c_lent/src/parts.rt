@@ -1,5 +1,6 @@
 // Beginning a write and stepping, with each record lent in parts: `shared` is blocks, joined points, chain length and the 32 reports, `taken` the map; `head`
 // the eleven numbers of a point's record, beside `table` and `text`.
+// Stays: `store_serve_parts` hands the serving call lists of these parts (include/store.h), so no `&mut PointRecord` is to be had there without a copy.
 ghost use Rattle.std.specs.Prelude.{◌≡◌};
 ghost use Rattle.c_lent.specs.Numbers.{shared_lent, point_lent};
 ghost use Rattle.c_lent.specs.Calls.{left, step_left, begin_for, step_for};
