@@ -32,7 +32,7 @@ pub extern "C" fn store_list(image: &[u64], scratch: &mut [u16], rows: &mut [u16
     ensures { OpensFor image.now scratch.old result scratch.new
         × (rows.new ≡ rows_of one image.now scratch.old) }
 {
-    c_lent::numbers::of_opened(block_log::list::listed(image, scratch, rows))
+    block_log::list::listed(image, scratch, rows).into()
 }
 
 #[unsafe(no_mangle)]

@@ -7,6 +7,8 @@ ghost use Rattle.c_lent.specs.Records.{shared_parts, point_parts, textless_parts
 ghost use Rattle.c_lent.specs.Calls.{OpensFor, left, step_left, shared_left, read_left};
 ghost use Rattle.c_lent.specs.Calls.{shared_for, join_for, begin_for, begin_read_for, step_for, leave_for, read_for, locate_for};
 
+use block_log::Shared;
+
 // The shared record: blocks, joined points, chain length and the 32 reports, and the map. In C the numbers have names.
 #[repr(C)]
 #[derive(Clone, Copy)]
@@ -64,14 +66,14 @@ pub fn open(image: &[u64], scratch: &mut [u16], shared: &mut SharedRecord) -> Op
     let opened = block_log::open::open(image, scratch);
     let kept = opened.shared;
     numbers::put(shared, kept);
-    numbers::of_opened(opened)
+    opened.into()
 }
 
 pub fn join(image: &[u64], shared: &mut SharedRecord, number: u32, point: &mut PointRecord) -> u32
     ensures { left result (shared_parts shared.new) (point_parts point.new)
         ≡ join_for image.now (shared_parts shared.old) number }
 {
-    let joined = points::join::join(image, numbers::shared(shared), number);
+    let joined = points::join::join(image, Shared::from(&*shared), number);
     let kept = joined.shared;
     let left = joined.point;
     let head = numbers::of_head(left.head);
@@ -162,7 +164,7 @@ pub fn leave(image: &[u64], shared: &mut SharedRecord, point: &PointRecord) -> u
     }
     let left = points::leave::leave_lent(
         image,
-        numbers::shared(shared),
+        Shared::from(&*shared),
         numbers::head(&point.head),
         &point.table,
     );
@@ -184,7 +186,7 @@ pub fn read(
     if !numbers::is_known(&point.head) {
         return numbers::no_count(numbers::unknown(image, &shared.numbers));
     }
-    numbers::of_count(points::read::read_lent(
+    Count::from(points::read::read_lent(
         image,
         numbers::lead(&shared.numbers),
         numbers::head(&point.head),
@@ -200,7 +202,7 @@ pub fn locate(image: &[u64], shared: &SharedRecord, point: &PointRecord, block: 
     if !numbers::is_known(&point.head) {
         return numbers::no_count(numbers::unknown(image, &shared.numbers));
     }
-    numbers::of_count(points::locate::locate_lent(
+    Count::from(points::locate::locate_lent(
         image,
         numbers::lead(&shared.numbers),
         numbers::head(&point.head),

@@ -24,32 +24,42 @@ pub fn of_reply(reply: Reply) -> u32
     }
 }
 
-pub(crate) fn of_step(step: StepAnswer, word: usize) -> Answer
-    ensures { result ≡ answer_numbers step word }
-{
-    let [kind, value]: [u32; 2] = step.into();
-    Answer { kind, value, word }
-}
+// A step's answer that stored no word.
+impl From<StepAnswer> for Answer {
+    ghost from_gives = { λ step answer. answer ≡ answer_numbers step 0 };
 
-pub fn of_opened(opened: block_log::Opened) -> Opened
-    ensures { result ≡ opened_numbers opened }
-{
-    let reply = opened.reply;
-    Opened {
-        refused: of_reply(reply),
-        length: opened.length,
-        entries: opened.entries,
-        free: opened.free,
+    fn from(step: StepAnswer) -> Answer {
+        let [kind, value]: [u32; 2] = step.into();
+        Answer {
+            kind,
+            value,
+            word: 0,
+        }
     }
 }
 
-pub(crate) fn of_count(count: points::Count) -> Count
-    ensures { result ≡ count_numbers count }
-{
-    let reply = count.reply;
-    Count {
-        refused: of_reply(reply),
-        count: count.count,
+impl From<block_log::Opened> for Opened {
+    ghost from_gives = { λ opened numbers. numbers ≡ opened_numbers opened };
+
+    fn from(opened: block_log::Opened) -> Opened {
+        let reply = opened.reply;
+        Opened {
+            refused: of_reply(reply),
+            length: opened.length,
+            entries: opened.entries,
+            free: opened.free,
+        }
+    }
+}
+
+impl From<points::Count> for Count {
+    ghost from_gives = { λ count numbers. numbers ≡ count_numbers count };
+
+    fn from(count: points::Count) -> Count {
+        Count {
+            refused: of_reply(count.reply),
+            count: count.count,
+        }
     }
 }
 
@@ -64,6 +74,7 @@ pub(crate) fn no_count(refusal: Refusal) -> Count
 }
 
 // The numbers of a head, in the order of C's record.
+// Stays: `impl From<Head> for [u32; 11]`, and `TryFrom` back, would be of two types of other crates, which Rust refuses (so `is_known`, `head`, `lead`).
 pub(crate) fn of_head(head: points::Head) -> [u32; 11]
     ensures { result ≡ head_numbers head }
 {
@@ -144,32 +155,20 @@ pub(crate) fn lead(numbers: &[u32; 35]) -> points::Numbers
     }
 }
 
-// The same for a step, which alone calls it: it becomes part of the step.
-pub(crate) fn lead_of_step(numbers: &[u32; 35]) -> points::Numbers
-    ensures { result ≡ lead_from numbers.now }
-{
-    let all = &numbers[..];
-    let blocks = numbers[0];
-    points::Numbers {
-        blocks,
-        joined: numbers[1],
-        chain: numbers[2],
-        inside: points::shared::all_below(&all[3..], blocks),
-    }
-}
-
 // The shared record of its numbers and its map.
-pub(crate) fn shared(from: &SharedRecord) -> Shared
-    ensures { result ≡ shared_in (shared_parts from.now) }
-{
-    let mut reports = [0u32; 32];
-    reports.copy_from_slice(&from.numbers[3..]);
-    Shared {
-        blocks: from.numbers[0],
-        taken: from.taken,
-        joined: from.numbers[1],
-        chain: from.numbers[2],
-        reports,
+impl From<&SharedRecord> for Shared {
+    ghost from_gives = { λ lent shared. shared ≡ shared_in (shared_parts lent.now) };
+
+    fn from(lent: &SharedRecord) -> Shared {
+        let mut reports = [0u32; 32];
+        reports.copy_from_slice(&lent.numbers[3..]);
+        Shared {
+            blocks: lent.numbers[0],
+            taken: lent.taken,
+            joined: lent.numbers[1],
+            chain: lent.numbers[2],
+            reports,
+        }
     }
 }
 

@@ -1,5 +1,6 @@
 // Beginning a write and stepping, with each record lent in parts: `shared` is blocks, joined points, chain length and the 32 reports, `taken` the map; `head`
 // the eleven numbers of a point's record, beside `table` and `text`.
+// Stays: `store_serve_parts` hands the serving call lists of these parts (include/store.h), so no `&mut PointRecord` is to be had there without a copy.
 ghost use Rattle.std.specs.Prelude.{◌≡◌};
 ghost use Rattle.c_lent.specs.Numbers.{shared_lent, point_lent};
 ghost use Rattle.c_lent.specs.Calls.{left, step_left, begin_for, step_for};
@@ -54,9 +55,9 @@ pub(crate) fn step(
         bytes.old }
 {
     if !numbers::is_known(head) {
-        return numbers::of_step(StepAnswer::Refused(numbers::unknown(image, shared)), 0);
+        return Answer::from(StepAnswer::Refused(numbers::unknown(image, shared)));
     }
-    let lead = numbers::lead_of_step(shared);
+    let lead = numbers::lead(shared);
     let stepped = points::step::step_lent(
         image,
         lead,
@@ -71,5 +72,7 @@ pub(crate) fn step(
     let reports = stepped.reports;
     numbers::put_reported(shared, reports, left);
     *head = numbers::of_head(left);
-    numbers::of_step(step, stepped.word)
+    let mut answer = Answer::from(step);
+    answer.word = stepped.word;
+    answer
 }

@@ -8,6 +8,7 @@ ghost use Rattle.c_lent.specs.Batch.{AllReady, Steps, MovesOn, CommitsOn};
 ghost use Rattle.c_lent.specs.Batch.{Lengths};
 ghost use Rattle.c_lent.specs.Serving.{Lent, begun_answer};
 
+// Stays: kinds are numbers here, since `answers` is C's list of pairs (`store_serve_parts`) and is read back in each round.
 pub(crate) use points::answers::goes_on;
 
 // What a beginning answers, kind and value, by the refusal's number.
@@ -61,6 +62,7 @@ pub(crate) fn begin_all(
         × AllReady c (length heads.old) (listed_at heads.new tables.new texts.new answers.new) }
 {
     let mut start: usize = 0;
+    // Stays: `for ((((head, table), text), answer), write) in heads.iter_mut().zip(tables).zip(..)` is no plainer; in `round` likewise.
     for i in 0..heads.len() {
         let end = start + writes[i][1];
         begin_turn(

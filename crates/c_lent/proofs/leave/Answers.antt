@@ -15,5 +15,5 @@ head-requires c = tests-known c.is_known.ensures c.if-not-is_known.false-raw
 pub returns : goal.returns
 returns c = let a = c.args in
     leave-known a.image.now (shared_parts a.shared.now) (textless_parts a.point.now)
-    (tests-known c.is_known.ensures c.if-not-is_known.false-raw) _ c.head.ensures _ c.shared.ensures
+    (tests-known c.is_known.ensures c.if-not-is_known.false-raw) _ c.head.ensures _ c.from.ensures
     c.leave_lent-left.result (c.leave_lent-left.ensures no_text) _ c.of_reply.ensures _ c.put.ensures

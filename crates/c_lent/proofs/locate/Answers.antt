@@ -17,4 +17,4 @@ pub returns : goal.returns
 returns c = let a = c.args in
     locate-known a.image.now (shared_parts a.shared.now) (textless_parts a.point.now)
     (tests-known c.is_known.ensures c.if-not-is_known.false-raw) _ c.head.ensures _ c.lead.ensures a.block
-    _ _ (c.locate_lent.ensures a.shared.now.taken) c.of_count.ensures
+    _ _ (c.locate_lent.ensures a.shared.now.taken) c.from.ensures

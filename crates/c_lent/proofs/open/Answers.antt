@@ -6,6 +6,6 @@ use Rattle.c_lent.proofs.open.Goals as goal
 
 pub returns : goal.returns
 returns c = let o = c.open-opened in (
-  record { answers = c.of_opened.ensures ∙ ap opened_numbers o.ensures.0; marks = o.ensures.1 },
+  record { answers = c.into.ensures ∙ ap opened_numbers o.ensures.0; marks = o.ensures.1 },
   c.put.ensures ∙ ap (λ (x : Opened). lend_shared x.shared) o.ensures.0,
 )

@@ -1,8 +1,0 @@
--- `c_lent::numbers::lead_of_step`: number by number; the reports are looked at once. Assumes nothing.
-use native.Mathlib.Omega.{arith}
-use Rattle.c_lent.proofs.Shared.{rest-whole}
-use Rattle.c_lent.proofs.numbers.lead_of_step.Goals as goal
-
-pub returns : goal.returns
-returns c = let a = c.args in
-    rw (c.all_below.ensures, rest-whole a.numbers.now)
