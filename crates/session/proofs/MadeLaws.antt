@@ -1,10 +1,12 @@
 -- Lists that a loop fills from the front: the pseudo-random words of a seed, with those still to come; the text of a write, before what was there.
-use Prim.Native.Nat.{ℕ, zero, suc, ◌+◌, ◌-◌, ◌≤◌, ◌<◌}
-use mathlib.Core.Path.{◌≡◌, refl, sym, ◌∙◌}
+use Prim.Native.Nat.{ℕ, zero, suc, ◌+◌, ◌*◌, ◌%◌, ◌-◌, ◌≤◌, ◌<◌}
+use mathlib.Core.Path.{◌≡◌, refl, sym, ap, ◌∙◌}
 use mathlib.Core.Logic.{◌≢◌}
 use mathlib.Core.List.{List, [], ◌∷◌, ◌++◌, append-nil}
 use native.Mathlib.Omega.{arith}
 use native.Mathlib.Numerals.{add-one}
+use Rattle.std.proofs.Common.{add-zero}
+use Rattle.std.proofs.Math.Nat.{mod-add-mod, mod-eq_of_lt}
 use lib.ListN.{length, take, drop, set, drop_of_length-le}
 use lib.Seq.{take-suc-set, take_all, append_snoc}
 use Rattle.words.specs.Logic.{list_from}
@@ -50,3 +52,12 @@ module _ (seed i : ℕ) (text before : List ℕ) (so_far : text ≡ list_from 0 
   text-end e =
       let h : length before ≤ i = omega arith in
       so_far ∙ rw (drop_of_length-le before h, append-nil, e)
+
+-- each byte of a text is 7 more than the one before it
+pub text-start : (seed : ℕ) → seed < 256 → seed ≡ text_byte seed 0
+text-start seed h = sym (ap (λ (n : ℕ). n % 256) (add-zero seed) ∙ mod-eq_of_lt h)
+
+pub text-next : (seed i b : ℕ) → b ≡ text_byte seed i → (b + 7) % 256 ≡ text_byte seed (i + 1)
+text-next seed i b e =
+    let s : seed + 7 * i + 7 ≡ seed + 7 * (i + 1) = omega arith in
+    rw e (mod-add-mod (seed + 7 * i) 256 7 ∙ ap (λ (n : ℕ). n % 256) s)

@@ -1,5 +1,5 @@
 // Calls of the store.
-ghost use Rattle.std.specs.Prelude.{◌≡◌, ◌≤◌, ◌<◌, length};
+ghost use Rattle.std.specs.Prelude.{◌≡◌, length};
 ghost use Rattle.session.specs.Made.{text_of};
 
 use crate::bench::{Bench, PlaceNumber};
@@ -9,13 +9,14 @@ use crate::{bench, digest, print};
 use std::io;
 use std::io::Write;
 
-// The text of a write.
+// The text of a write: each byte is 7 more than the one before it.
 pub(crate) fn fill_text(text: &mut [u8], seed: u8)
-    requires { length text.old ≤ 1100 }
     ensures { text.new ≡ text_of seed (length text.old) }
 {
-    for i in 0..text.len() {
-        text[i] = ((u64::from(seed) + 7 * i as u64) % 256) as u8;
+    let mut next = seed;
+    for byte in text {
+        *byte = next;
+        next = next.wrapping_add(7);
     }
 }
 

@@ -26,8 +26,8 @@ pub fn fill(part: &mut [u64], seed: u64)
     ensures { part.new ≡ noise (first_noise seed) (length part.old) }
 {
     let mut x = first_noise(seed);
-    for i in 0..part.len() {
+    for word in part {
         x = scrambled(x);
-        part[i] = x;
+        *word = x;
     }
 }

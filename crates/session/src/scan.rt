@@ -1,5 +1,5 @@
 // Words and numbers of a line.
-ghost use Rattle.std.specs.Prelude.{◌≡◌, true, IsTrue, ◌↔◌, [], ◌+◌, ◌≤◌, ◌<◌, length, eqb, not};
+ghost use Rattle.std.specs.Prelude.{◌≡◌, ◌≤◌, length, eqb, not};
 ghost use Rattle.std.specs.List.{position_from};
 ghost use Rattle.session.specs.Scan.{up_to, blanks, after_word, word_at, number_of};
 

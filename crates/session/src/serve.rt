@@ -1,5 +1,5 @@
 // `serve N M P1 .. PN O1 L1 S1 .. OM LM SM`: the one call that serves a list of points.
-ghost use Rattle.std.specs.Prelude.{◌≡◌, ◌+◌, ◌*◌, ◌≤◌, ◌<◌, length};
+ghost use Rattle.std.specs.Prelude.{◌≤◌, length};
 
 use crate::bench::{Bench, PlaceNumber};
 use crate::number::UpTo;

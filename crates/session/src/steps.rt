@@ -1,6 +1,4 @@
 // A point's steps, told by stretches of equal answers.
-ghost use Rattle.std.specs.Prelude.{◌≤◌};
-
 use crate::bench::{Bench, PlaceNumber};
 use crate::digest;
 use crate::number::UpTo;
