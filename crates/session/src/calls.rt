@@ -5,7 +5,7 @@ ghost use Rattle.session.specs.Made.{text_of};
 use crate::order::Order;
 use crate::records::Places;
 use crate::{digest, order, print, records, steps};
-use block_log::{Opened, Reply, Shared};
+use block_log::{Opened, Shared};
 use std::io;
 use std::io::Write;
 
@@ -18,12 +18,12 @@ pub fn wrong(out: &mut impl Write, shared: Shared) -> io::Result<Shared> {
 fn print_opened(out: &mut impl Write, opened: Opened) -> io::Result<()> {
     let reply = opened.reply;
     match reply {
-        Reply::Done => {
+        Ok(()) => {
             print::labelled(out, b"opened length ", opened.length as u64)?;
             print::labelled(out, b" entries ", opened.entries as u64)?;
             print::labelled(out, b" free ", opened.free as u64)
         }
-        Reply::Refused(reason) => print::labelled(out, b"refused ", reason as u64),
+        Err(refusal) => print::labelled(out, b"refused ", u32::from(refusal) as u64),
     }
 }
 
@@ -73,19 +73,12 @@ fn join(
     let joined = points::join::join(image, shared, number as u32);
     let reply = joined.reply;
     print::reply(out, reply, b"joined\n")?;
-    if is_done(reply) {
+    if reply.is_ok() {
         if number < 32 {
             records::save(places, number as usize, joined.point);
         }
     }
     Ok(joined.shared)
-}
-
-fn is_done(reply: Reply) -> bool {
-    match reply {
-        Reply::Done => true,
-        Reply::Refused(_) => false,
-    }
 }
 
 // The text of a write.
@@ -115,13 +108,13 @@ fn begin_with(
     let after = begun.point;
     let reply = begun.reply;
     match reply {
-        Reply::Done => {
+        Ok(()) => {
             let head = after.head;
             let write = head.write;
             print::line(out, b"begun run ", write.run as u64)?;
             records::save(places, p, after);
         }
-        Reply::Refused(reason) => print::refused(out, reason)?,
+        Err(refusal) => print::refused(out, refusal)?,
     }
     Ok(begun.shared)
 }
@@ -175,7 +168,7 @@ fn begin_read(
     let begun = points::begin::begin_read(image, shared, point, o.b as usize, o.c as usize);
     let reply = begun.reply;
     print::reply(out, reply, b"begun\n")?;
-    if is_done(reply) {
+    if reply.is_ok() {
         records::save(places, p, begun.point);
     }
     Ok(begun.shared)
@@ -221,7 +214,7 @@ fn leave(
     let left = points::leave::leave(image, shared, point);
     let reply = left.reply;
     print::reply(out, reply, b"left\n")?;
-    if is_done(reply) {
+    if reply.is_ok() {
         records::clear(places, p);
     }
     Ok(left.shared)

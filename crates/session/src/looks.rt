@@ -4,7 +4,7 @@ ghost use Rattle.std.specs.Prelude.{◌≤◌, ◌<◌};
 use crate::order::Order;
 use crate::records::Places;
 use crate::{digest, order, print, records};
-use block_log::{Reply, Shared};
+use block_log::Shared;
 use points::{Count, Point};
 use std::io;
 use std::io::Write;
@@ -29,8 +29,8 @@ fn print_bytes(out: &mut impl Write, buffer: &[u8], n: usize) -> io::Result<()> 
 fn print_read(out: &mut impl Write, count: Count, buffer: &[u8]) -> io::Result<()> {
     let reply = count.reply;
     match reply {
-        Reply::Done => print::labelled(out, b"read ", count.count as u64)?,
-        Reply::Refused(reason) => print::labelled(out, b"refused ", reason as u64)?,
+        Ok(()) => print::labelled(out, b"read ", count.count as u64)?,
+        Err(refusal) => print::labelled(out, b"refused ", u32::from(refusal) as u64)?,
     }
     print::line(out, b" digest ", digest::of_bytes(buffer))
 }
@@ -38,12 +38,12 @@ fn print_read(out: &mut impl Write, count: Count, buffer: &[u8]) -> io::Result<(
 fn print_shown(out: &mut impl Write, count: Count, buffer: &[u8]) -> io::Result<()> {
     let reply = count.reply;
     match reply {
-        Reply::Done => {
+        Ok(()) => {
             print::words(out, b"show")?;
             print_bytes(out, buffer, count.count as usize)?;
             print::words(out, b"\n")
         }
-        Reply::Refused(reason) => print::refused(out, reason),
+        Err(refusal) => print::refused(out, refusal),
     }
 }
 
@@ -78,8 +78,8 @@ fn locate(
     let count = points::locate::locate(image, shared, point, v);
     let reply = count.reply;
     match reply {
-        Reply::Done => print::line(out, b"located ", count.count as u64),
-        Reply::Refused(reason) => print::refused(out, reason),
+        Ok(()) => print::line(out, b"located ", count.count as u64),
+        Err(refusal) => print::refused(out, refusal),
     }
 }
 

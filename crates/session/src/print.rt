@@ -1,5 +1,5 @@
 // Writes words and numbers.
-use block_log::Reply;
+use block_log::{Refusal, Reply};
 use std::io;
 use std::io::Write;
 
@@ -32,14 +32,14 @@ pub fn hex(out: &mut impl Write, byte: u8) -> io::Result<()> {
     write!(out, "{byte:02x}")
 }
 
-pub fn refused(out: &mut impl Write, reason: u32) -> io::Result<()> {
-    line(out, b"refused ", reason as u64)
+pub fn refused(out: &mut impl Write, refusal: Refusal) -> io::Result<()> {
+    line(out, b"refused ", u32::from(refusal) as u64)
 }
 
 // The line of a call that is done, or why it was turned down.
 pub fn reply(out: &mut impl Write, reply: Reply, done: &[u8]) -> io::Result<()> {
     match reply {
-        Reply::Done => words(out, done),
-        Reply::Refused(reason) => refused(out, reason),
+        Ok(()) => words(out, done),
+        Err(refusal) => refused(out, refusal),
     }
 }

@@ -199,7 +199,7 @@ fn serve_in(
     let served = call(image, shared, heads, tables, texts, answers, writes, bytes);
     save(places, list, heads, tables, texts);
     if served.refused != 0 {
-        print::refused(out, served.refused)?;
+        print::line(out, b"refused ", served.refused as u64)?;
     } else {
         print_answers(out, list, answers)?;
     }

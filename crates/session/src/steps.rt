@@ -54,7 +54,7 @@ fn told_of(answer: StepAnswer, bytes: &[u8; 1024]) -> Told {
         StepAnswer::Moved => without_bytes(MOVED, 0),
         StepAnswer::Copied => without_bytes(COPIED, 0),
         StepAnswer::Committed(retries) => without_bytes(COMMITTED, retries as u32),
-        StepAnswer::Refused(reason) => without_bytes(REFUSED, reason),
+        StepAnswer::Refused(refusal) => without_bytes(REFUSED, refusal.into()),
         StepAnswer::Bytes(count) => Told {
             kind: BYTES,
             value: count,
