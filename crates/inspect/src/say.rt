@@ -1,4 +1,5 @@
 // Words and numbers, and the sentences of refusals and rules.
+use block_log::Refusal;
 use std::io;
 use std::io::Write;
 
@@ -20,50 +21,36 @@ pub fn value(out: &mut impl Write, text: &[u8], w: u64) -> io::Result<()> {
 }
 
 // The sentence of a refusal, 1 to 9.
-pub fn reason(out: &mut impl Write, number: u32) -> io::Result<()> {
-    if number == block_log::IMAGE_SIZE {
-        return words(
+pub fn reason(out: &mut impl Write, refusal: Refusal) -> io::Result<()> {
+    match refusal {
+        Refusal::ImageSize => words(
             out,
             b"the image is no multiple of 64 words, or not 4 to 1,024 blocks long\n",
-        );
-    }
-    if number == block_log::SCRATCH_SHORT {
-        return words(out, b"the scratch is shorter than 1,024 numbers\n");
-    }
-    if number == block_log::SUPERBLOCK_WRONG {
-        return words(
+        ),
+        Refusal::ScratchShort => words(out, b"the scratch is shorter than 1,024 numbers\n"),
+        Refusal::SuperblockWrong => words(
             out,
             b"the superblock has a wrong mark, or a word after word 1 that is not 0\n",
-        );
-    }
-    if number == block_log::LOG_INDEX_OUTSIDE {
-        return words(
+        ),
+        Refusal::LogIndexOutside => words(
             out,
             b"the first log index is 0, or an index of the log chain lies outside the image\n",
-        );
-    }
-    if number == block_log::CHAIN_ENDLESS {
-        return words(out, b"the log chain has not ended after 64 log blocks\n");
-    }
-    if number == block_log::LOG_BLOCK_WRONG {
-        return words(
+        ),
+        Refusal::ChainEndless => words(out, b"the log chain has not ended after 64 log blocks\n"),
+        Refusal::LogBlockWrong => words(
             out,
             b"a log block has a word 1 that is not 0, an entry after an empty one, or a next index though it is not full\n",
-        );
-    }
-    if number == block_log::ENTRY_WRONG {
-        return words(out, b"an entry of the log breaks the rules of entries\n");
-    }
-    if number == block_log::BLOCK_SHARED {
-        return words(
+        ),
+        Refusal::EntryWrong => words(out, b"an entry of the log breaks the rules of entries\n"),
+        Refusal::BlockShared => words(
             out,
             b"two blocks of the file share a block of the image, or one is a log block\n",
-        );
+        ),
+        _ => words(
+            out,
+            b"a byte at or past the file's end in its last block is not 0\n",
+        ),
     }
-    words(
-        out,
-        b"a byte at or past the file's end in its last block is not 0\n",
-    )
 }
 
 fn size_rule(out: &mut impl Write, rule: u32) -> io::Result<()> {
@@ -79,22 +66,24 @@ fn size_rule(out: &mut impl Write, rule: u32) -> io::Result<()> {
     words(out, b"an image has at most 1,024 blocks\n")
 }
 
-fn chain_rule(out: &mut impl Write, number: u32, rule: u32) -> io::Result<()> {
-    if number == block_log::SUPERBLOCK_WRONG {
-        if rule == 1 {
-            return words(
-                out,
-                b"word 0 of the superblock is the mark 0x0000004D494C4B31\n",
-            );
-        }
-        return words(out, b"words 2 to 63 of the superblock are 0\n");
+fn super_rule(out: &mut impl Write, rule: u32) -> io::Result<()> {
+    if rule == 1 {
+        return words(
+            out,
+            b"word 0 of the superblock is the mark 0x0000004D494C4B31\n",
+        );
     }
-    if number == block_log::LOG_INDEX_OUTSIDE {
-        if rule == 1 {
-            return words(out, b"the first log index is not 0\n");
-        }
-        return words(out, b"a log index is below the block count\n");
+    words(out, b"words 2 to 63 of the superblock are 0\n")
+}
+
+fn index_rule(out: &mut impl Write, rule: u32) -> io::Result<()> {
+    if rule == 1 {
+        return words(out, b"the first log index is not 0\n");
     }
+    words(out, b"a log index is below the block count\n")
+}
+
+fn chain_rule(out: &mut impl Write, rule: u32) -> io::Result<()> {
     if rule == 1 {
         return words(out, b"no log block is chained twice\n");
     }
@@ -136,38 +125,30 @@ fn entry_rule(out: &mut impl Write, rule: u32) -> io::Result<()> {
     words(out, b"an entry's blocks are in the image\n")
 }
 
-fn file_rule(out: &mut impl Write, number: u32, rule: u32) -> io::Result<()> {
-    if number == block_log::END_NOT_ZERO {
-        return words(
-            out,
-            b"the last live block is 0 at and past the file's end\n",
-        );
-    }
+fn shared_rule(out: &mut impl Write, rule: u32) -> io::Result<()> {
     if rule == 1 {
         return words(out, b"no live block is a log block\n");
     }
     words(out, b"no two virtual blocks share a live block\n")
 }
 
-// The text of a rule of a refusal's number.
-pub fn rule(out: &mut impl Write, n: u32, rule: u32) -> io::Result<()> {
-    number(out, b"rule ", n as u64)?;
+// The text of a refusal's rule.
+pub fn rule(out: &mut impl Write, refusal: Refusal, rule: u32) -> io::Result<()> {
+    number(out, b"rule ", u32::from(refusal) as u64)?;
     number(out, b".", rule as u64)?;
     words(out, b": ")?;
-    if n == block_log::IMAGE_SIZE {
-        return size_rule(out, rule);
+    match refusal {
+        Refusal::ImageSize => size_rule(out, rule),
+        Refusal::ScratchShort => words(out, b"a scratch has 1,024 numbers\n"),
+        Refusal::SuperblockWrong => super_rule(out, rule),
+        Refusal::LogIndexOutside => index_rule(out, rule),
+        Refusal::ChainEndless => chain_rule(out, rule),
+        Refusal::LogBlockWrong => block_rule(out, rule),
+        Refusal::EntryWrong => entry_rule(out, rule),
+        Refusal::BlockShared => shared_rule(out, rule),
+        _ => words(
+            out,
+            b"the last live block is 0 at and past the file's end\n",
+        ),
     }
-    if n == block_log::SCRATCH_SHORT {
-        return words(out, b"a scratch has 1,024 numbers\n");
-    }
-    if n < block_log::LOG_BLOCK_WRONG {
-        return chain_rule(out, n, rule);
-    }
-    if n == block_log::LOG_BLOCK_WRONG {
-        return block_rule(out, rule);
-    }
-    if n == block_log::ENTRY_WRONG {
-        return entry_rule(out, rule);
-    }
-    file_rule(out, n, rule)
 }

@@ -2,6 +2,7 @@
 ghost use Rattle.std.specs.Prelude.{◌≤◌, ◌<◌};
 
 use crate::say;
+use block_log::Refusal;
 use inspection::{Fault, Found};
 use std::io;
 use std::io::Write;
@@ -11,57 +12,54 @@ fn place(out: &mut impl Write, block: u64, word: u64) -> io::Result<()> {
     say::number(out, b" word ", word)
 }
 
-fn refused(out: &mut impl Write, n: u32) -> io::Result<()> {
-    say::number(out, b"refused ", n as u64)?;
+fn refused(out: &mut impl Write, refusal: Refusal) -> io::Result<()> {
+    say::number(out, b"refused ", u32::from(refusal) as u64)?;
     say::words(out, b": ")?;
-    say::reason(out, n)
+    say::reason(out, refusal)
 }
 
 // More bytes than an image can have.
 pub fn too_long(out: &mut impl Write) -> io::Result<()> {
-    refused(out, block_log::IMAGE_SIZE)?;
+    refused(out, Refusal::ImageSize)?;
     place(out, 1024, 0)?;
     say::words(out, b", more than 65536 words\n")?;
-    say::rule(out, block_log::IMAGE_SIZE, 3)
+    say::rule(out, Refusal::ImageSize, 3)
 }
 
 // The bytes end inside a word.
 pub fn broken_word(out: &mut impl Write, n: u64) -> io::Result<()> {
-    refused(out, block_log::IMAGE_SIZE)?;
+    refused(out, Refusal::ImageSize)?;
     place(out, n / 512, n % 512 / 8)?;
     say::number(out, b", bytes ", n)?;
     say::words(out, b"\n")?;
-    say::rule(out, block_log::IMAGE_SIZE, 0)
+    say::rule(out, Refusal::ImageSize, 0)
 }
 
-// What the place of a fault holds.
-fn held(out: &mut impl Write, fault: Fault) -> io::Result<()> {
-    if fault.number == block_log::IMAGE_SIZE {
+// What the place of a fault of this refusal holds.
+fn held(out: &mut impl Write, refusal: Refusal, fault: Fault) -> io::Result<()> {
+    if refusal == Refusal::ImageSize {
         return say::number(out, b", words ", fault.value);
     }
     say::value(out, b", value 0x", fault.value)?;
-    if fault.number == block_log::BLOCK_SHARED {
-        return say::number(out, b", virtual block ", fault.detail);
+    match refusal {
+        Refusal::BlockShared => say::number(out, b", virtual block ", fault.detail),
+        Refusal::EndNotZero => say::number(out, b", byte ", fault.detail),
+        _ => Ok(()),
     }
-    if fault.number == block_log::END_NOT_ZERO {
-        say::number(out, b", byte ", fault.detail)?;
-    }
-    Ok(())
 }
 
 // Whether the image opens, and if not, its fault; whether nothing more is to be said of it.
 pub fn verdict(out: &mut impl Write, fault: Fault) -> io::Result<bool> {
-    let n = fault.number;
-    if n == 0 {
+    let Err(refusal) = fault.reply else {
         say::words(out, b"opens\n")?;
         return Ok(false);
-    }
-    refused(out, n)?;
+    };
+    refused(out, refusal)?;
     place(out, fault.block, fault.word)?;
-    held(out, fault)?;
+    held(out, refusal, fault)?;
     say::words(out, b"\n")?;
-    say::rule(out, n, fault.rule)?;
-    if n == block_log::IMAGE_SIZE {
+    say::rule(out, refusal, fault.rule)?;
+    if refusal == Refusal::ImageSize {
         return Ok(true);
     }
     say::words(out, b"as far as it can be read:\n")?;

@@ -14,7 +14,7 @@ use Rattle.words.proofs.Logic.{all-every}
 use Rattle.words.proofs.Tests.{not-no, not-zero}
 use Rattle.block_log.specs.Chain.{chain, slots_of, outside}
 use Rattle.block_log.specs.Entry.{rules, legal}
-use Rattle.block_log.specs.Opening.{open_refusal}
+use Rattle.block_log.specs.Opening.{number_of, open_refusal}
 use Rattle.block_log.proofs.Opening.{Passed}
 use Rattle.block_log.proofs.Start.{chain-inside}
 use Rattle.inspection.specs.declared.Fault.{Fault}
@@ -69,7 +69,7 @@ module _ (E : Edition) (words scratch : List ℕ) where
         ∷ breaks9 E words scratch f
         ∷ []
 
-    pub by_number : (k : ℕ) → f.number ≡ suc k → get_or numbers k false ≡ true → breaks E words scratch f ≡ true
+    pub by_number : (k : ℕ) → number_of f.reply ≡ suc k → get_or numbers k false ≡ true → breaks E words scratch f ≡ true
     unfolding breaks
     by_number k n h = ap (rule_at numbers) n ∙ h
 
@@ -129,7 +129,7 @@ module _ (E : Edition) (words scratch : List ℕ) (e : open_refusal E words scra
     ),
   )
 
-  number : (entry_fault E (block_count E words) (memory E words) cs j).number ≡ 7
+  number : number_of (entry_fault E (block_count E words) (memory E words) cs j).reply ≡ 7
   unfolding entry_fault
   number = refl
 

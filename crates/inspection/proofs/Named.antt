@@ -11,6 +11,7 @@ use Rattle.words.specs.Edition.{Edition, one}
 use Rattle.words.specs.BlockMap.{taken}
 use Rattle.words.specs.Logic.{is_zero, all_of, member}
 use Rattle.words.specs.Memory.{Memory, block_at, word_at}
+use Rattle.block_log.specs.Refusals.{Refused}
 use Rattle.block_log.specs.Chain.{entries_from}
 use Rattle.block_log.specs.Entry.{rules}
 use Rattle.words.proofs.Tests.{is-zero, not-zero}
@@ -23,7 +24,7 @@ use Rattle.inspection.specs.Reading.{block_of, slot_of}
 -- ---- 1
 
 abbrev sized : ℕ → ℕ → ℕ → ℕ → Fault
-sized rule block word n = record { number = 1; rule = rule; block = block; word = word; value = n; detail = 0 }
+sized rule block word n = record { reply = Refused 1; rule = rule; block = block; word = word; value = n; detail = 0 }
 
 module _ (n blocks : ℕ) (e : blocks ≡ n / 64) where
   pub size-broken : 64 * blocks ≢ n → size_fault one n ≡ sized 1 blocks (n - 64 * blocks) n

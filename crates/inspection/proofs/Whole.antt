@@ -16,7 +16,7 @@ use Rattle.words.proofs.Memory.{size-facts}
 use Rattle.block_log.specs.CatchUp.{TakenIn}
 use Rattle.block_log.specs.Chain.{slots_of}
 use Rattle.block_log.specs.Entry.{legal}
-use Rattle.block_log.specs.Opening.{bad_entry, open_refusal, scratch_after}
+use Rattle.block_log.specs.Opening.{number_of, bad_entry, open_refusal, scratch_after}
 use Rattle.block_log.specs.Replay.{Mapped, empty_file, replay, replay_on}
 use Rattle.block_log.proofs.Cover.{fresh}
 use Rattle.block_log.proofs.Sound.{Sound, sound-fresh, sound-replay}
@@ -211,7 +211,7 @@ module _ (words before : List ℕ) where
   pub inspects : (after : List ℕ) (r : Inspected) → r ≡ inspected one words before → after ≡ scratch_after one words before → Inspects words before after r
   inspects after r e s =
       let f : r.fault ≡ first_fault one words before = ap (λ (i : Inspected). i.fault) e ∙ fault-is in
-      let n = ap (λ (g : Fault). g.number) f ∙ fault-number one words before (refusal-at-most-9 one words before) in
+      let n = ap (λ (g : Fault). number_of g.reply) f ∙ fault-number one words before (refusal-at-most-9 one words before) in
       record {
         answer = e;
         number = n;

@@ -5,7 +5,7 @@ use Rattle.words.specs.Logic.{list_from}
 use Rattle.words.specs.Memory.{Memory, memory, block_count, wrong_size}
 use Rattle.words.specs.BlockMap.{free_count}
 use Rattle.block_log.specs.Chain.{chain, log}
-use Rattle.block_log.specs.Opening.{open_refusal, scratch_after}
+use Rattle.block_log.specs.Opening.{number_of, open_refusal, scratch_after}
 use Rattle.inspection.specs.declared.Fault.{Fault}
 use Rattle.inspection.specs.declared.Found.{Found}
 use Rattle.inspection.specs.declared.Inspected.{Inspected}
@@ -79,7 +79,7 @@ Agrees words scratch =
 -- read of an image that opens is its log
 pub record Inspects (words before after : List ℕ) (r : Inspected) : Type 0 where
   pub answer : r ≡ inspected one words before
-  pub number : r.fault.number ≡ open_refusal one words before
-  pub place : r.fault.number ≢ 0 → breaks one words before r.fault ≡ true
+  pub number : number_of r.fault.reply ≡ open_refusal one words before
+  pub place : number_of r.fault.reply ≢ 0 → breaks one words before r.fault ≡ true
   pub opens : Agrees words before
   pub scratch : after ≡ scratch_after one words before

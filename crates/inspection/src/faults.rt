@@ -4,7 +4,7 @@ ghost use Rattle.words.specs.Edition.{one};
 ghost use Rattle.words.specs.Logic.{is_zero, one_if};
 ghost use Rattle.words.specs.Memory.{memory, block_at};
 ghost use Rattle.block_log.specs.Entry.{rules};
-ghost use Rattle.block_log.specs.Refusals.{number};
+ghost use Rattle.block_log.specs.Refusals.{Refused, number};
 ghost use Rattle.block_log.specs.Opening.{number_of, open_refusal};
 ghost use Rattle.inspection.specs.Reading.{block_of};
 ghost use Rattle.inspection.specs.Parts.{HasFirst, Readings, MapOfChain, clashes_at, first_clash, shared_by};
@@ -20,7 +20,7 @@ fn fault_at(image: &[u64], refusal: Refusal, rule: u32, block: u64, word: u64, d
 {
     let value = words::image::word(words::image::block(image, block as usize), word as usize);
     Fault {
-        number: refusal.into(),
+        reply: Err(refusal),
         rule,
         block,
         word,
@@ -31,10 +31,10 @@ fn fault_at(image: &[u64], refusal: Refusal, rule: u32, block: u64, word: u64, d
 
 // 1. The image is no multiple of 64 words or not 4 to 1,024 blocks.
 fn wrong_size(rule: u32, block: usize, word: usize, size: usize) -> Fault
-    ensures { result ≡ record { number = 1; rule = rule; block = block; word = word; value = size; detail = 0 } }
+    ensures { result ≡ record { reply = Refused 1; rule = rule; block = block; word = word; value = size; detail = 0 } }
 {
     Fault {
-        number: Refusal::ImageSize.into(),
+        reply: Err(Refusal::ImageSize),
         rule,
         block: block as u64,
         word: word as u64,
@@ -61,7 +61,7 @@ fn scratch_fault(size: usize) -> Fault
     ensures { result ≡ scratch_fault size }
 {
     Fault {
-        number: Refusal::ScratchShort.into(),
+        reply: Err(Refusal::ScratchShort),
         rule: 1,
         block: 0,
         word: 0,
@@ -342,7 +342,7 @@ fn no_fault() -> Fault
     ensures { result ≡ no_fault }
 {
     Fault {
-        number: 0,
+        reply: Ok(()),
         rule: 0,
         block: 0,
         word: 0,

@@ -10,11 +10,11 @@ ghost use Rattle.inspection.specs.Inspecting.{inspected_with, unread, Inspects};
 
 use block_log::Reply;
 
-// A rule that an image breaks: opening's number, 0 for none; which of that number's rules, from 1 on; the place, a block and a word in it, and what it
+// A rule that an image breaks: opening's reply; which of that refusal's rules, from 1 on; the place, a block and a word in it, and what it
 // holds; and for 8 the virtual block, for 9 the byte in the block.
 #[derive(Clone, Copy)]
 pub struct Fault {
-    pub number: u32,
+    pub reply: Reply,
     pub rule: u32,
     pub block: u64,
     pub word: u64,
