@@ -17,7 +17,7 @@ use Rattle.block_log.specs.Entry.{rules, legal}
 use Rattle.block_log.specs.Opening.{open_refusal}
 use Rattle.block_log.proofs.Opening.{Passed}
 use Rattle.block_log.proofs.Start.{chain-inside}
-use Rattle.inspection.specs.declared.Fault.{Fault}
+use Rattle.inspection.specs.Told.{Fault}
 use Rattle.inspection.specs.Breaks.{rule_at, breaks, breaks1, breaks2, breaks3, breaks4, breaks5, breaks6, breaks7, breaks8, breaks9, holds}
 use Rattle.inspection.specs.Faults.{first_fault, block_fault, first_bad, entry_fault, first_broken, shared_fault, end_fault}
 use Rattle.inspection.specs.Reading.{read_chain, read_log, read_file, block_of, slot_of}

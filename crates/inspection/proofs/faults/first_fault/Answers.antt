@@ -1,96 +1,78 @@
--- By opening's number: each fault is found in the arrays of what was read, as the definitions find it in their lists.
-use mathlib.Core.Path.{sym, ap, ◌∙◌}
+-- By opening's number: each fault is found in what was read as the definitions find it.
+use mathlib.Core.Path.{◌≡◌, sym, ap, ◌∙◌}
+use mathlib.Core.Logic.{inl, inr}
 use mathlib.Core.List.{List}
 use Prim.Native.Nat.{ℕ}
 use native.Mathlib.Omega.{arith}
-use lib.ListN.{replicate, length-replicate}
+use lib.ListN.{length, replicate, length-replicate}
 use Rattle.words.specs.Edition.{one}
 use Rattle.words.specs.Memory.{memory, block_count}
 use Rattle.inspection.specs.Faults.{scratch_fault, index_fault, endless_fault, block_fault, first_bad, entry_fault, end_fault}
 use Rattle.inspection.specs.Reading.{read_chain}
-use Rattle.inspection.proofs.Given.{few, first-blocks, has-blocks, logs-known, entries-few, has-entries, rows-wide, at_block, end_is, is-nine}
-use Rattle.inspection.proofs.Given.{named-0, named-2, named-3, named-4, named-5, entry-array, clash-few, shared_is}
-use Rattle.inspection.proofs.Late.{named-6, named-7, named-8, named-9, seven-inside}
+use Rattle.inspection.proofs.Given.{logs-known, end_is, past-one, named-0, named-2, named-3, named-4, named-5, clash-few, shared_is}
+use Rattle.inspection.proofs.Known.{refusal-at-most-9}
+use Rattle.inspection.proofs.Late.{named-6, named-7, named-8, named-9}
 use Rattle.inspection.proofs.LateEnd.{nine-size}
 use Rattle.inspection.proofs.faults.first_fault.Goals as goal
+use Rattle.inspection.proofs.faults.first_fault.Goals.{In_default}
 
-pub returns-then-number-eq0 : goal.returns-then-number-eq0
-returns-then-number-eq0 c = let g = c.requires.0 in
-    let words = c.args.image.now in
-    let scratch = replicate {A = ℕ} c.args.room 0 in
-    c.no_fault.ensures ∙ sym (named-0 words scratch (sym c.requires.1 ∙ c.if-number-eq0.true))
+pub returns-in-0 : goal.returns-in-0
+returns-in-0 c = sym (named-0 c.args.image.now (replicate {A = ℕ} c.args.room 0) (sym c.requires.1 ∙ c.in-0.is))
 
-pub returns-then-number-eq-SCRATCH_SHORT : goal.returns-then-number-eq-SCRATCH_SHORT
-returns-then-number-eq-SCRATCH_SHORT c = let g = c.requires.0 in
-    let words = c.args.image.now in
-    let scratch = replicate {A = ℕ} c.args.room 0 in
-    c.scratch_fault.ensures ∙ ap scratch_fault (sym (length-replicate {A = ℕ} c.args.room 0)) ∙ sym (named-2 words scratch (sym c.requires.1 ∙ c.if-number-eq-SCRATCH_SHORT.true))
+pub returns-in-2 : goal.returns-in-2
+returns-in-2 c = c.scratch_fault.ensures ∙ ap scratch_fault (sym (length-replicate {A = ℕ} c.args.room 0))
+    ∙ sym (named-2 c.args.image.now (replicate {A = ℕ} c.args.room 0) (sym c.requires.1 ∙ c.in-2.is))
 
-pub returns-then-number-eq-SUPERBLOCK_WRONG : goal.returns-then-number-eq-SUPERBLOCK_WRONG
-returns-then-number-eq-SUPERBLOCK_WRONG c = let g = c.requires.0 in
-    let words = c.args.image.now in
-    let scratch = replicate {A = ℕ} c.args.room 0 in
-    c.super_fault.ensures ∙ sym (named-3 words scratch (sym c.requires.1 ∙ c.if-number-eq-SUPERBLOCK_WRONG.true))
+pub returns-in-3 : goal.returns-in-3
+returns-in-3 c = c.super_fault.ensures ∙ sym (named-3 c.args.image.now (replicate {A = ℕ} c.args.room 0) (sym c.requires.1 ∙ c.in-3.is))
 
-pub index_fault-requires : goal.index_fault-requires
-index_fault-requires c = let g = c.requires.0 in (few g, has-blocks g)
-
-pub returns-then-number-eq-LOG_INDEX_OUTSIDE : goal.returns-then-number-eq-LOG_INDEX_OUTSIDE
-returns-then-number-eq-LOG_INDEX_OUTSIDE c = let g = c.requires.0 in
-    let words = c.args.image.now in
-    let scratch = replicate {A = ℕ} c.args.room 0 in
-    c.index_fault.ensures ∙ ap (index_fault (memory one words)) (first-blocks g) ∙ sym (named-4 words scratch (sym c.requires.1 ∙ c.if-number-eq-LOG_INDEX_OUTSIDE.true))
+pub returns-in-4 : goal.returns-in-4
+returns-in-4 c = let words = c.args.image.now in
+    c.index_fault.ensures ∙ ap (index_fault (memory one words)) c.requires.0.chain
+    ∙ sym (named-4 words (replicate {A = ℕ} c.args.room 0) (sym c.requires.1 ∙ c.in-4.is))
 
 pub endless_fault-requires : goal.endless_fault-requires
-endless_fault-requires c = let g = c.requires.0 in (few g, has-blocks g, logs-known g)
+endless_fault-requires c = logs-known c.requires.0
 
-pub returns-then-number-eq-CHAIN_ENDLESS : goal.returns-then-number-eq-CHAIN_ENDLESS
-returns-then-number-eq-CHAIN_ENDLESS c = let g = c.requires.0 in
+pub returns-in-5 : goal.returns-in-5
+returns-in-5 c = let words = c.args.image.now in
+    c.endless_fault.ensures ∙ ap (endless_fault (memory one words)) c.requires.0.chain
+    ∙ sym (named-5 words (replicate {A = ℕ} c.args.room 0) (sym c.requires.1 ∙ c.in-5.is))
+
+pub returns-in-6 : goal.returns-in-6
+returns-in-6 c = let words = c.args.image.now in
+    c.log_fault.ensures ∙ ap (λ (cs : List ℕ). block_fault (memory one words) (first_bad (memory one words) cs)) c.requires.0.chain
+    ∙ sym (named-6 one words (replicate {A = ℕ} c.args.room 0) (sym c.requires.1 ∙ c.in-6.is))
+
+pub returns-in-7 : goal.returns-in-7
+returns-in-7 c = let g = c.requires.0 in
     let words = c.args.image.now in
-    let scratch = replicate {A = ℕ} c.args.room 0 in
-    c.endless_fault.ensures ∙ ap (endless_fault (memory one words)) (first-blocks g) ∙ sym (named-5 words scratch (sym c.requires.1 ∙ c.if-number-eq-CHAIN_ENDLESS.true))
-
-pub log_fault-requires : goal.log_fault-requires
-log_fault-requires c = let g = c.requires.0 in (few g, has-blocks g)
-
-pub returns-then-number-eq-LOG_BLOCK_WRONG : goal.returns-then-number-eq-LOG_BLOCK_WRONG
-returns-then-number-eq-LOG_BLOCK_WRONG c = let g = c.requires.0 in
-    let words = c.args.image.now in
-    let scratch = replicate {A = ℕ} c.args.room 0 in
-    c.log_fault.ensures ∙ ap (λ (cs : List ℕ). block_fault (memory one words) (first_bad (memory one words) cs)) (first-blocks g)
-    ∙ sym (named-6 one words scratch (sym c.requires.1 ∙ c.if-number-eq-LOG_BLOCK_WRONG.true))
-
-pub entry_fault-requires : goal.entry_fault-requires
-entry_fault-requires c = let g = c.requires.0 in
-    omega (arith, g.entry_count, g.count, few g, seven-inside c.args.image.now (replicate c.args.room 0) (sym c.requires.1 ∙ c.if-number-eq-ENTRY_WRONG.true))
-
-pub returns-then-number-eq-ENTRY_WRONG : goal.returns-then-number-eq-ENTRY_WRONG
-returns-then-number-eq-ENTRY_WRONG c = let g = c.requires.0 in
-    let words = c.args.image.now in
-    let scratch = replicate {A = ℕ} c.args.room 0 in
-    c.entry_fault.ensures (block_count one words) ∙ entry-array words scratch c.args.chain.now c.args.n (at_block g)
-    ∙ ap (entry_fault one (block_count one words) (memory one words) (read_chain (block_count one words) (memory one words))) g.entry_count
-    ∙ sym (named-7 one words scratch (sym c.requires.1 ∙ c.if-number-eq-ENTRY_WRONG.true))
+    c.entry_fault.ensures (block_count one words)
+    ∙ ap (λ (cs : List ℕ). entry_fault one (block_count one words) (memory one words) cs (length c.args.entries.now)) g.chain
+    ∙ ap (entry_fault one (block_count one words) (memory one words) (read_chain (block_count one words) (memory one words))) (ap length g.entries)
+    ∙ sym (named-7 one words (replicate {A = ℕ} c.args.room 0) (sym c.requires.1 ∙ c.in-7.is))
 
 pub shared_fault-requires : goal.shared_fault-requires
-shared_fault-requires c = let g = c.requires.0 in
-    let e = sym c.requires.1 ∙ c.if-number-eq-BLOCK_SHARED.true in
-    (entries-few g, has-entries g, rows-wide g, clash-few g (replicate c.args.room 0) e)
+shared_fault-requires c = clash-few c.requires.0 (replicate c.args.room 0) (sym c.requires.1 ∙ c.in-8.is)
 
-pub returns-then-number-eq-BLOCK_SHARED : goal.returns-then-number-eq-BLOCK_SHARED
-returns-then-number-eq-BLOCK_SHARED c = let g = c.requires.0 in
-    let words = c.args.image.now in
+pub returns-in-8 : goal.returns-in-8
+returns-in-8 c = let scratch = replicate {A = ℕ} c.args.room 0 in
+    let e = sym c.requires.1 ∙ c.in-8.is in
+    c.shared_fault.ensures ∙ shared_is c.requires.0 scratch e ∙ sym (named-8 one c.args.image.now scratch e)
+
+-- past all other numbers it is 9
+nine : (c : In_default) → c.args.number ≡ 9
+nine c = let words = c.args.image.now in
     let scratch = replicate {A = ℕ} c.args.room 0 in
-    let e = sym c.requires.1 ∙ c.if-number-eq-BLOCK_SHARED.true in
-    c.shared_fault.ensures ∙ shared_is g scratch e ∙ sym (named-8 one words scratch e)
+    elim (past-one words scratch c.args.number c.requires.1 c.requires.0.size) [
+      | inl z ↦ omega (arith, z)
+      | inr h ↦ omega (arith, h, c.requires.1, refusal-at-most-9 one words scratch)
+    ]
 
 pub end_fault-requires : goal.end_fault-requires
-end_fault-requires c = let g = c.requires.0 in
-    let e = sym c.requires.1 ∙ (is-nine c.args.image.now (replicate c.args.room 0) c.args.number c.requires.1 c.requires.0.size c.if-number-eq0.false c.if-number-eq-SCRATCH_SHORT.false c.if-number-eq-SUPERBLOCK_WRONG.false c.if-number-eq-LOG_INDEX_OUTSIDE.false c.if-number-eq-CHAIN_ENDLESS.false c.if-number-eq-LOG_BLOCK_WRONG.false c.if-number-eq-ENTRY_WRONG.false c.if-number-eq-BLOCK_SHARED.false) in
-    rw (sym (end_is g)) at (nine-size c.args.image.now (replicate c.args.room 0) e)
+end_fault-requires c = rw (sym (end_is c.requires.0)) at (nine-size c.args.image.now (replicate c.args.room 0) (sym c.requires.1 ∙ nine (goal.at.end_fault-requires c).In_default))
 
-pub returns : goal.returns
-returns c = let g = c.requires.0 in
-    let words = c.args.image.now in
-    let e = sym c.requires.1 ∙ (is-nine c.args.image.now (replicate c.args.room 0) c.args.number c.requires.1 c.requires.0.size c.if-number-eq0.false c.if-number-eq-SCRATCH_SHORT.false c.if-number-eq-SUPERBLOCK_WRONG.false c.if-number-eq-LOG_INDEX_OUTSIDE.false c.if-number-eq-CHAIN_ENDLESS.false c.if-number-eq-LOG_BLOCK_WRONG.false c.if-number-eq-ENTRY_WRONG.false c.if-number-eq-BLOCK_SHARED.false) in
-    c.end_fault.ensures ∙ ap (end_fault one (memory one words)) g.file ∙ sym (named-9 one words (replicate c.args.room 0) e)
+pub returns-in_default : goal.returns-in_default
+returns-in_default c = let words = c.args.image.now in
+    c.end_fault.ensures ∙ ap (end_fault one (memory one words)) c.requires.0.file
+    ∙ sym (named-9 one words (replicate {A = ℕ} c.args.room 0) (sym c.requires.1 ∙ nine (goal.at.returns-in_default c).In_default))
