@@ -3,8 +3,8 @@ use Rattle.std.specs.Prelude.{ℕ, List, [], ◌∷◌, Option, None, Some}
 use Rattle.inspection.specs.declared.Fault.{Fault as Held}
 use Rattle.inspection.specs.declared.Found.{Found}
 use Rattle.inspection.specs.declared.Rule.{Rule}
-use Rattle.inspection.specs.declared.Rule.TheVariants.{WholeBlocks, FewestBlocks, MostBlocks, ScratchLong, Mark, SuperblockZeros, FirstLogIndex, LogIndexInside}
-use Rattle.inspection.specs.declared.Rule.TheVariants.{ChainedOnce, ChainEnds, LogBlockZero, NoEntryAfterEmpty, LinkOfFull}
+use Rattle.inspection.specs.declared.Rule.TheVariants.{WholeBlocks, FewestBlocks, MostBlocks, ScratchLong, Mark, SuperblockZeros, FirstLogIndex}
+use Rattle.inspection.specs.declared.Rule.TheVariants.{LogIndexInside, ChainedOnce, ChainEnds, LogBlockZero, NoEntryAfterEmpty, LinkOfFull}
 use Rattle.inspection.specs.declared.Rule.TheVariants.{FewestMapped, MostMapped, FewestUsed, MostUsed, EntryZeros, VirtualBlocks, NotBlockZero, BlocksInside}
 use Rattle.inspection.specs.declared.Rule.TheVariants.{NoLogBlock, NotShared, EndZeros}
 use Rattle.inspection.specs.declared.Use.{Use}

@@ -8,8 +8,8 @@ ghost use Rattle.block_log.specs.Opening.{open_refusal};
 ghost use Rattle.inspection.specs.Told.{rule_number, rule_place, told, fault_told};
 ghost use Rattle.inspection.specs.Reading.{block_of, slot_of};
 ghost use Rattle.inspection.specs.Parts.{Readings, MapOfChain, clashes_at, first_clash, shared_by};
-ghost use Rattle.inspection.specs.Faults.{first_fault, fault_at, size_fault, scratch_fault, zeros_ahead, super_fault, last_of, link_word, index_fault, endless_fault};
-ghost use Rattle.inspection.specs.Faults.{first_bad, block_fault, first_broken, entry_fault, last_covering, first_byte, end_fault};
+ghost use Rattle.inspection.specs.Faults.{first_fault, fault_at, size_fault, scratch_fault, zeros_ahead, super_fault, last_of, link_word};
+ghost use Rattle.inspection.specs.Faults.{index_fault, endless_fault, first_bad, block_fault, first_broken, entry_fault, last_covering, first_byte, end_fault};
 
 use crate::{Fault, Rule};
 
