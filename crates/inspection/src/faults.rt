@@ -13,6 +13,16 @@ ghost use Rattle.inspection.specs.Faults.{index_fault, endless_fault, first_bad,
 
 use crate::{Fault, Rule};
 
+// What was read of an image: its log blocks and the map of them, its entries, and the table and the length of the file that these give.
+#[derive(Clone, Copy)]
+pub struct Reading<'a> {
+    pub chain: &'a [u16],
+    pub logs: [u64; 16],
+    pub entries: &'a [u64],
+    pub table: &'a [u16; 256],
+    pub length: u32,
+}
+
 // A rule is broken by a word of the image.
 fn fault_at(image: &[u64], rule: Rule, block: u64, word: u64, detail: u64) -> Fault
     ensures { told result ≡ fault_at (memory one image.now) (rule_number rule) (rule_place rule) block word detail }
@@ -266,21 +276,15 @@ fn last_covering(entries: &[u64], v: u32) -> usize
 }
 
 // 8. Two virtual blocks share a live block, or a live block is a log block. The map has the log blocks.
-fn shared_fault(
-    image: &[u64],
-    chain: &[u16],
-    logs: [u64; 16],
-    entries: &[u64],
-    table: &[u16; 256],
-) -> Fault
-    requires { first_clash logs table.now < 256 }
-    ensures { told result ≡ shared_by one (memory one image.now) chain.now logs entries.now table.now }
+fn shared_fault(image: &[u64], read: Reading) -> Fault
+    requires { first_clash read.logs read.table.now < 256 }
+    ensures { told result ≡ shared_by one (memory one image.now) read.entry.chain.now read.entry.logs read.entry.entries.now read.entry.table.now }
 {
-    let v = first_shared(logs, table);
-    let j = last_covering(entries, v as u32);
-    let b = block_of(chain, j);
+    let v = first_shared(read.logs, read.table);
+    let j = last_covering(read.entries, v as u32);
+    let b = block_of(read.chain, j);
     let i = slot_of(j);
-    if words::map::is_taken(&logs, usize::from(table[v])) {
+    if words::map::is_taken(&read.logs, usize::from(read.table[v])) {
         return fault_at(image, Rule::NoLogBlock, b, i, v as u64);
     }
     fault_at(image, Rule::NotShared, b, i, v as u64)
@@ -322,28 +326,20 @@ fn end_fault(image: &[u64], table: &[u16; 256], size: u32) -> Fault
 }
 
 // The first fault of an image of a right size, by opening's number and by what was read. `room` is the scratch's length.
-pub(crate) fn first_fault(
-    image: &[u64],
-    room: usize,
-    number: u32,
-    chain: &[u16],
-    logs: [u64; 16],
-    entries: &[u64],
-    table: &[u16; 256],
-    size: u32,
-) -> Option<Fault>
-    requires { Readings image.now chain.now logs entries.now table.now size × (number ≡ open_refusal one image.now (replicate room 0)) }
+pub(crate) fn first_fault(image: &[u64], room: usize, number: u32, read: Reading) -> Option<Fault>
+    requires readings { Readings image.now read.chain.now read.logs read.entries.now read.table.now read.length }
+    requires opened { number ≡ open_refusal one image.now (replicate room 0) }
     ensures { fault_told result ≡ first_fault one image.now (replicate room 0) }
 {
     match number {
         0 => None,
         block_log::SCRATCH_SHORT => Some(scratch_fault(room)),
         block_log::SUPERBLOCK_WRONG => Some(super_fault(image)),
-        block_log::LOG_INDEX_OUTSIDE => Some(index_fault(image, chain)),
-        block_log::CHAIN_ENDLESS => Some(endless_fault(image, chain, &logs)),
-        block_log::LOG_BLOCK_WRONG => Some(log_fault(image, chain)),
-        block_log::ENTRY_WRONG => Some(entry_fault(image, chain, entries.len())),
-        block_log::BLOCK_SHARED => Some(shared_fault(image, chain, logs, entries, table)),
-        _ => Some(end_fault(image, table, size)),
+        block_log::LOG_INDEX_OUTSIDE => Some(index_fault(image, read.chain)),
+        block_log::CHAIN_ENDLESS => Some(endless_fault(image, read.chain, &read.logs)),
+        block_log::LOG_BLOCK_WRONG => Some(log_fault(image, read.chain)),
+        block_log::ENTRY_WRONG => Some(entry_fault(image, read.chain, read.entries.len())),
+        block_log::BLOCK_SHARED => Some(shared_fault(image, read)),
+        _ => Some(end_fault(image, read.table, read.length)),
     }
 }

@@ -10,6 +10,7 @@ ghost use Rattle.inspection.specs.Faults.{first_fault};
 ghost use Rattle.inspection.specs.Inspecting.{inspected_with, unread, Inspects};
 
 use block_log::Reply;
+use faults::Reading;
 use std::marker::Model;
 
 // What an image has to keep (docs/INSPECT.md): the rules of opening's refusals, one refusal after the other.
@@ -240,7 +241,14 @@ fn inspect_blocks(image: &[u64], room: usize, number: u32) -> Inspected
     words::map::take_block(&mut taken, 0);
     read::take_rows(&table, &mut taken);
     let uses = read::uses(&logs, &taken);
-    let fault = faults::first_fault(image, room, number, log_blocks, logs, log, &table, length);
+    let read = Reading {
+        chain: log_blocks,
+        logs,
+        entries: log,
+        table: &table,
+        length,
+    };
+    let fault = faults::first_fault(image, room, number, read);
     let found = Found {
         chained: chained.count as u32,
         entries: n as u32,

@@ -52,7 +52,7 @@ replay-length-requires c = let at = goal.at.replay-length-requires c in
     log-ready c.args.image.now c.requires.0 (chained at.After-read_chain-chained) (logged at.After-read_log-n)
 
 pub first_fault-fault-requires : goal.first_fault-fault-requires
-first_fault-fault-requires c = (all (goal.at.first_fault-fault-requires c).After-replay-length, c.requires.1)
+first_fault-fault-requires c = record { readings = all (goal.at.first_fault-fault-requires c).After-replay-length; opened = c.requires.1 }
 
 pub overflow_cast-found-3 : goal.overflow_cast-found-3
 overflow_cast-found-3 c = let f = c.free_count.ensures in
