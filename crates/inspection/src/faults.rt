@@ -15,7 +15,7 @@ use crate::{Fault, Rule};
 
 // What was read of an image: its log blocks and the map of them, its entries, and the table and the length of the file that these give.
 #[derive(Clone, Copy)]
-pub struct Reading<'a> {
+pub(crate) struct Reading<'a> {
     pub chain: &'a [u16],
     pub logs: [u64; 16],
     pub entries: &'a [u64],
@@ -267,6 +267,7 @@ fn first_shared(logs: [u64; 16], table: &[u16; 256]) -> usize
 fn last_covering(entries: &[u64], v: u32) -> usize
     ensures { result ≡ last_covering v entries.now }
 {
+    // Stays: `entries.iter().rposition(..).unwrap_or(0)` left open that its answer is `last_covering`: no word for lists says what `rposition` finds.
     for j in (0..entries.len()).rev() {
         if block_log::ahead::covers(entries[j], v) {
             return j;
