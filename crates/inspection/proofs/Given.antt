@@ -1,25 +1,22 @@
 -- What the search for the first fault goes by: from the arrays of what was read, the lists of the definitions.
 use mathlib.Core.Path.{◌≡◌, refl, sym, ap, ◌∙◌}
 use mathlib.Core.Logic.{◌⊎◌, inl, inr}
-use mathlib.Core.List.{List, [], ◌∷◌, ◌++◌}
+use mathlib.Core.List.{List, [], ◌∷◌}
 use mathlib.Core.Bool.{false}
-use Prim.Native.Nat.{ℕ, zero, suc, ◌*◌, ◌≤◌, ◌<◌}
+use Prim.Native.Nat.{ℕ, zero, suc, ◌≤◌, ◌<◌}
 use native.Mathlib.Omega.{arith}
-use lib.ListN.{length, get_or, take, drop, replicate, length-replicate}
+use lib.ListN.{length, take, drop, replicate}
 use lib.Seq.{take-append_seam}
 use borrow.Author.Tests.{ne_eqb}
 use Rattle.words.specs.Edition.{one}
 use Rattle.words.specs.Logic.{member}
 use Rattle.words.specs.Memory.{Memory, memory, block_count, wrong_size}
-use Rattle.words.proofs.Logic.{zeros-at}
 use Rattle.words.proofs.MapOf.{Below, taken-set_all-zero, sound-zeros, zeros-free}
 use Rattle.words.proofs.Memory.{size-facts}
 use Rattle.words.proofs.Tests.{no_true}
-use Rattle.block_log.specs.Chain.{slots_of}
 use Rattle.block_log.specs.Opening.{open_refusal}
-use Rattle.block_log.specs.Replay.{Mapped, empty_file, replay}
+use Rattle.block_log.specs.Replay.{Mapped}
 use Rattle.block_log.proofs.Chain.{Positive, outside_below, inside-outside}
-use Rattle.block_log.proofs.Replay.{length-table}
 use Rattle.inspection.specs.Reading.{read_chain, read_log, read_file}
 use Rattle.inspection.specs.Inspecting.{padded}
 use Rattle.inspection.specs.Faults.{no_fault, scratch_fault, super_fault, index_fault, endless_fault, shared_fault, first_fault}
@@ -27,25 +24,9 @@ use Rattle.inspection.specs.Parts.{MapOfChain, Readings, map_with, first_clash, 
 use Rattle.inspection.proofs.ChainRead.{read-facts}
 use Rattle.inspection.proofs.Clash.{with-taken}
 use Rattle.inspection.proofs.LateShared.{eight-found, eight-same}
-use Rattle.inspection.proofs.Legal.{while-le}
-use Rattle.inspection.proofs.Places.{place-count}
 use Rattle.inspection.proofs.Known.{known-1}
 
 -- ---- a list with zeros behind it
-
--- reads as the list does
-pub get_d-padded : (n : ℕ) (xs : List ℕ) (i : ℕ) → get_or (padded n xs) i 0 ≡ get_or xs i 0
-get_d-padded n xs i = go xs (drop (length xs) (replicate n 0)) i (λ k. zero-behind n (length xs) k)
-  where
-    zero-behind : (n k i : ℕ) → ◌≡◌ {A = ℕ} (get_or (drop k (replicate n 0)) i 0) 0
-    zero-behind n zero i = zeros-at n i
-    zero-behind zero (suc k) i = refl
-    zero-behind (suc n) (suc k) i = zero-behind n k i
-
-    go : (xs ys : List ℕ) (i : ℕ) → ((k : ℕ) → get_or ys k 0 ≡ 0) → get_or (xs ++ ys) i 0 ≡ get_or xs i 0
-    go [] ys i z = z i
-    go (x ∷ xs) ys zero z = refl
-    go (x ∷ xs) ys (suc i) z = go xs ys i z
 
 -- its first so many are the list
 pub take-padded : (n : ℕ) (xs : List ℕ) (k : ℕ) → k ≡ length xs → take k (padded n xs) ≡ xs
@@ -78,9 +59,6 @@ module _ {words chained map written rows : List ℕ} {end : ℕ} (g : Readings w
 
   pub chain-below : Below cs
   chain-below = outside_below cs (inside-outside blocks 1024 cs blocks-few (read-facts blocks (memory one words)).0)
-
-  pub few : length chained ≤ 64
-  few = omega (arith, ap length g.chain, (read-facts blocks (memory one words)).1)
 
   pub logs-known : MapOfChain map chained
   logs-known = rw (g.chain, g.logs) (map-known cs chain-below (read-facts blocks (memory one words)).2)
@@ -132,20 +110,6 @@ module _ (words scratch : List ℕ) where
 -- ---- 8, from what was read
 
 module _ {words chained map written rows : List ℕ} {end : ℕ} (g : Readings words chained map written rows end) where
-  slots-count : length (slots_of (memory one words) (cs g)) ≡ 62 * length (cs g)
-  slots-count = place-count one words (cs g) (read-facts (blocks g) (memory one words)).0
-
-  log-few : length (es g) ≤ length (slots_of (memory one words) (cs g))
-  unfolding read_log
-  log-few = while-le one (blocks g) (slots_of (memory one words) (cs g))
-
-  pub entries-few : length written ≤ 3968
-  entries-few = omega (arith, ap length g.entries, (read-facts (blocks g) (memory one words)).1, log-few, slots-count)
-
-  pub rows-wide : length rows ≡ 256
-  unfolding read_file replay
-  rows-wide = ap length (rows_are g) ∙ length-table one empty_file (es g) ∙ length-replicate {A = ℕ} 256 0
-
   module _ (scratch : List ℕ) (e : open_refusal one words scratch ≡ 8) where
     pub clash-few : first_clash map rows < 256
     clash-few = rw (g.logs, rows_are g) (eight-found words scratch e)

@@ -14,7 +14,7 @@ use lib.ListN.{length, get_or, drop, drop_of_length-le}
 use lib.Seq.{drop-cons}
 use borrow.Author.Tests.{le-leb, lt-leb, eq-eqb, ne_eqb}
 use Rattle.words.specs.Edition.{one}
-use Rattle.words.specs.BlockMap.{taken, set_all}
+use Rattle.words.specs.BlockMap.{set_all}
 use Rattle.words.specs.Logic.{some_of}
 use Rattle.words.specs.Memory.{Memory, block_at, byte_in}
 use Rattle.block_log.specs.Chain.{bad_log_block}
@@ -91,10 +91,6 @@ module _ (block : List ℕ) (k e : ℕ) where
   byte-over h = let a : e - k ≡ 0 = omega arith in rw a
 
 -- ---- the first block that is taken already
-
-pub some_block : (map : List ℕ) (b : ℕ) → b ≢ 0 → clashes_at map b ≡ taken map b
-some_block map zero h = absurd (h refl)
-some_block map (suc b) h = refl
 
 module _ (map table : List ℕ) (v : ℕ) where
   pub clash-here : v < length table → clashes_at map (get_or table v 0) ≡ true → v + first_clash map (drop v table) ≡ v

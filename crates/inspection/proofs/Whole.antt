@@ -10,7 +10,6 @@ use Rattle.words.specs.Edition.{one}
 use Rattle.words.specs.BlockMap.{set_block, set_all, free_count}
 use Rattle.words.specs.Logic.{list_from}
 use Rattle.words.specs.Memory.{memory, block_count, wrong_size}
-use Rattle.words.proofs.BlockMap.{length-set_all}
 use Rattle.words.proofs.MapOf.{Below}
 use Rattle.words.proofs.Memory.{size-facts}
 use Rattle.block_log.specs.CatchUp.{TakenIn}
@@ -73,9 +72,6 @@ module _ (words : List ℕ) (size : wrong_size one words ≡ false) where
     blocks-are : take k chain ≡ cs
     blocks-are = ap (take k) r.front ∙ take-padded 64 cs k r.count
 
-    pub chain-few : k ≤ 64
-    chain-few = omega (arith, r.count, (read-facts B (memory one words)).1)
-
     pub chain-inside : Inside words B (take k chain)
     chain-inside =
         let f = read-facts B (memory one words) in
@@ -125,10 +121,6 @@ rows-below : {words chained map written rows : List ℕ} {end : ℕ} → Reading
 rows-below {words} {rows = rows} g =
     rw (rows_are g) (table_below (read_file one (block_count one words) (memory one words)).table
     (λ v. omega (arith, (file-sound words g.size).in_image v, blocks-most words g.size)))
-
--- the map has 16 words
-pub map-wide : {words chained map written rows : List ℕ} {end : ℕ} → Readings words chained map written rows end → length map ≡ 16
-map-wide {words} g = ap length g.logs ∙ length-set_all true (replicate 16 0) (read_chain (block_count one words) (memory one words)) ∙ length-replicate {A = ℕ} 16 0
 
 -- the answer, from its parts
 module _ {words chained map written rows : List ℕ} {end : ℕ} (g : Readings words chained map written rows end) where
