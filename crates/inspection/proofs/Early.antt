@@ -20,7 +20,7 @@ use Rattle.words.proofs.Tests.{not-no, not-zero, no_true}
 use Rattle.block_log.specs.Chain.{entries_from, bad_superblock, bad_index, endless}
 use Rattle.block_log.specs.Opening.{open_refusal, short_scratch}
 use Rattle.block_log.proofs.Chain.{super-zeros}
-use Rattle.inspection.specs.declared.Fault.{Fault}
+use Rattle.inspection.specs.Told.{Fault}
 use Rattle.inspection.specs.Breaks.{rule_at, holds, breaks1, breaks2, breaks3, breaks4, breaks5, breaks}
 use Rattle.inspection.specs.Faults.{fault_at, no_fault, size_fault, scratch_fault, zeros_ahead, super_fault, last_of, link_value}
 use Rattle.inspection.specs.Faults.{index_fault, endless_fault, first_bad, block_fault, entry_fault, shared_fault, end_fault, first_fault}

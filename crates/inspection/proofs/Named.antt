@@ -14,7 +14,7 @@ use Rattle.words.specs.Memory.{Memory, block_at, word_at}
 use Rattle.block_log.specs.Chain.{entries_from}
 use Rattle.block_log.specs.Entry.{rules}
 use Rattle.words.proofs.Tests.{is-zero, not-zero}
-use Rattle.inspection.specs.declared.Fault.{Fault}
+use Rattle.inspection.specs.Told.{Fault}
 use Rattle.inspection.specs.Faults.{fault_at, size_fault, super_fault, zeros_ahead, last_of, link_word, link_value, index_fault, endless_fault, block_fault}
 use Rattle.inspection.specs.Faults.{rule_of, first_broken, entry_fault, last_covering, first_byte, end_fault}
 use Rattle.inspection.specs.Parts.{MapOfChain, first_clash, shared_by}

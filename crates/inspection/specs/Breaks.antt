@@ -8,7 +8,7 @@ use Rattle.block_log.specs.Chain.{chain, outside, slots}
 use Rattle.block_log.specs.Entry.{entry_v, entry_b, rules, covers}
 use Rattle.block_log.specs.Opening.{file_of}
 use Rattle.block_log.specs.Replay.{end_in}
-use Rattle.inspection.specs.declared.Fault.{Fault}
+use Rattle.inspection.specs.Told.{Fault}
 
 -- one of a number's rules, by its place from 1 on
 abbrev pub rule_at : List Bool → ℕ → Bool

@@ -8,7 +8,7 @@ use Rattle.block_log.specs.Chain.{entries_from, bad_log_block}
 use Rattle.block_log.specs.Entry.{rules, covers}
 use Rattle.block_log.specs.Opening.{open_refusal}
 use Rattle.block_log.specs.Replay.{Mapped, end_in}
-use Rattle.inspection.specs.declared.Fault.{Fault}
+use Rattle.inspection.specs.Told.{Fault}
 use Rattle.inspection.specs.Reading.{read_chain, read_log, read_file, block_of, slot_of}
 
 -- rule `rule` of number `number` is broken by a word of the image. `detail` is the virtual block of 8 and the byte in its block of 9, else 0

@@ -6,9 +6,8 @@ use Rattle.words.specs.Memory.{Memory, memory, block_count, wrong_size}
 use Rattle.words.specs.BlockMap.{free_count}
 use Rattle.block_log.specs.Chain.{chain, log}
 use Rattle.block_log.specs.Opening.{open_refusal, scratch_after}
-use Rattle.inspection.specs.declared.Fault.{Fault}
 use Rattle.inspection.specs.declared.Found.{Found}
-use Rattle.inspection.specs.declared.Inspected.{Inspected}
+use Rattle.inspection.specs.Told.{Fault, Inspected}
 use Rattle.inspection.specs.Reading.{read_chain, read_log, read_file, read_taken, overruled_all, use_of, longest_free}
 use Rattle.inspection.specs.Faults.{first_fault}
 use Rattle.inspection.specs.Breaks.{breaks}
