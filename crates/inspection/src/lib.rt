@@ -6,13 +6,12 @@ ghost use Rattle.words.specs.Edition.{one};
 ghost use Rattle.words.specs.Memory.{memory, block_count, wrong_size};
 ghost use Rattle.block_log.specs.Refusals.{number};
 ghost use Rattle.block_log.specs.Opening.{number_of, open_refusal};
-ghost use Rattle.inspection.specs.Told.{Inspected as Seen, seen, rule_number, rule_place, told, fault_told, use_numbers};
+ghost use Rattle.inspection.specs.Told.{seen, rule_number, rule_place, told};
 ghost use Rattle.inspection.specs.Faults.{first_fault};
 ghost use Rattle.inspection.specs.Inspecting.{inspected_with, unread, Inspects};
 
 use block_log::{Refusal, Reply};
 use faults::Reading;
-use std::marker::Model;
 
 // What an image has to keep (docs/INSPECT.md): the rules of opening's refusals, one refusal after the other.
 #[derive(Clone, Copy, Debug, PartialEq, Eq)]
@@ -117,7 +116,7 @@ pub enum Use {
 }
 
 // The first fault, if there is one, and what can be read. Zeros stand behind the last log block and entry.
-#[derive(Drop)]
+#[derive(Clone, Copy)]
 pub struct Inspected {
     fault: Option<Fault>,
     found: Found,
@@ -126,20 +125,13 @@ pub struct Inspected {
     overruled: [u64; 3968],
     table: [u16; 256],
     uses: [Use; 1024],
-}
-
-impl Model for Inspected {
-    ghost Value = { Seen };
-
-    ghost view = { λ i. seen i.fault i.found i.chain i.entries i.overruled i.table i.uses };
-
-    ghost invariant = { λ i. (i.found.chained ≤ 64) × (i.found.entries ≤ 3968) };
+    ghost within: { (found.chained ≤ 64) × (found.entries ≤ 3968) },
 }
 
 impl Inspected {
     // The first fault of the image; none where it opens.
     pub fn fault(&self) -> Option<Fault>
-        ensures { fault_told result ≡ self.now.fault }
+        ensures { result ≡ self.now.fault }
     {
         self.fault
     }
@@ -180,7 +172,7 @@ impl Inspected {
 
     // The use of each block.
     pub fn uses(&self) -> &[Use; 1024]
-        ensures { use_numbers result.now ≡ self.now.uses }
+        ensures { result.now ≡ self.now.uses }
     {
         &self.uses
     }
@@ -191,7 +183,7 @@ mod read;
 
 // An image of a wrong size: nothing is read.
 fn unread(fault: Fault) -> Inspected
-    ensures { result ≡ unread (told fault) }
+    ensures { seen result.fault result.found result.chain result.entries result.overruled result.table result.uses ≡ unread (told fault) }
 {
     Inspected {
         fault: Some(fault),
@@ -214,7 +206,8 @@ fn unread(fault: Fault) -> Inspected
 fn inspect_blocks(image: &[u64], room: usize, reply: Reply) -> Inspected
     requires { (wrong_size one image.now ≡ false) × (number_of reply ≡ open_refusal one image.now (replicate room 0)) }
     ensures { let words = image.now in
-        result ≡ inspected_with one (block_count one words) (memory one words) (first_fault one words (replicate room 0)) }
+        seen result.fault result.found result.chain result.entries result.overruled result.table result.uses
+        ≡ inspected_with one (block_count one words) (memory one words) (first_fault one words (replicate room 0)) }
 {
     let blocks = words::offset::whole_blocks(image.len());
     let mut chain = [0u16; 64];
@@ -260,7 +253,8 @@ fn inspect_blocks(image: &[u64], room: usize, reply: Reply) -> Inspected
 
 // Inspects an image: whether it opens, the first fault where it does not, and what can be read of it. The scratch is left as opening leaves it.
 pub fn inspect(image: &[u64], scratch: &mut [u16]) -> Inspected
-    ensures { Inspects image.now scratch.old scratch.new result }
+    ensures { Inspects image.now scratch.old scratch.new
+        (seen result.fault result.found result.chain result.entries result.overruled result.table result.uses) }
 {
     let opened = block_log::open::open(image, scratch);
     let reply = opened.reply;

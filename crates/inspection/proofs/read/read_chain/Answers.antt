@@ -5,7 +5,7 @@ use Rattle.inspection.proofs.read.read_chain.Goals as goal
 
 pub loop-count-init : goal.loop-count-init
 loop-count-init c = let a = c.args in
-    read-begin a.image.now a.blocks a.chain.now c.first_index-b.result c.told-chain c.first_index-b.ensures
+    read-begin a.image.now c.args.blocks a.chain.now c.first_index-b.result c.told-chain c.first_index-b.ensures
 
 pub returns-then-stops_at : goal.returns-then-stops_at
 returns-then-stops_at c = reads-kept c.loop-count.count (ends-stopped c.loop-count.invariant c.stops_at.ensures c.if-stops_at.true)
