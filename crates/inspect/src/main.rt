@@ -7,28 +7,8 @@ ghost use Rattle.std.specs.Prelude.{IfOk, ◌≤◌};
 mod say;
 mod show;
 
-use inspection::Inspected;
 use std::io;
 use std::io::{BufWriter, Read, Write};
-
-// Prints what was seen of an image of so many blocks.
-fn tell(out: &mut impl Write, blocks: usize, seen: &Inspected) -> io::Result<()> {
-    if show::verdict(out, seen.fault)? {
-        return Ok(());
-    }
-    let found = seen.found;
-    show::header(out, found)?;
-    show::blocks(out, blocks, &seen.uses)?;
-    show::chain(out, &seen.chain, found.chained as usize)?;
-    show::log(
-        out,
-        &seen.chain,
-        &seen.entries,
-        &seen.overruled,
-        found.entries as usize,
-    )?;
-    show::table(out, &seen.table)
-}
 
 // Prints what is in the image of these bytes and of those after them.
 fn show_image(out: &mut impl Write, bytes: &[u8], more: &[u8]) -> io::Result<()> {
@@ -37,7 +17,7 @@ fn show_image(out: &mut impl Write, bytes: &[u8], more: &[u8]) -> io::Result<()>
     let k = j + words::bytes::words_of(more, &mut image[j..]);
     let mut scratch = [0u16; 1024];
     let seen = inspection::inspect(&image[..k], &mut scratch);
-    tell(out, k / 64, &seen)
+    show::inspected(out, k / 64, &seen)
 }
 
 // What is read behind as many bytes as there is room for in the first half; nothing where the input ended there.
@@ -61,7 +41,7 @@ fn inspect(input: &mut impl Read, out: &mut impl Write) -> io::Result<()> {
         return show::too_long(out);
     }
     if n % 8 != 0 {
-        return show::broken_word(out, n as u64);
+        return show::broken_word(out, n);
     }
     show_image(out, &bytes[..first], &more[..rest])
 }

@@ -1,154 +1,58 @@
-// Words and numbers, and the sentences of refusals and rules.
+// The sentences of refusals and rules.
 use block_log::Refusal;
-use std::io;
-use std::io::Write;
+use inspection::Rule;
 
-pub fn words(out: &mut impl Write, text: &[u8]) -> io::Result<()> {
-    out.write_all(text)
-}
-
-// A number behind some words.
-pub fn number(out: &mut impl Write, text: &[u8], n: u64) -> io::Result<()> {
-    out.write_all(text)?;
-    write!(out, "{n}")
-}
-
-// A word of the image.
-pub fn value(out: &mut impl Write, text: &[u8], w: u64) -> io::Result<()> {
-    out.write_all(text)?;
-    let digits = small::digits_of(w);
-    out.write_all(&digits)
-}
-
-// The sentence of a refusal, 1 to 9.
-pub fn reason(out: &mut impl Write, refusal: Refusal) -> io::Result<()> {
+// The sentence that stands behind a refusal of opening.
+pub fn reason(refusal: Refusal) -> &'static str {
     match refusal {
-        Refusal::ImageSize => words(
-            out,
-            b"the image is no multiple of 64 words, or not 4 to 1,024 blocks long\n",
-        ),
-        Refusal::ScratchShort => words(out, b"the scratch is shorter than 1,024 numbers\n"),
-        Refusal::SuperblockWrong => words(
-            out,
-            b"the superblock has a wrong mark, or a word after word 1 that is not 0\n",
-        ),
-        Refusal::LogIndexOutside => words(
-            out,
-            b"the first log index is 0, or an index of the log chain lies outside the image\n",
-        ),
-        Refusal::ChainEndless => words(out, b"the log chain has not ended after 64 log blocks\n"),
-        Refusal::LogBlockWrong => words(
-            out,
-            b"a log block has a word 1 that is not 0, an entry after an empty one, or a next index though it is not full\n",
-        ),
-        Refusal::EntryWrong => words(out, b"an entry of the log breaks the rules of entries\n"),
-        Refusal::BlockShared => words(
-            out,
-            b"two blocks of the file share a block of the image, or one is a log block\n",
-        ),
-        _ => words(
-            out,
-            b"a byte at or past the file's end in its last block is not 0\n",
-        ),
+        Refusal::ImageSize => {
+            "the image is no multiple of 64 words, or not 4 to 1,024 blocks long"
+        }
+        Refusal::ScratchShort => "the scratch is shorter than 1,024 numbers",
+        Refusal::SuperblockWrong => {
+            "the superblock has a wrong mark, or a word after word 1 that is not 0"
+        }
+        Refusal::LogIndexOutside => {
+            "the first log index is 0, or an index of the log chain lies outside the image"
+        }
+        Refusal::ChainEndless => "the log chain has not ended after 64 log blocks",
+        Refusal::LogBlockWrong => {
+            "a log block has a word 1 that is not 0, an entry after an empty one, or a next index though it is not full"
+        }
+        Refusal::EntryWrong => "an entry of the log breaks the rules of entries",
+        Refusal::BlockShared => {
+            "two blocks of the file share a block of the image, or one is a log block"
+        }
+        _ => "a byte at or past the file's end in its last block is not 0",
     }
 }
 
-fn size_rule(out: &mut impl Write, rule: u32) -> io::Result<()> {
-    if rule == 0 {
-        return words(out, b"an image is whole words of 8 bytes\n");
-    }
-    if rule == 1 {
-        return words(out, b"an image is whole blocks of 64 words\n");
-    }
-    if rule == 2 {
-        return words(out, b"an image has at least 4 blocks\n");
-    }
-    words(out, b"an image has at most 1,024 blocks\n")
-}
-
-fn super_rule(out: &mut impl Write, rule: u32) -> io::Result<()> {
-    if rule == 1 {
-        return words(
-            out,
-            b"word 0 of the superblock is the mark 0x0000004D494C4B31\n",
-        );
-    }
-    words(out, b"words 2 to 63 of the superblock are 0\n")
-}
-
-fn index_rule(out: &mut impl Write, rule: u32) -> io::Result<()> {
-    if rule == 1 {
-        return words(out, b"the first log index is not 0\n");
-    }
-    words(out, b"a log index is below the block count\n")
-}
-
-fn chain_rule(out: &mut impl Write, rule: u32) -> io::Result<()> {
-    if rule == 1 {
-        return words(out, b"no log block is chained twice\n");
-    }
-    words(out, b"at most 64 log blocks are chained\n")
-}
-
-fn block_rule(out: &mut impl Write, rule: u32) -> io::Result<()> {
-    if rule == 1 {
-        return words(out, b"word 1 of a log block is 0\n");
-    }
-    if rule == 2 {
-        return words(out, b"no entry stands after an empty one\n");
-    }
-    words(out, b"only a full log block has a next index\n")
-}
-
-fn entry_rule(out: &mut impl Write, rule: u32) -> io::Result<()> {
-    if rule == 1 {
-        return words(out, b"an entry maps at least 1 block\n");
-    }
-    if rule == 2 {
-        return words(out, b"an entry maps at most 64 blocks\n");
-    }
-    if rule == 3 {
-        return words(out, b"an entry's last block has at least 1 used byte\n");
-    }
-    if rule == 4 {
-        return words(out, b"an entry's last block has at most 512 used bytes\n");
-    }
-    if rule == 5 {
-        return words(out, b"bits 55 to 63 of an entry are 0\n");
-    }
-    if rule == 6 {
-        return words(out, b"an entry's virtual blocks are below 256\n");
-    }
-    if rule == 7 {
-        return words(out, b"an entry does not map to block 0\n");
-    }
-    words(out, b"an entry's blocks are in the image\n")
-}
-
-fn shared_rule(out: &mut impl Write, rule: u32) -> io::Result<()> {
-    if rule == 1 {
-        return words(out, b"no live block is a log block\n");
-    }
-    words(out, b"no two virtual blocks share a live block\n")
-}
-
-// The text of a refusal's rule.
-pub fn rule(out: &mut impl Write, refusal: Refusal, rule: u32) -> io::Result<()> {
-    number(out, b"rule ", u32::from(refusal) as u64)?;
-    number(out, b".", rule as u64)?;
-    words(out, b": ")?;
-    match refusal {
-        Refusal::ImageSize => size_rule(out, rule),
-        Refusal::ScratchShort => words(out, b"a scratch has 1,024 numbers\n"),
-        Refusal::SuperblockWrong => super_rule(out, rule),
-        Refusal::LogIndexOutside => index_rule(out, rule),
-        Refusal::ChainEndless => chain_rule(out, rule),
-        Refusal::LogBlockWrong => block_rule(out, rule),
-        Refusal::EntryWrong => entry_rule(out, rule),
-        Refusal::BlockShared => shared_rule(out, rule),
-        _ => words(
-            out,
-            b"the last live block is 0 at and past the file's end\n",
-        ),
+// A rule's text.
+pub fn rule(rule: Rule) -> &'static str {
+    match rule {
+        Rule::WholeBlocks => "an image is whole blocks of 64 words",
+        Rule::FewestBlocks => "an image has at least 4 blocks",
+        Rule::MostBlocks => "an image has at most 1,024 blocks",
+        Rule::ScratchLong => "a scratch has 1,024 numbers",
+        Rule::Mark => "word 0 of the superblock is the mark 0x0000004D494C4B31",
+        Rule::SuperblockZeros => "words 2 to 63 of the superblock are 0",
+        Rule::FirstLogIndex => "the first log index is not 0",
+        Rule::LogIndexInside => "a log index is below the block count",
+        Rule::ChainedOnce => "no log block is chained twice",
+        Rule::ChainEnds => "at most 64 log blocks are chained",
+        Rule::LogBlockZero => "word 1 of a log block is 0",
+        Rule::NoEntryAfterEmpty => "no entry stands after an empty one",
+        Rule::LinkOfFull => "only a full log block has a next index",
+        Rule::FewestMapped => "an entry maps at least 1 block",
+        Rule::MostMapped => "an entry maps at most 64 blocks",
+        Rule::FewestUsed => "an entry's last block has at least 1 used byte",
+        Rule::MostUsed => "an entry's last block has at most 512 used bytes",
+        Rule::EntryZeros => "bits 55 to 63 of an entry are 0",
+        Rule::VirtualBlocks => "an entry's virtual blocks are below 256",
+        Rule::NotBlockZero => "an entry does not map to block 0",
+        Rule::BlocksInside => "an entry's blocks are in the image",
+        Rule::NoLogBlock => "no live block is a log block",
+        Rule::NotShared => "no two virtual blocks share a live block",
+        Rule::EndZeros => "the last live block is 0 at and past the file's end",
     }
 }

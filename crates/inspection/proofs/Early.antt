@@ -17,11 +17,10 @@ use Rattle.words.proofs.Choice.{choose, choose-true, choose-false}
 use Rattle.words.proofs.Logic.{all-every, and_both, get_d-list_from}
 use Rattle.words.proofs.Memory.{block-length, size-facts, size-rest}
 use Rattle.words.proofs.Tests.{not-no, not-zero, no_true}
-use Rattle.block_log.specs.Refusals.{Refused}
 use Rattle.block_log.specs.Chain.{entries_from, bad_superblock, bad_index, endless}
-use Rattle.block_log.specs.Opening.{number_of, open_refusal, short_scratch}
+use Rattle.block_log.specs.Opening.{open_refusal, short_scratch}
 use Rattle.block_log.proofs.Chain.{super-zeros}
-use Rattle.inspection.specs.declared.Fault.{Fault}
+use Rattle.inspection.specs.Told.{Fault}
 use Rattle.inspection.specs.Breaks.{rule_at, holds, breaks1, breaks2, breaks3, breaks4, breaks5, breaks}
 use Rattle.inspection.specs.Faults.{fault_at, no_fault, size_fault, scratch_fault, zeros_ahead, super_fault, last_of, link_value}
 use Rattle.inspection.specs.Faults.{index_fault, endless_fault, first_bad, block_fault, entry_fault, shared_fault, end_fault, first_fault}
@@ -32,19 +31,19 @@ use Rattle.inspection.proofs.Known.{known-1, known-2, known-3, known-4, known-5}
 
 -- ---- the numbers
 
-number-of : (t : Bool) (x y : Fault) (n : ℕ) → number_of x.reply ≡ n → number_of y.reply ≡ n → number_of (choose t x y).reply ≡ n
+number-of : (t : Bool) (x y : Fault) (n : ℕ) → x.number ≡ n → y.number ≡ n → (choose t x y).number ≡ n
 number-of true x y n e f = e
 number-of false x y n e f = f
 
-size_number : (E : Edition) (n : ℕ) → number_of (size_fault E n).reply ≡ 1
+size_number : (E : Edition) (n : ℕ) → (size_fault E n).number ≡ 1
 unfolding size_fault
 size_number E n = number-of (eqb (n % E.block_words) 0) _ _ 1 (number-of (ltb (n / E.block_words) blocks_min) _ _ 1 refl refl) refl
 
-super-number : (E : Edition) (m : Memory) → number_of (super_fault E m).reply ≡ 3
+super-number : (E : Edition) (m : Memory) → (super_fault E m).number ≡ 3
 unfolding super_fault
 super-number E m = number-of (eqb (word_at m 0 0) E.mark) _ _ 3 refl refl
 
-block-number : (m : Memory) (b : ℕ) → number_of (block_fault m b).reply ≡ 6
+block-number : (m : Memory) (b : ℕ) → (block_fault m b).number ≡ 6
 unfolding block_fault
 block-number m b =
     let rest = drop (2 + length (entries_from 2 (block_at m b))) (block_at m b) in
@@ -87,13 +86,13 @@ module _ (E : Edition) (words scratch : List ℕ) where
   unfolding first_fault
   fault-is = refl
 
-  numbers : map (λ (f : Fault). number_of f.reply) faults ≡ list_from 0 10 (λ i. i)
+  numbers : map (λ (f : Fault). f.number) faults ≡ list_from 0 10 (λ i. i)
   unfolding index_fault endless_fault entry_fault shared_fault end_fault
   numbers = rw (size_number, super-number, block-number)
 
-  pub fault-number : open_refusal E words scratch ≤ 9 → number_of (first_fault E words scratch).reply ≡ open_refusal E words scratch
+  pub fault-number : open_refusal E words scratch ≤ 9 → (first_fault E words scratch).number ≡ open_refusal E words scratch
   fault-number h =
-      ap (λ (f : Fault). number_of f.reply) fault-is ∙ sym (get_or-map (λ (f : Fault). number_of f.reply) faults (open_refusal E words scratch) no_fault)
+      ap (λ (f : Fault). f.number) fault-is ∙ sym (get_or-map (λ (f : Fault). f.number) faults (open_refusal E words scratch) no_fault)
       ∙ ap (λ (l : List ℕ). get_or l (open_refusal E words scratch) 0) numbers ∙ get_d-list_from 0 10 (λ i. i) (open_refusal E words scratch) 0 (omega arith)
       ∙ omega arith
 
@@ -108,7 +107,7 @@ module _ (E : Edition) (words scratch : List ℕ) where
 
   -- 1 with a rule of it, at any place
   abbrev sized : ℕ → ℕ → ℕ → Fault
-  sized rule block word = record { reply = Refused 1; rule = rule; block = block; word = word; value = length words; detail = 0 }
+  sized rule block word = record { number = 1; rule = rule; block = block; word = word; value = length words; detail = 0 }
 
   abbrev odd : Bool
   odd = not (eqb (length words % E.block_words) 0)

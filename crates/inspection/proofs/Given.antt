@@ -1,51 +1,32 @@
 -- What the search for the first fault goes by: from the arrays of what was read, the lists of the definitions.
 use mathlib.Core.Path.{◌≡◌, refl, sym, ap, ◌∙◌}
-use mathlib.Core.Logic.{◌≢◌}
-use mathlib.Core.List.{List, [], ◌∷◌, ◌++◌}
+use mathlib.Core.Logic.{◌⊎◌, inl, inr}
+use mathlib.Core.List.{List, [], ◌∷◌}
 use mathlib.Core.Bool.{false}
-use Prim.Native.Nat.{ℕ, zero, suc, ◌*◌, ◌/◌, ◌≤◌, ◌<◌}
+use Prim.Native.Nat.{ℕ, zero, suc, ◌≤◌, ◌<◌}
 use native.Mathlib.Omega.{arith}
-use lib.ListN.{length, get_or, take, drop, replicate, length-replicate}
+use lib.ListN.{length, take, drop, replicate}
 use lib.Seq.{take-append_seam}
 use borrow.Author.Tests.{ne_eqb}
 use Rattle.words.specs.Edition.{one}
 use Rattle.words.specs.Logic.{member}
 use Rattle.words.specs.Memory.{Memory, memory, block_count, wrong_size}
-use Rattle.words.proofs.Logic.{zeros-at}
 use Rattle.words.proofs.MapOf.{Below, taken-set_all-zero, sound-zeros, zeros-free}
 use Rattle.words.proofs.Memory.{size-facts}
 use Rattle.words.proofs.Tests.{no_true}
-use Rattle.block_log.specs.Chain.{slots_of}
 use Rattle.block_log.specs.Opening.{open_refusal}
-use Rattle.block_log.specs.Replay.{Mapped, empty_file, replay}
+use Rattle.block_log.specs.Replay.{Mapped}
 use Rattle.block_log.proofs.Chain.{Positive, outside_below, inside-outside}
-use Rattle.block_log.proofs.Replay.{length-table}
-use Rattle.inspection.specs.Reading.{read_chain, read_log, read_file, block_of}
+use Rattle.inspection.specs.Reading.{read_chain, read_log, read_file}
 use Rattle.inspection.specs.Inspecting.{padded}
-use Rattle.inspection.specs.Faults.{no_fault, scratch_fault, super_fault, index_fault, endless_fault, entry_fault, last_covering, shared_fault, first_fault}
-use Rattle.inspection.specs.Parts.{HasFirst, MapOfChain, Readings, map_with, first_clash, shared_by}
+use Rattle.inspection.specs.Faults.{no_fault, scratch_fault, super_fault, index_fault, endless_fault, shared_fault, first_fault}
+use Rattle.inspection.specs.Parts.{MapOfChain, Readings, map_with, first_clash, shared_by}
 use Rattle.inspection.proofs.ChainRead.{read-facts}
 use Rattle.inspection.proofs.Clash.{with-taken}
 use Rattle.inspection.proofs.LateShared.{eight-found, eight-same}
-use Rattle.inspection.proofs.Legal.{while-le}
-use Rattle.inspection.proofs.Places.{place-count}
-use Rattle.inspection.proofs.Known.{known-1, refusal-at-most-9}
+use Rattle.inspection.proofs.Known.{known-1}
 
 -- ---- a list with zeros behind it
-
--- reads as the list does
-pub get_d-padded : (n : ℕ) (xs : List ℕ) (i : ℕ) → get_or (padded n xs) i 0 ≡ get_or xs i 0
-get_d-padded n xs i = go xs (drop (length xs) (replicate n 0)) i (λ k. zero-behind n (length xs) k)
-  where
-    zero-behind : (n k i : ℕ) → ◌≡◌ {A = ℕ} (get_or (drop k (replicate n 0)) i 0) 0
-    zero-behind n zero i = zeros-at n i
-    zero-behind zero (suc k) i = refl
-    zero-behind (suc n) (suc k) i = zero-behind n k i
-
-    go : (xs ys : List ℕ) (i : ℕ) → ((k : ℕ) → get_or ys k 0 ≡ 0) → get_or (xs ++ ys) i 0 ≡ get_or xs i 0
-    go [] ys i z = z i
-    go (x ∷ xs) ys zero z = refl
-    go (x ∷ xs) ys (suc i) z = go xs ys i z
 
 -- its first so many are the list
 pub take-padded : (n : ℕ) (xs : List ℕ) (k : ℕ) → k ≡ length xs → take k (padded n xs) ≡ xs
@@ -63,7 +44,7 @@ map-known cs h p (suc b) = with-taken cs cs h h (suc b) (λ e. omega arith)
 
 -- ---- from what was read
 
-module _ {words chained map written rows : List ℕ} {k n end : ℕ} (g : Readings words chained k map written n rows end) where
+module _ {words chained map written rows : List ℕ} {end : ℕ} (g : Readings words chained map written rows end) where
   abbrev blocks : ℕ
   blocks = block_count one words
 
@@ -79,26 +60,8 @@ module _ {words chained map written rows : List ℕ} {k n end : ℕ} (g : Readin
   pub chain-below : Below cs
   chain-below = outside_below cs (inside-outside blocks 1024 cs blocks-few (read-facts blocks (memory one words)).0)
 
-  pub few : k ≤ 64
-  few = omega (arith, g.count, (read-facts blocks (memory one words)).1)
-
-  pub first-blocks : take k chained ≡ cs
-  first-blocks = ap (take k) g.chain ∙ take-padded 64 cs k g.count
-
-  pub has-blocks : HasFirst k chained
-  has-blocks = ap length first-blocks ∙ sym g.count
-
-  pub logs-known : MapOfChain map (take k chained)
-  logs-known = rw (first-blocks, g.logs) (map-known cs chain-below (read-facts blocks (memory one words)).2)
-
-  pub first-entries : take n written ≡ es
-  first-entries = ap (take n) g.entries ∙ take-padded 3968 es n g.entry_count
-
-  pub has-entries : HasFirst n written
-  has-entries = ap length first-entries ∙ sym g.entry_count
-
-  pub at_block : (j : ℕ) → block_of one chained j ≡ block_of one cs j
-  at_block j = ap (λ (xs : List ℕ). get_or xs (j / 62) 0) g.chain ∙ get_d-padded 64 cs (j / 62)
+  pub logs-known : MapOfChain map chained
+  logs-known = rw (g.chain, g.logs) (map-known cs chain-below (read-facts blocks (memory one words)).2)
 
   pub rows_are : rows ≡ (read_file one blocks (memory one words)).table
   rows_are = ap (λ (f : Mapped). f.table) g.file
@@ -107,15 +70,6 @@ module _ {words chained map written rows : List ℕ} {k n end : ℕ} (g : Readin
   end_is = ap (λ (f : Mapped). f.size) g.file
 
 -- ---- the fault by opening's number
-
-past : {k : ℕ} (j : ℕ) → j ≤ k → k ≢ j → suc j ≤ k
-past j h n = omega arith
-
-from_zero : (k : ℕ) → 0 ≤ k
-from_zero k = omega arith
-
-same-nine : (k : ℕ) → 9 ≤ k → k ≤ 9 → k ≡ 9
-same-nine k h l = omega arith
 
 module _ (words scratch : List ℕ) where
   abbrev B : ℕ
@@ -144,50 +98,23 @@ module _ (words scratch : List ℕ) where
   unfolding first_fault
   named-5 e = rw e
 
-  -- with the array of log blocks in place of the list
-  pub entry-array : (chained : List ℕ) (j : ℕ) → ((i : ℕ) → block_of one chained i ≡ block_of one (read_chain B m) i)
-      → entry_fault one B m chained j ≡ entry_fault one B m (read_chain B m) j
-  unfolding entry_fault
-  entry-array chained j same = rw (same j)
-
-  pub shared-array : (chained logs log table : List ℕ) → ((i : ℕ) → block_of one chained i ≡ block_of one (read_chain B m) i)
-      → shared_by one m chained logs log table ≡ shared_by one m (read_chain B m) logs log table
-  unfolding shared_by
-  shared-array chained logs log table same = rw (same (last_covering (first_clash logs table) log))
-
-  -- past all other numbers and of a right size it is 9
-  pub is-nine : (k : ℕ) → k ≡ open_refusal one words scratch → wrong_size one words ≡ false → k ≢ 0 → k ≢ 2 → k ≢ 3 → k ≢ 4 → k ≢ 5 → k ≢ 6 → k ≢ 7
-      → k ≢ 8 → k ≡ 9
-  is-nine k e size n0 n2 n3 n4 n5 n6 n7 n8 =
-      let n1 : k ≢ 1 = λ z. no_true (known-1 one words scratch (sym e ∙ z)) size in
-      let least : 9 ≤ k = past 8 (past 7 (past 6 (past 5 (past 4 (past 3 (past 2 (past 1 (past 0 (from_zero k) n0) n1) n2) n3) n4) n5) n6) n7) n8 in
-      let most : k ≤ 9 = rw e (refusal-at-most-9 one words scratch) in
-      same-nine k least most
+  -- of a right size it is not 1
+  pub past-one : (k : ℕ) → k ≡ open_refusal one words scratch → wrong_size one words ≡ false → (k ≡ 0) ⊎ (2 ≤ k)
+  past-one k e size = go k e
+    where
+      go : (k : ℕ) → k ≡ open_refusal one words scratch → (k ≡ 0) ⊎ (2 ≤ k)
+      go zero e = inl refl
+      go (suc zero) e = absurd (no_true (known-1 one words scratch (sym e)) size)
+      go (suc (suc k)) e = inr (omega arith)
 
 -- ---- 8, from what was read
 
-module _ {words chained map written rows : List ℕ} {k n end : ℕ} (g : Readings words chained k map written n rows end) where
-  slots-count : length (slots_of (memory one words) (cs g)) ≡ 62 * length (cs g)
-  slots-count = place-count one words (cs g) (read-facts (blocks g) (memory one words)).0
-
-  log-few : length (es g) ≤ length (slots_of (memory one words) (cs g))
-  unfolding read_log
-  log-few = while-le one (blocks g) (slots_of (memory one words) (cs g))
-
-  pub entries-few : n ≤ 3968
-  entries-few = omega (arith, g.entry_count, (read-facts (blocks g) (memory one words)).1, log-few, slots-count)
-
-  pub rows-wide : length rows ≡ 256
-  unfolding read_file replay
-  rows-wide = ap length (rows_are g) ∙ length-table one empty_file (es g) ∙ length-replicate {A = ℕ} 256 0
-
+module _ {words chained map written rows : List ℕ} {end : ℕ} (g : Readings words chained map written rows end) where
   module _ (scratch : List ℕ) (e : open_refusal one words scratch ≡ 8) where
     pub clash-few : first_clash map rows < 256
     clash-few = rw (g.logs, rows_are g) (eight-found words scratch e)
 
     pub shared_is :
-        shared_by one (memory one words) chained map (take n written) rows
+        shared_by one (memory one words) chained map written rows
         ≡ shared_fault one (memory one words) (cs g) (es g) (read_file one (blocks g) (memory one words)).table
-    shared_is =
-        shared-array words scratch chained map (take n written) rows (at_block g)
-        ∙ rw (g.logs, rows_are g, first-entries g) (eight-same words scratch e)
+    shared_is = rw (g.chain, g.logs, rows_are g, g.entries) (eight-same words scratch e)

@@ -7,17 +7,17 @@ use Prim.Native.Nat.{ℕ, suc, ◌-◌, ◌*◌, ◌<◌}
 use native.Mathlib.Omega.{arith}
 use lib.ListN.{length, get_or}
 use borrow.Author.Tests.{eq-eqb, le-leb, lt-ltb}
-use Rattle.words.specs.Edition.{Edition, one}
+use Rattle.words.specs.Edition.{Edition}
 use Rattle.words.specs.Logic.{is_zero, some_of, every}
 use Rattle.words.specs.Memory.{Memory, memory, block_count, word_at}
 use Rattle.words.proofs.Logic.{all-every}
 use Rattle.words.proofs.Tests.{not-no, not-zero}
 use Rattle.block_log.specs.Chain.{chain, slots_of, outside}
 use Rattle.block_log.specs.Entry.{rules, legal}
-use Rattle.block_log.specs.Opening.{number_of, open_refusal}
+use Rattle.block_log.specs.Opening.{open_refusal}
 use Rattle.block_log.proofs.Opening.{Passed}
 use Rattle.block_log.proofs.Start.{chain-inside}
-use Rattle.inspection.specs.declared.Fault.{Fault}
+use Rattle.inspection.specs.Told.{Fault}
 use Rattle.inspection.specs.Breaks.{rule_at, breaks, breaks1, breaks2, breaks3, breaks4, breaks5, breaks6, breaks7, breaks8, breaks9, holds}
 use Rattle.inspection.specs.Faults.{first_fault, block_fault, first_bad, entry_fault, first_broken, shared_fault, end_fault}
 use Rattle.inspection.specs.Reading.{read_chain, read_log, read_file, block_of, slot_of}
@@ -69,7 +69,7 @@ module _ (E : Edition) (words scratch : List ℕ) where
         ∷ breaks9 E words scratch f
         ∷ []
 
-    pub by_number : (k : ℕ) → number_of f.reply ≡ suc k → get_or numbers k false ≡ true → breaks E words scratch f ≡ true
+    pub by_number : (k : ℕ) → f.number ≡ suc k → get_or numbers k false ≡ true → breaks E words scratch f ≡ true
     unfolding breaks
     by_number k n h = ap (rule_at numbers) n ∙ h
 
@@ -99,9 +99,6 @@ module _ (E : Edition) (words scratch : List ℕ) (e : open_refusal E words scra
   j-in : j < (E.block_words - 2) * length cs
   j-in = omega (arith, broken.inside, place-count E words cs inside)
 
-  pub seven-in : length (read_log E (block_count E words) (memory E words)) < (E.block_words - 2) * length (read_chain (block_count E words) (memory E words))
-  seven-in = rw (chain_same passed) j-in
-
   value : word_at (memory E words) (block_of E cs j) (slot_of E j) ≡ get_or (slots_of (memory E words) cs) j 0
   value = place-word E words cs inside j j-in
 
@@ -129,15 +126,9 @@ module _ (E : Edition) (words scratch : List ℕ) (e : open_refusal E words scra
     ),
   )
 
-  number : number_of (entry_fault E (block_count E words) (memory E words) cs j).reply ≡ 7
+  number : (entry_fault E (block_count E words) (memory E words) cs j).number ≡ 7
   unfolding entry_fault
   number = refl
 
   pub breaks-7 : breaks E words scratch (first_fault E words scratch) ≡ true
   breaks-7 = rw named (by_number E words scratch (entry_fault E (block_count E words) (memory E words) cs j) 6 number entry-breaks)
-
--- edition one's, as the code asks for it
-pub seven-inside :
-    (words scratch : List ℕ) → open_refusal one words scratch ≡ 7
-    → length (read_log one (block_count one words) (memory one words)) < 62 * length (read_chain (block_count one words) (memory one words))
-seven-inside words scratch e = seven-in one words scratch e

@@ -17,7 +17,7 @@ use Rattle.words.proofs.Logic.{all-every, and_left, and_right, or_left, or_right
 use Rattle.words.proofs.Memory.{block-length}
 use Rattle.words.proofs.Tests.{not-no, not-zero, nonzero, no_true, or_split}
 use Rattle.block_log.specs.Chain.{chain, slots, bad_index, endless, bad_log_block, bad_log, outside}
-use Rattle.block_log.specs.Opening.{number_of, open_refusal}
+use Rattle.block_log.specs.Opening.{open_refusal}
 use Rattle.block_log.proofs.Start.{chain-inside}
 use Rattle.inspection.specs.Breaks.{breaks, breaks6}
 use Rattle.inspection.specs.Faults.{fault_at, first_fault, block_fault, first_bad, zeros_ahead}
@@ -117,11 +117,11 @@ module _ (E : Edition) (words scratch : List ℕ) (b : ℕ) where
           (next linked (nonzero (get_or block 0 0) (not-true _ (and_left (not (is_zero (get_or block 0 0))) (ltb n (length (slots block))) l)))
           (ltb-true n (length (slots block)) (and_right (not (is_zero (get_or block 0 0))) (ltb n (length (slots block))) l)))
 
-  pub block-number : number_of (block_fault (memory E words) b).reply ≡ 6
+  pub block-number : (block_fault (memory E words) b).number ≡ 6
   unfolding block_fault
   block-number = go (is_zero (get_or block 1 0)) (all_of is_zero (drop (2 + n) block)) refl refl
     where
-      go : (s t : Bool) → is_zero (get_or block 1 0) ≡ s → all_of is_zero (drop (2 + n) block) ≡ t → number_of (block_fault (memory E words) b).reply ≡ 6
+      go : (s t : Bool) → is_zero (get_or block 1 0) ≡ s → all_of is_zero (drop (2 + n) block) ≡ t → (block_fault (memory E words) b).number ≡ 6
       go false t z h = rw (z, block_fault)
       go true false z h = rw (z, h, block_fault)
       go true true z h = rw (z, h, block_fault)

@@ -14,7 +14,7 @@ use Rattle.words.proofs.Logic.{all-every, and_left, and_right}
 use Rattle.words.proofs.Memory.{size-facts}
 use Rattle.words.proofs.Tests.{nonzero}
 use Rattle.block_log.specs.Chain.{log}
-use Rattle.block_log.specs.Opening.{number_of, open_refusal, bad_entry, file_of}
+use Rattle.block_log.specs.Opening.{open_refusal, bad_entry, file_of}
 use Rattle.block_log.specs.Replay.{Mapped, replay, empty_file, end_in, dirty_end}
 use Rattle.block_log.proofs.Cover.{fresh}
 use Rattle.block_log.proofs.Opening.{Passed}
@@ -72,7 +72,7 @@ module _ (E : Edition) (words scratch : List ℕ) where
           (eq-eqb last_block last_block refl, (eq-eqb (k / 8) (k / 8) refl, (le-leb end k r.0, (lt-ltb k (block_bytes E) inside, (r.2, tt))))),
         )
 
-  end-number : number_of (end_fault E m f).reply ≡ 9
+  end-number : (end_fault E m f).number ≡ 9
   unfolding end_fault
   end-number = refl
 

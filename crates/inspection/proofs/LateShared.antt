@@ -16,7 +16,7 @@ use Rattle.words.proofs.Memory.{size-facts}
 use Rattle.words.proofs.Tests.{not-no, not-zero}
 use Rattle.block_log.specs.Chain.{first_index, chain, log, slots_of, outside}
 use Rattle.block_log.specs.Entry.{entry_v, entry_b, covers}
-use Rattle.block_log.specs.Opening.{number_of, open_refusal, bad_entry, file_of}
+use Rattle.block_log.specs.Opening.{open_refusal, bad_entry, file_of}
 use Rattle.block_log.specs.Replay.{shares_block}
 use Rattle.block_log.proofs.Chain.{Positive, chain-positive, outside_below, inside-outside}
 use Rattle.block_log.proofs.Opening.{Passed}
@@ -131,7 +131,7 @@ module _ (E : Edition) (words scratch : List ℕ) (e : open_refusal E words scra
     ),
   )
 
-  number : number_of (shared_fault E m cs es table).reply ≡ 8
+  number : (shared_fault E m cs es table).number ≡ 8
   unfolding shared_fault
   number = refl
 

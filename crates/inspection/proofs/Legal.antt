@@ -3,11 +3,11 @@
 use mathlib.Core.Path.{◌≡◌, refl, sym, ap, ◌∙◌}
 use mathlib.Core.List.{List, [], ◌∷◌, ◌++◌, append_assoc, append-nil}
 use mathlib.Core.Bool.{Bool, true, false}
-use Prim.Native.Nat.{ℕ, suc, ◌+◌, ◌*◌, ◌≤◌, ◌<◌}
+use Prim.Native.Nat.{ℕ, suc, ◌+◌, ◌-◌, ◌*◌, ◌≤◌, ◌<◌}
 use native.Mathlib.Numerals.{add-one}
 use native.Mathlib.Omega.{arith}
 use lib.ListN.{length, get_or, take, drop, set, length-set, length-take, length-drop, length-append, drop_of_length-le}
-use lib.Seq.{drop-cons, get_or-take, length-take-le, take-set-le, take-suc}
+use lib.Seq.{drop-cons, take_all, length-take-le, take-set-le, take-suc}
 use borrow.Author.Tests.{leb-false}
 use Rattle.words.specs.Edition.{Edition, one}
 use Rattle.words.specs.Logic.{all_of}
@@ -116,51 +116,51 @@ while-le E blocks (x ∷ xs) = go (legal E blocks x) refl (while-le E blocks xs)
 
 -- ---- the loop over a part
 
--- the slots before i are legal entries and lie from n on, up to `at`
-pub record Laid (part : List ℕ) (blocks : ℕ) (before entries : List ℕ) (n i at : ℕ) : Type 0 where
-  pub even : i + n ≡ at + 2
-  pub past : 2 ≤ i
+pub slots-are : (part : List ℕ) → take (length part - 2) (drop 2 part) ≡ slots part
+slots-are part = take_all (length part - 2) (drop 2 part) (omega (arith, length-drop 2 part))
+
+-- the slots before i are legal entries and lie from n on
+pub record Laid (part : List ℕ) (blocks : ℕ) (before entries : List ℕ) (n i : ℕ) : Type 0 where
   pub sized : length entries ≡ length before
   pub front : take n entries ≡ take n before
-  pub rest : drop at entries ≡ drop at before
-  pub count : at ≡ n + length (drop n (take at entries))
-  pub on : while_legal one blocks (slots part) ≡ drop n (take at entries) ++ while_legal one blocks (drop i part)
+  pub rest : drop (n + i) entries ≡ drop (n + i) before
+  pub count : i ≡ length (drop n (take (n + i) entries))
+  pub on : while_legal one blocks (slots part) ≡ drop n (take (n + i) entries) ++ while_legal one blocks (drop i (slots part))
 
-pub part-begin : (part : List ℕ) (blocks : ℕ) (before : List ℕ) (n : ℕ) → Laid part blocks before before n 2 n
+pub part-begin : (part : List ℕ) (blocks : ℕ) (before : List ℕ) (n : ℕ) → Laid part blocks before before n 0
 part-begin part blocks before n =
+    let z : n + 0 ≡ n = omega arith in
     let e : drop n (take n before) ≡ [] = drop_of_length-le (take n before) {i = n} (omega (arith, length-take n before)) in
-    record { even = omega arith; past = omega arith; sized = refl; front = refl; rest = refl; count = rw e (omega arith); on = rw e }
+    record { sized = refl; front = refl; rest = refl; count = rw (z, e); on = rw (z, e) }
 
-module _ {part : List ℕ} {blocks : ℕ} {before entries : List ℕ} {n i at : ℕ} (l : Laid part blocks before entries n i at) where
+module _ {part : List ℕ} {blocks : ℕ} {before entries : List ℕ} {n i : ℕ} (l : Laid part blocks before entries n i) where
   -- no more entries are read
-  ends : while_legal one blocks (drop i part) ≡ [] → PartRead part blocks n before entries at
+  ends : while_legal one blocks (drop i (slots part)) ≡ [] → PartRead part blocks n before entries (n + i)
   ends e =
-      let s : while_legal one blocks (slots part) ≡ drop n (take at entries) = l.on ∙ rw e (append-nil (drop n (take at entries))) in
-      rw s (l.count, part-is before entries n at (omega (arith, l.even, l.past)) l.front l.rest)
+      let s : while_legal one blocks (slots part) ≡ drop n (take (n + i) entries) = l.on ∙ rw e (append-nil (drop n (take (n + i) entries))) in
+      rw s (omega (arith, l.count), part-is before entries n (n + i) (omega arith) l.front l.rest)
 
-  pub part-full : length part ≤ i → PartRead part blocks n before entries at
-  part-full h = ends (legal-end one blocks part i h)
+  pub part-full : (r : ℕ) → r ≡ n + i → length (slots part) ≤ i → PartRead part blocks n before entries r
+  part-full r e h = rw e (ends (legal-end one blocks (slots part) i h))
 
-  pub part-stopped : i < length part → legal one blocks (get_or part i 0) ≡ false → PartRead part blocks n before entries at
-  part-stopped h e = ends (legal-stop one blocks part i h e)
+  pub part-stopped : i < length (slots part) → legal one blocks (get_or (slots part) i 0) ≡ false → PartRead part blocks n before entries (n + i)
+  part-stopped h e = ends (legal-stop one blocks (slots part) i h e)
 
-  pub part-again : i < length part → legal one blocks (get_or part i 0) ≡ true → n + length part ≤ 2 + length before
-      → Laid part blocks before (set entries at (get_or part i 0)) n (i + 1) (at + 1)
+  pub part-again : i < length (slots part) → legal one blocks (get_or (slots part) i 0) ≡ true → n + length (slots part) ≤ length before
+      → Laid part blocks before (set entries (n + i) (get_or (slots part) i 0)) n (i + 1)
   part-again h e room =
-      let v = get_or part i 0 in
-      let low : n ≤ at = omega (arith, l.even, l.past) in
-      let f : drop n (take (at + 1) (set entries at v)) ≡ drop n (take at entries) ++ v ∷ [] =
-      part-on entries n at v low (omega (arith, l.even, l.sized)) in
+      let v = get_or (slots part) i 0 in
+      let a : n + (i + 1) ≡ n + i + 1 = omega arith in
+      let f : drop n (take (n + i + 1) (set entries (n + i) v)) ≡ drop n (take (n + i) entries) ++ v ∷ [] =
+      part-on entries n (n + i) v (omega arith) (omega (arith, l.sized)) in
       record {
-        even = omega (arith, l.even);
-        past = omega (arith, l.past);
-        sized = length-set entries at v ∙ l.sized;
-        front = take-set-le n entries at v low ∙ l.front;
-        rest = rest-on entries at v before l.rest;
-        count = rw (f, length-append (drop n (take at entries)) (v ∷ [])) (omega (arith, l.count));
+        sized = length-set entries (n + i) v ∙ l.sized;
+        front = take-set-le n entries (n + i) v (omega arith) ∙ l.front;
+        rest = rw a (rest-on entries (n + i) v before l.rest);
+        count = rw (a, f, length-append (drop n (take (n + i) entries)) (v ∷ [])) (omega (arith, l.count));
         on =
-            l.on ∙ ap (λ (k : List ℕ). drop n (take at entries) ++ k) (legal-next one blocks part i h e)
-            ∙ sym (rw f (append_assoc (drop n (take at entries)) (v ∷ []) (while_legal one blocks (drop (i + 1) part))));
+            l.on ∙ ap (λ (k : List ℕ). drop n (take (n + i) entries) ++ k) (legal-next one blocks (slots part) i h e)
+            ∙ sym (rw (a, f) (append_assoc (drop n (take (n + i) entries)) (v ∷ []) (while_legal one blocks (drop (i + 1) (slots part)))));
       }
 
 -- ---- entries taken in one by one
@@ -169,24 +169,22 @@ pub taken_none : (table : List ℕ) (size : ℕ) → TakenIn [] table size table
 unfolding replay_on
 taken_none table size = refl
 
-legal-at : (entries : List ℕ) (n j : ℕ) → j < length entries → j < n → all_of (legal one 1024) (take n entries) ≡ true
-    → legal one 1024 (get_or entries j 0) ≡ true
-legal-at entries n j h l good =
-    rw (get_or-take n entries j 0 l) at (all-of-at (legal one 1024) (take n entries) j 0 good (omega (arith, length-take n entries)))
+legal-at : (entries : List ℕ) (j : ℕ) → j < length entries → all_of (legal one 1024) entries ≡ true → legal one 1024 (get_or entries j 0) ≡ true
+legal-at entries j h good = all-of-at (legal one 1024) entries j 0 good h
 
 pub taken-on :
-    (entries : List ℕ) (n j : ℕ) (before table after : List ℕ) (size r : ℕ) → j < length entries → j < n → all_of (legal one 1024) (take n entries) ≡ true
+    (entries : List ℕ) (j : ℕ) (before table after : List ℕ) (size r : ℕ) → j < length entries → all_of (legal one 1024) entries ≡ true
     → TakenIn (take j entries) before 0 table size
     → ((blocks : ℕ) → blocks ≤ 1024 → legal one blocks (get_or entries j 0) ≡ true → TakenIn (get_or entries j 0 ∷ []) table size after r)
     → TakenIn (take (j + 1) entries) before 0 after r
-taken-on entries n j before table after size r h l good so_far takes =
+taken-on entries j before table after size r h good so_far takes =
     let w = get_or entries j 0 in
-    takes 1024 (omega arith) (legal-at entries n j h l good) ∙ ap (λ (f : Mapped). replay_on one f (w ∷ [])) so_far
+    takes 1024 (omega arith) (legal-at entries j h good) ∙ ap (λ (f : Mapped). replay_on one f (w ∷ [])) so_far
     ∙ sym (rw (add-one, take-suc entries j 0 h) (replay-append one (record { table = before; size = 0 }) (take j entries) (w ∷ [])))
 
 -- a legal entry keeps its rules
-pub valid-at : (entries : List ℕ) (n j : ℕ) → j < length entries → j < n → all_of (legal one 1024) (take n entries) ≡ true → Valid one 1024 (get_or entries j 0)
-valid-at entries n j h l good = legal-valid one 1024 (get_or entries j 0) (legal-at entries n j h l good)
+pub valid-at : (entries : List ℕ) (j : ℕ) → j < length entries → all_of (legal one 1024) entries ≡ true → Valid one 1024 (get_or entries j 0)
+valid-at entries j h good = legal-valid one 1024 (get_or entries j 0) (legal-at entries j h good)
 
 -- ---- the loop over the log blocks
 

@@ -11,11 +11,10 @@ use Rattle.words.specs.Edition.{Edition, one}
 use Rattle.words.specs.BlockMap.{taken}
 use Rattle.words.specs.Logic.{is_zero, all_of, member}
 use Rattle.words.specs.Memory.{Memory, block_at, word_at}
-use Rattle.block_log.specs.Refusals.{Refused}
 use Rattle.block_log.specs.Chain.{entries_from}
 use Rattle.block_log.specs.Entry.{rules}
 use Rattle.words.proofs.Tests.{is-zero, not-zero}
-use Rattle.inspection.specs.declared.Fault.{Fault}
+use Rattle.inspection.specs.Told.{Fault}
 use Rattle.inspection.specs.Faults.{fault_at, size_fault, super_fault, zeros_ahead, last_of, link_word, link_value, index_fault, endless_fault, block_fault}
 use Rattle.inspection.specs.Faults.{rule_of, first_broken, entry_fault, last_covering, first_byte, end_fault}
 use Rattle.inspection.specs.Parts.{MapOfChain, first_clash, shared_by}
@@ -24,7 +23,7 @@ use Rattle.inspection.specs.Reading.{block_of, slot_of}
 -- ---- 1
 
 abbrev sized : ℕ → ℕ → ℕ → ℕ → Fault
-sized rule block word n = record { reply = Refused 1; rule = rule; block = block; word = word; value = n; detail = 0 }
+sized rule block word n = record { number = 1; rule = rule; block = block; word = word; value = n; detail = 0 }
 
 module _ (n blocks : ℕ) (e : blocks ≡ n / 64) where
   pub size-broken : 64 * blocks ≢ n → size_fault one n ≡ sized 1 blocks (n - 64 * blocks) n

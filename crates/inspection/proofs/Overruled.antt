@@ -6,9 +6,9 @@ use mathlib.Core.List.{List, [], ◌∷◌, ◌++◌}
 use mathlib.Core.Bool.{Bool, true, false, ◌||◌}
 use Prim.Native.Nat.{ℕ, zero, suc, ◌+◌, ◌-◌, ◌*◌, ◌^◌, ◌≤◌, ◌<◌}
 use native.Mathlib.Omega.{arith}
-use lib.ListN.{length, get_or, take, drop, set, replicate, length-set, length-take, length-replicate, drop_of_length-le}
+use lib.ListN.{length, get_or, drop, set, replicate, length-set, length-replicate, drop_of_length-le}
 use lib.Pow.{pow-add, pow_mono}
-use lib.Seq.{drop-cons, get_or-take, length-take-le}
+use lib.Seq.{drop-cons}
 use borrow.Author.Tests.{le-leb, lt-leb, lt-ltb, le-ltb}
 use Rattle.words.specs.BlockMap.{taken, set_run, map_word}
 use Rattle.words.specs.Logic.{one_if, some_of}
@@ -93,50 +93,45 @@ length-overruled (w ∷ ws) = ap suc (length-overruled ws)
 -- ---- the loop
 
 -- from j on the marks are those of the entries, and the map has the blocks that these cover
-pub record Marked (entries : List ℕ) (n : ℕ) (before marks later : List ℕ) (j : ℕ) : Type 0 where
-  pub low : j ≤ n
+pub record Marked (entries before marks later : List ℕ) (j : ℕ) : Type 0 where
+  pub low : j ≤ length entries
   pub map : length later ≡ 16
   pub sized : length marks ≡ length before
-  pub covered : Covered later (drop j (take n entries))
-  pub laid : drop j marks ≡ overruled_all (drop j (take n entries)) ++ drop n before
+  pub covered : Covered later (drop j entries)
+  pub laid : drop j marks ≡ overruled_all (drop j entries) ++ drop (length entries) before
 
-none-behind : (xs : List ℕ) (n : ℕ) → drop n (take n xs) ≡ []
-none-behind xs n = drop_of_length-le (take n xs) {i = n} (omega (arith, length-take n xs))
+pub mark-begin : (entries before : List ℕ) → Marked entries before before (replicate 16 0) (length entries)
+mark-begin entries before =
+    let e : drop (length entries) entries ≡ [] = drop_of_length-le entries (omega arith) in
+    record {
+      low = omega arith;
+      map = length-replicate {A = ℕ} 16 0;
+      sized = refl;
+      covered = rw e covered_none;
+      laid = rw (e, overruled-none);
+    }
 
-pub mark-begin : (entries before : List ℕ) (n : ℕ) → Marked entries n before before (replicate 16 0) n
-mark-begin entries before n = record {
-  low = omega arith;
-  map = length-replicate {A = ℕ} 16 0;
-  sized = refl;
-  covered = rw (none-behind entries n) covered_none;
-  laid = rw (none-behind entries n, overruled-none);
-}
-
-module _ {entries : List ℕ} {n : ℕ} {before marks later : List ℕ} {j : ℕ} (m : Marked entries n before marks later j) where
-  pub mark-again : n ≤ length entries → n ≤ length before → 0 < j → (r : ℕ) (map : List ℕ)
+module _ {entries before marks later : List ℕ} {j : ℕ} (m : Marked entries before marks later j) where
+  pub mark-again : length entries ≤ length before → 0 < j → (r : ℕ) (map : List ℕ)
       → entry_v (get_or entries (j - 1) 0) + entry_n (get_or entries (j - 1) 0) ≤ 1024
       → r ≡ map_word (taken later) (entry_v (get_or entries (j - 1) 0)) (entry_n (get_or entries (j - 1) 0))
       → map ≡ set_run true later (entry_v (get_or entries (j - 1) 0)) (entry_n (get_or entries (j - 1) 0))
-      → Marked entries n before (set marks (j - 1) r) map (j - 1)
-  mark-again le lb pos r map h er em =
+      → Marked entries before (set marks (j - 1) r) map (j - 1)
+  mark-again lb pos r map h er em =
       let w = get_or entries (j - 1) 0 in
       let s : suc (j - 1) ≡ j = omega arith in
-      let len : j - 1 < length (take n entries) = omega (arith, length-take n entries, m.low) in
-      let d : drop (j - 1) (take n entries) ≡ w ∷ drop j (take n entries) =
-      drop-cons (take n entries) (j - 1) 0 len
-      ∙ rw (s, get_or-take n entries (j - 1) 0 (omega (arith, m.low))) refl in
+      let d : drop (j - 1) entries ≡ w ∷ drop j entries = drop-cons entries (j - 1) 0 (omega (arith, m.low)) ∙ rw s refl in
       record {
         low = omega (arith, m.low);
         map = ap length em ∙ length-set_run true later (entry_v w) (entry_n w) ∙ m.map;
         sized = length-set marks (j - 1) r ∙ m.sized;
-        covered = rw (d, em) (covered-on later (drop j (take n entries)) w m.map h m.covered);
+        covered = rw (d, em) (covered-on later (drop j entries) w m.map h m.covered);
         laid =
             back_on marks (j - 1) r (omega (arith, m.sized, m.low))
-            ∙ rw (s, m.laid, d, overruled-on later (drop j (take n entries)) w r m.covered er) refl;
+            ∙ rw (s, m.laid, d, overruled-on later (drop j entries) w r m.covered er) refl;
       }
 
-  pub mark-end : n ≤ length entries → j ≤ 0 → marks ≡ overruled_all (take n entries) ++ drop (length (overruled_all (take n entries))) before
-  mark-end le z =
+  pub mark-end : j ≤ 0 → marks ≡ overruled_all entries ++ drop (length (overruled_all entries)) before
+  mark-end z =
       let e : j ≡ 0 = omega arith in
-      let l : length (overruled_all (take n entries)) ≡ n = length-overruled (take n entries) ∙ length-take-le n entries le in
-      rw l (rw e at m.laid)
+      rw (length-overruled entries) (rw e at m.laid)

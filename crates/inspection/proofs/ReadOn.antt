@@ -5,8 +5,8 @@ use mathlib.Core.List.{List, [], ◌∷◌, ◌++◌}
 use mathlib.Core.Bool.{Bool, true, false, ◌||◌, or-false}
 use Prim.Native.Nat.{ℕ, zero, suc, ◌+◌, ◌-◌, ◌≤◌, ◌<◌}
 use native.Mathlib.Omega.{arith}
-use lib.ListN.{length, take, drop, set, replicate, length-set, length-replicate}
-use lib.Seq.{length-take-le}
+use lib.ListN.{length, get_or, take, drop, set, replicate, length-set, length-replicate}
+use lib.Seq.{length-take-le, set-get_or}
 use borrow.Author.Tests.{le-leb, lt-leb, leb-false}
 use Rattle.words.specs.BlockMap.{taken, set_block, set_all}
 use Rattle.words.specs.Edition.{one}
@@ -143,3 +143,8 @@ module _ {words : List ℕ} {blocks : ℕ} {before chain map : List ℕ} {b coun
               ∙ sym (rw f (set_all-snoc (replicate 16 0) (take count chain) b));
           on = rw (f, eb) (r.on ∙ read_next blocks (memory one words) (take count chain) b count l (same ∙ h));
         }
+
+-- an element put back where it stood changes nothing
+pub reads-kept : {words : List ℕ} {blocks : ℕ} {before chain map : List ℕ} {n : ℕ} (i : ℕ) → ReadsChain words blocks before chain n map
+    → ReadsChain words blocks before (set chain i (get_or chain i 0)) n map
+reads-kept {chain = chain} i r = rw (set-get_or chain i 0) r

@@ -7,11 +7,14 @@ use Prim.Native.Nat.{ℕ, zero, suc, ◌+◌, ◌-◌, ◌≤◌, ◌<◌}
 use native.Mathlib.Numerals.{add-one}
 use native.Mathlib.Omega.{arith}
 use lib.Dec.{leb, eqb}
+use Rattle.std.specs.Prelude.{◌==◌}
+use Rattle.std.specs.List.{take_while}
+use Rattle.std.proofs.lemmas.List.Sums.{take_while-cons}
 use lib.ListN.{length, get_or, drop, drop_of_length-le}
 use lib.Seq.{drop-cons}
 use borrow.Author.Tests.{le-leb, lt-leb, eq-eqb, ne_eqb}
 use Rattle.words.specs.Edition.{one}
-use Rattle.words.specs.BlockMap.{taken, set_all}
+use Rattle.words.specs.BlockMap.{set_all}
 use Rattle.words.specs.Logic.{some_of}
 use Rattle.words.specs.Memory.{Memory, block_at, byte_in}
 use Rattle.block_log.specs.Chain.{bad_log_block}
@@ -23,24 +26,12 @@ use Rattle.inspection.specs.Parts.{clashes_at, first_clash}
 
 -- ---- the first word that is not 0
 
-none_ahead : (ws : List ℕ) (k : ℕ) → get_or ws k 0 ≢ 0 → zeros_ahead (drop k ws) ≡ 0
+-- it stands behind those that are
+pub zeros-taken : (ws : List ℕ) → length (take_while (λ w. w == 0) ws) ≡ zeros_ahead ws
 unfolding zeros_ahead
-none_ahead [] k h = absurd (h refl)
-none_ahead (zero ∷ ws) zero h = absurd (h refl)
-none_ahead (suc w ∷ ws) zero h = refl
-none_ahead (w ∷ ws) (suc k) h = none_ahead ws k h
-
-module _ (part : List ℕ) (i : ℕ) where
-  pub zeros-next : i < length part → get_or part i 0 ≡ 0 → i + zeros_ahead (drop i part) ≡ i + 1 + zeros_ahead (drop (i + 1) part)
-  unfolding zeros_ahead
-  zeros-next h e = rw (drop-cons part i 0 h, e, add-one) (omega arith)
-
-  pub zeros-stop : get_or part i 0 ≢ 0 → i + zeros_ahead (drop i part) ≡ i
-  zeros-stop ne = let e : zeros_ahead (drop i part) ≡ 0 = none_ahead part i ne in omega arith
-
-  pub zeros-over : length part ≤ i → i + zeros_ahead (drop i part) ≡ i
-  unfolding zeros_ahead
-  zeros-over h = rw (drop_of_length-le part h) (omega arith)
+zeros-taken [] = refl
+zeros-taken (zero ∷ ws) = ap length (take_while-cons (λ w. w == 0) zero ws) ∙ ap suc (zeros-taken ws)
+zeros-taken (suc w ∷ ws) = let e : (suc w == 0) ≡ false = ne_eqb (suc w) 0 (λ z. omega arith) in rw (take_while-cons (λ w. w == 0) (suc w) ws, e)
 
 -- ---- the first log block that breaks 6
 
@@ -100,10 +91,6 @@ module _ (block : List ℕ) (k e : ℕ) where
   byte-over h = let a : e - k ≡ 0 = omega arith in rw a
 
 -- ---- the first block that is taken already
-
-pub some_block : (map : List ℕ) (b : ℕ) → b ≢ 0 → clashes_at map b ≡ taken map b
-some_block map zero h = absurd (h refl)
-some_block map (suc b) h = refl
 
 module _ (map table : List ℕ) (v : ℕ) where
   pub clash-here : v < length table → clashes_at map (get_or table v 0) ≡ true → v + first_clash map (drop v table) ≡ v

@@ -1,16 +1,23 @@
 -- A block's use, by the maps of log blocks and of taken blocks; and the map of taken blocks, in which block 0 is set behind the chain.
 use mathlib.Core.Path.{◌≡◌, refl, sym, ap, ap₂, ◌∙◌}
-use mathlib.Core.List.{List, ◌∷◌, ◌++◌, append-nil}
+use mathlib.Core.Logic.{◌≢◌}
+use mathlib.Core.List.{List, [], ◌∷◌}
 use mathlib.Core.Bool.{Bool, true, false, ◌||◌, or-false, or_comm}
-use Prim.Native.Nat.{ℕ, zero, suc, ◌+◌, ◌≤◌, ◌<◌}
+use Prim.Native.Nat.{ℕ, zero, suc, ◌+◌, ◌<◌}
 use native.Mathlib.Omega.{arith}
-use lib.ListN.{length, drop, replicate, drop_of_length-le}
-use borrow.Author.Tests.{eq-eqb, ne_eqb}
+use lib.Dec.{eqb}
+use lib.ListN.{length, get_or, set, replicate}
+use lib.Seq.{get_or-set_same, get_or-set_other}
+use borrow.Author.Tests.{eq-eqb, ne_eqb, eqb-true}
+use Rattle.words.proofs.Tests.{no_true}
 use Rattle.words.specs.BlockMap.{taken, set_block, set_all, map_of}
 use Rattle.words.specs.Logic.{member, list_from, any}
 use Rattle.block_log.specs.Opening.{taken_at_opening}
 use Rattle.words.proofs.BlockMap.{taken-set_block}
 use Rattle.words.proofs.MapOf.{Below, Sound, sound-zeros, sound-set_all, sound-set_block, taken-set_all, taken-set_all-zero, map_is, in_map}
+use Rattle.inspection.specs.declared.Use.{Use}
+use Rattle.inspection.specs.declared.Use.TheVariants.{Free}
+use Rattle.inspection.specs.Told.{use_number, use_numbers}
 use Rattle.inspection.specs.Parts.{use_in, map_with}
 use Rattle.inspection.specs.Reading.{use_of}
 use Rattle.inspection.proofs.ReadOn.{with-member}
@@ -56,9 +63,30 @@ module _ (table chain : List ℕ) where
   unfolding use_of
   of-free b e f = rw (e, f, use_of)
 
--- a list that is made whole
-pub list-end : (f : ℕ → ℕ) (ys xs : List ℕ) (b n : ℕ) → ys ≡ list_from 0 b f ++ drop b xs → b ≡ n → length xs ≤ n → ys ≡ list_from 0 n f
-list-end f ys xs b n so_far e h = so_far ∙ rw (e, drop_of_length-le xs h, append-nil (list_from 0 n f))
+-- uses that are right one by one
+pub numbers-are : (us : List Use) (f : ℕ → ℕ) (b n : ℕ) → length us ≡ n → ((i : ℕ) → i < n → use_number (get_or us i Free) ≡ f (b + i))
+    → use_numbers us ≡ list_from b n f
+numbers-are [] f b zero l h = refl
+numbers-are [] f b (suc n) l h = absurd (omega arith)
+numbers-are (u ∷ us) f b zero l h = absurd (omega arith)
+numbers-are (u ∷ us) f b (suc n) l h =
+    let z : b + 0 ≡ b = omega arith in
+    ap₂ (λ (x : ℕ) (xs : List ℕ). x ∷ xs) (h 0 (omega arith) ∙ ap f z)
+    (numbers-are us f (suc b) n (omega arith) (λ i k. let e : b + suc i ≡ suc b + i = omega arith in h (suc i) (omega arith) ∙ ap f e))
+
+-- one more
+pub uses-on : (us : List Use) (f : ℕ → ℕ) (b : ℕ) (u : Use) → b < length us → ((i : ℕ) → i < b → use_number (get_or us i Free) ≡ f i) → use_number u ≡ f b
+    → (i : ℕ) → i < b + 1 → use_number (get_or (set us b u) i Free) ≡ f i
+uses-on us f b u h so_far e i l = go (eqb i b) refl
+  where
+    below : i < b + 1 → i ≢ b → i < b
+    below h n = omega arith
+
+    go : (t : Bool) → eqb i b ≡ t → use_number (get_or (set us b u) i Free) ≡ f i
+    go true x = rw (eqb-true i b x, get_or-set_same us b u Free h) e
+    go false x =
+        let n : i ≢ b = λ z. no_true (eq-eqb i b z) x in
+        rw (get_or-set_other us b i u Free n) (so_far i (below l n))
 
 -- two functions that agree below a number give one list
 pub same-list : (i n : ℕ) (f g : ℕ → ℕ) → ((k : ℕ) → k < i + n → f k ≡ g k) → list_from i n f ≡ list_from i n g

@@ -10,19 +10,18 @@ use Rattle.words.specs.Edition.{one}
 use Rattle.words.specs.BlockMap.{set_block, set_all, free_count}
 use Rattle.words.specs.Logic.{list_from}
 use Rattle.words.specs.Memory.{memory, block_count, wrong_size}
-use Rattle.words.proofs.BlockMap.{length-set_all}
 use Rattle.words.proofs.MapOf.{Below}
 use Rattle.words.proofs.Memory.{size-facts}
 use Rattle.block_log.specs.CatchUp.{TakenIn}
 use Rattle.block_log.specs.Chain.{slots_of}
 use Rattle.block_log.specs.Entry.{legal}
-use Rattle.block_log.specs.Opening.{number_of, bad_entry, open_refusal, scratch_after}
-use Rattle.block_log.specs.Replay.{Mapped, empty_file, replay, replay_on}
+use Rattle.block_log.specs.Opening.{bad_entry, open_refusal, scratch_after}
+use Rattle.block_log.specs.Replay.{empty_file, replay}
 use Rattle.block_log.proofs.Cover.{fresh}
 use Rattle.block_log.proofs.Sound.{Sound, sound-fresh, sound-replay}
 use Rattle.block_log.proofs.Taken.{table_below}
-use Rattle.inspection.specs.declared.Fault.{Fault}
-use Rattle.inspection.specs.declared.Inspected.{Inspected}
+use Rattle.inspection.specs.Told.{Fault}
+use Rattle.inspection.specs.Told.{Inspected}
 use Rattle.inspection.specs.Reading.{read_chain, read_log, read_file, read_taken, while_legal, overruled_all, use_of, longest_free}
 use Rattle.inspection.specs.Faults.{first_fault, size_fault}
 use Rattle.inspection.specs.Breaks.{breaks}
@@ -31,13 +30,14 @@ use Rattle.inspection.specs.Parts.{Front, ReadsChain, Inside, LogRead, AllLegal,
 use Rattle.inspection.proofs.ChainRead.{read-facts}
 use Rattle.inspection.proofs.Early.{fault-number, breaks-1, breaks-2, breaks-3, breaks-4, breaks-5}
 use Rattle.inspection.proofs.Entries.{agrees}
-use Rattle.inspection.proofs.Given.{take-padded, chain-below, rows_are, end_is, first-entries, entries-few}
+use Rattle.inspection.proofs.Given.{take-padded, chain-below, rows_are, end_is}
 use Rattle.inspection.proofs.Known.{refusal-at-most-9}
 use Rattle.inspection.proofs.Late.{breaks-7}
 use Rattle.inspection.proofs.LateBlock.{breaks-6}
 use Rattle.inspection.proofs.LateEnd.{breaks-9}
 use Rattle.inspection.proofs.LateShared.{breaks-8}
-use Rattle.inspection.proofs.Legal.{read-legal, while-hit, while-stop, while-none}
+use Rattle.inspection.proofs.Legal.{read-legal, while-hit, while-stop, while-none, while-le}
+use Rattle.inspection.proofs.Places.{place-count}
 use Rattle.inspection.proofs.Uses.{map_read, uses-same}
 
 -- ---- the chain and the entries, of an image of a right size
@@ -58,43 +58,46 @@ module _ (words : List ℕ) (size : wrong_size one words ≡ false) where
   whole : length words ≡ 64 * B
   whole = omega (arith, (size-facts one words size).0)
 
+  read-few : length es ≤ 3968
+  unfolding read_log
+  read-few =
+      omega (
+        arith,
+        (read-facts B (memory one words)).1,
+        while-le one B (slots_of (memory one words) cs),
+        place-count one words cs (read-facts B (memory one words)).0,
+      )
+
   module _ {chain map : List ℕ} {k : ℕ} (r : ReadsChain words B (replicate 64 0) chain k map) where
     blocks-are : take k chain ≡ cs
     blocks-are = ap (take k) r.front ∙ take-padded 64 cs k r.count
 
-    pub chain-inside : (k ≤ 64) × Inside words B (take k chain)
+    pub chain-inside : Inside words B (take k chain)
     chain-inside =
-        let f = read-facts B (memory one words) in (
-          omega (arith, r.count, f.1),
-          rw blocks-are (record { whole = whole; few = blocks-most; short = f.1; chained = f.0 }),
-        )
+        let f = read-facts B (memory one words) in
+        rw blocks-are (record { whole = whole; few = blocks-most; short = f.1; chained = f.0 })
 
     module _ {entries : List ℕ} {n : ℕ} (l : LogRead words B (take k chain) (replicate 3968 0) entries n) where
       log_is : (n ≡ length es) × (entries ≡ padded 3968 es)
       unfolding read_log
       log_is = rw blocks-are at l
 
+      entries-are : take n entries ≡ es
+      entries-are = ap (take n) log_is.1 ∙ take-padded 3968 es n log_is.0
+
+      pub log-few : n ≤ 3968
+      log-few = omega (arith, log_is.0, read-few)
+
+      pub log-ready : AllLegal (take n entries)
+      unfolding read_log
+      log-ready = rw entries-are (read-legal one B _ blocks-most)
+
       module _ {table : List ℕ} {end : ℕ} (t : TakenIn (take n entries) (replicate 256 0) 0 table end) where
-        pub readings : Readings words chain k map entries n table end
+        pub readings : Readings words (take k chain) map (take n entries) table end
         unfolding read_file replay
-        readings = record {
-          size = size;
-          chain = r.front;
-          count = r.count;
-          logs = r.map;
-          entries = log_is.1;
-          entry_count = log_is.0;
-          file = rw (ap (take n) log_is.1 ∙ take-padded 3968 es n log_is.0) at t;
-        }
+        readings = record { size = size; chain = blocks-are; logs = r.map; entries = entries-are; file = rw entries-are at t }
 
 -- ---- what comes of it
-
--- the first so many entries are legal
-pub entries-legal :
-    {words chained map written rows : List ℕ} {k n end : ℕ} → Readings words chained k map written n rows end → AllLegal written n
-unfolding read_log
-entries-legal {words} {written = written} {n = n} g =
-    rw (first-entries g) (read-legal one (block_count one words) _ (blocks-most words g.size))
 
 none-bad : (B : ℕ) (ws : List ℕ) → bad_entry one B (while_legal one B ws) ≡ false
 unfolding bad_entry
@@ -114,27 +117,13 @@ file-sound words size =
     sound-replay one B (read_log one B (memory one words)) empty_file (none-bad B (slots_of (memory one words) (read_chain B (memory one words))))
     (sound-fresh one B (omega (arith, (size-facts one words size).1)))
 
-rows-below : {words chained map written rows : List ℕ} {k n end : ℕ} → Readings words chained k map written n rows end → Below rows
+rows-below : {words chained map written rows : List ℕ} {end : ℕ} → Readings words chained map written rows end → Below rows
 rows-below {words} {rows = rows} g =
     rw (rows_are g) (table_below (read_file one (block_count one words) (memory one words)).table
     (λ v. omega (arith, (file-sound words g.size).in_image v, blocks-most words g.size)))
 
--- before the table is made
-pub log-ready :
-    (words : List ℕ) (size : wrong_size one words ≡ false) {chain map entries : List ℕ} {k n : ℕ}
-    → ReadsChain words (block_count one words) (replicate 64 0) chain k map
-    → LogRead words (block_count one words) (take k chain) (replicate 3968 0) entries n → (n ≤ 3968) × AllLegal entries n
-log-ready words size {entries = entries} {n = n} r l =
-    let f : Mapped = replay_on one (record { table = replicate 256 0; size = 0 }) (take n entries) in
-    let g = readings words size r l {table = f.table} {end = f.size} refl in
-    (entries-few g, entries-legal g)
-
--- the map has 16 words
-pub map-wide : {words chained map written rows : List ℕ} {k n end : ℕ} → Readings words chained k map written n rows end → length map ≡ 16
-map-wide {words} g = ap length g.logs ∙ length-set_all true (replicate 16 0) (read_chain (block_count one words) (memory one words)) ∙ length-replicate {A = ℕ} 16 0
-
 -- the answer, from its parts
-module _ {words chained map written rows : List ℕ} {k n end : ℕ} (g : Readings words chained k map written n rows end) where
+module _ {words chained map written rows : List ℕ} {end : ℕ} (g : Readings words chained map written rows end) where
   abbrev all : List ℕ
   all = set_all true (set_block true map 0) rows
 
@@ -148,26 +137,30 @@ module _ {words chained map written rows : List ℕ} {k n end : ℕ} (g : Readin
       ∙ ap (λ (t : List ℕ). list_from 0 1024 (use_of t (read_chain (block_count one words) (memory one words)))) (rows_are g)
 
   pub answers :
-      (B : ℕ) → B ≡ block_count one words → (f : Fault) (marks uses : List ℕ) (free longest : ℕ)
-      → Front (overruled_all (take n written)) (replicate 3968 0) marks → uses ≡ list_from 0 1024 (use_in map all) → free ≡ free_count all B
+      (B : ℕ) → B ≡ block_count one words → (f : Fault) (k n : ℕ) (chain entries marks uses : List ℕ) (free longest : ℕ)
+      → ReadsChain words B (replicate 64 0) chain k map → LogRead words B chained (replicate 3968 0) entries n
+      → Front (overruled_all written) (replicate 3968 0) marks → uses ≡ list_from 0 1024 (use_in map all) → free ≡ free_count all B
       → longest ≡ longest_free all B
       → ◌≡◌ {A = Inspected} (record {
         fault = f;
         found = record { chained = k; entries = n; length = end; free = free; longest = longest };
-        chain = chained;
-        entries = written;
+        chain = chain;
+        entries = entries;
         overruled = marks;
         table = rows;
         uses = uses;
       })
       (inspected_with one (block_count one words) (memory one words) f)
-  unfolding inspected_with found
-  answers B e_b f marks uses free longest em eu ef el =
+  unfolding inspected_with found read_log
+  answers B e_b f k n chain entries marks uses free longest r l em eu ef el =
       let u = eu ∙ uses-are in
       let a = ef ∙ ap₂ free_count taken_is e_b in
-      let l = el ∙ ap₂ longest_free taken_is e_b in
-      let o = em ∙ ap (λ (es : List ℕ). padded 3968 (overruled_all es)) (first-entries g) in
-      rw (u, a, l, o, end_is g, rows_are g, g.count, g.entry_count, g.chain, g.entries)
+      let h = el ∙ ap₂ longest_free taken_is e_b in
+      let o = em ∙ ap (λ (es : List ℕ). padded 3968 (overruled_all es)) g.entries in
+      let c = rw e_b at r.count in
+      let d = rw e_b at r.front in
+      let w = rw (e_b, g.chain) at l in
+      rw (u, a, h, o, end_is g, rows_are g, c, d, w.0, w.1)
 
 -- ---- the fault named breaks its rule
 
@@ -211,7 +204,7 @@ module _ (words before : List ℕ) where
   pub inspects : (after : List ℕ) (r : Inspected) → r ≡ inspected one words before → after ≡ scratch_after one words before → Inspects words before after r
   inspects after r e s =
       let f : r.fault ≡ first_fault one words before = ap (λ (i : Inspected). i.fault) e ∙ fault-is in
-      let n = ap (λ (g : Fault). number_of g.reply) f ∙ fault-number one words before (refusal-at-most-9 one words before) in
+      let n = ap (λ (g : Fault). g.number) f ∙ fault-number one words before (refusal-at-most-9 one words before) in
       record {
         answer = e;
         number = n;

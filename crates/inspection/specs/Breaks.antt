@@ -6,9 +6,9 @@ use Rattle.words.specs.Logic.{is_zero, some_of, member, every}
 use Rattle.words.specs.Memory.{Memory, memory, block_count, block_at, word_at, byte_in}
 use Rattle.block_log.specs.Chain.{chain, outside, slots}
 use Rattle.block_log.specs.Entry.{entry_v, entry_b, rules, covers}
-use Rattle.block_log.specs.Opening.{number_of, file_of}
+use Rattle.block_log.specs.Opening.{file_of}
 use Rattle.block_log.specs.Replay.{end_in}
-use Rattle.inspection.specs.declared.Fault.{Fault}
+use Rattle.inspection.specs.Told.{Fault}
 
 -- one of a number's rules, by its place from 1 on
 abbrev pub rule_at : List Bool → ℕ → Bool
@@ -93,4 +93,4 @@ module _ (E : Edition) (words scratch : List ℕ) (f : Fault) where
 
   -- the place breaks the rule that is named
   unfoldable pub breaks : Bool
-  breaks = rule_at (breaks1 ∷ breaks2 ∷ breaks3 ∷ breaks4 ∷ breaks5 ∷ breaks6 ∷ breaks7 ∷ breaks8 ∷ breaks9 ∷ []) (number_of f.reply)
+  breaks = rule_at (breaks1 ∷ breaks2 ∷ breaks3 ∷ breaks4 ∷ breaks5 ∷ breaks6 ∷ breaks7 ∷ breaks8 ∷ breaks9 ∷ []) f.number

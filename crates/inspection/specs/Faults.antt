@@ -4,21 +4,20 @@ use Rattle.std.specs.Prelude.{ℕ, zero, suc, ◌+◌, ◌-◌, ◌/◌, ◌%◌
 use Rattle.words.specs.Edition.{Edition, block_bytes, blocks_min, blocks_max}
 use Rattle.words.specs.Logic.{is_zero, one_if, some_of, all_of, member}
 use Rattle.words.specs.Memory.{Memory, memory, block_count, block_at, word_at, byte_in}
-use Rattle.block_log.specs.Refusals.{Done, Refused}
 use Rattle.block_log.specs.Chain.{entries_from, bad_log_block}
 use Rattle.block_log.specs.Entry.{rules, covers}
-use Rattle.block_log.specs.Opening.{reply_of, open_refusal}
+use Rattle.block_log.specs.Opening.{open_refusal}
 use Rattle.block_log.specs.Replay.{Mapped, end_in}
-use Rattle.inspection.specs.declared.Fault.{Fault}
+use Rattle.inspection.specs.Told.{Fault}
 use Rattle.inspection.specs.Reading.{read_chain, read_log, read_file, block_of, slot_of}
 
 -- rule `rule` of number `number` is broken by a word of the image. `detail` is the virtual block of 8 and the byte in its block of 9, else 0
 abbrev pub fault_at : Memory → ℕ → ℕ → ℕ → ℕ → ℕ → Fault
 fault_at m number rule block word detail =
-    record { reply = reply_of number; rule = rule; block = block; word = word; value = word_at m block word; detail = detail }
+    record { number = number; rule = rule; block = block; word = word; value = word_at m block word; detail = detail }
 
 abbrev pub no_fault : Fault
-no_fault = record { reply = Done; rule = 0; block = 0; word = 0; value = 0; detail = 0 }
+no_fault = record { number = 0; rule = 0; block = 0; word = 0; value = 0; detail = 0 }
 
 -- a rule of two: the first where the test fails, else the second
 abbrev pub rule_of : Bool → ℕ
@@ -32,17 +31,17 @@ unfoldable pub size_fault : Edition → ℕ → Fault
 size_fault E n =
     let blocks = n / E.block_words in
     elim (eqb (n % E.block_words) 0) [
-      | false ↦ record { reply = Refused 1; rule = 1; block = blocks; word = n % E.block_words; value = n; detail = 0 }
+      | false ↦ record { number = 1; rule = 1; block = blocks; word = n % E.block_words; value = n; detail = 0 }
       | true ↦
           elim (ltb blocks blocks_min) [
-            | true ↦ record { reply = Refused 1; rule = 2; block = blocks; word = 0; value = n; detail = 0 }
-            | false ↦ record { reply = Refused 1; rule = 3; block = blocks_max; word = 0; value = n; detail = 0 }
+            | true ↦ record { number = 1; rule = 2; block = blocks; word = 0; value = n; detail = 0 }
+            | false ↦ record { number = 1; rule = 3; block = blocks_max; word = 0; value = n; detail = 0 }
           ]
     ]
 
 -- 2: a scratch of 1,024 numbers. It is no place of the image; the value is how many there are
 abbrev pub scratch_fault : ℕ → Fault
-scratch_fault n = record { reply = Refused 2; rule = 1; block = 0; word = 0; value = n; detail = 0 }
+scratch_fault n = record { number = 2; rule = 1; block = 0; word = 0; value = n; detail = 0 }
 
 -- ---- 3
 

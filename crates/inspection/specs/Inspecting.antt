@@ -5,10 +5,9 @@ use Rattle.words.specs.Logic.{list_from}
 use Rattle.words.specs.Memory.{Memory, memory, block_count, wrong_size}
 use Rattle.words.specs.BlockMap.{free_count}
 use Rattle.block_log.specs.Chain.{chain, log}
-use Rattle.block_log.specs.Opening.{number_of, open_refusal, scratch_after}
-use Rattle.inspection.specs.declared.Fault.{Fault}
+use Rattle.block_log.specs.Opening.{open_refusal, scratch_after}
 use Rattle.inspection.specs.declared.Found.{Found}
-use Rattle.inspection.specs.declared.Inspected.{Inspected}
+use Rattle.inspection.specs.Told.{Fault, Inspected}
 use Rattle.inspection.specs.Reading.{read_chain, read_log, read_file, read_taken, overruled_all, use_of, longest_free}
 use Rattle.inspection.specs.Faults.{first_fault}
 use Rattle.inspection.specs.Breaks.{breaks}
@@ -79,7 +78,7 @@ Agrees words scratch =
 -- read of an image that opens is its log
 pub record Inspects (words before after : List ℕ) (r : Inspected) : Type 0 where
   pub answer : r ≡ inspected one words before
-  pub number : number_of r.fault.reply ≡ open_refusal one words before
-  pub place : number_of r.fault.reply ≢ 0 → breaks one words before r.fault ≡ true
+  pub number : r.fault.number ≡ open_refusal one words before
+  pub place : r.fault.number ≢ 0 → breaks one words before r.fault ≡ true
   pub opens : Agrees words before
   pub scratch : after ≡ scratch_after one words before

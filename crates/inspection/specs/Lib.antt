@@ -3,3 +3,4 @@ pub mod Faults
 pub mod Breaks
 pub mod Inspecting
 pub mod Parts
+pub mod Told

@@ -1,24 +1,19 @@
 -- What inner functions ask for and answer, for their contracts. Nothing here is promised: `Inspecting` has what is.
 use Rattle.std.specs.Prelude.{ℕ, zero, suc, ◌+◌, ◌*◌, ◌≤◌, ◌≡◌, Bool, true, false, not, List, [], ◌∷◌, ◌++◌, length, get_or, take, drop, replicate}
-use Rattle.words.specs.Edition.{Edition, one, chain_max}
+use Rattle.words.specs.Edition.{Edition, one}
 use Rattle.words.specs.Logic.{is_zero, all_of, some_of, any, member}
 use Rattle.words.specs.Memory.{Memory, memory, block_count, wrong_size}
 use Rattle.words.specs.BlockMap.{taken, set_all}
 use Rattle.block_log.specs.Chain.{outside, slots, slots_of}
 use Rattle.block_log.specs.Entry.{legal}
 use Rattle.block_log.specs.Replay.{Mapped}
-use Rattle.inspection.specs.declared.Fault.{Fault}
+use Rattle.inspection.specs.Told.{Fault}
 use Rattle.inspection.specs.Reading.{read_chain, read_log, read_file, while_legal, block_of, slot_of}
 use Rattle.inspection.specs.Faults.{fault_at, rule_of, last_covering}
-use Rattle.inspection.specs.Inspecting.{padded, log_max}
 
 -- an array whose front is this list, and the rest as before
 abbrev pub Front : List ℕ → List ℕ → List ℕ → Type 0
 Front xs before after = after ≡ xs ++ drop (length xs) before
-
--- an array has n first elements
-abbrev pub HasFirst : ℕ → List ℕ → Type 0
-HasFirst n xs = length (take n xs) ≡ n
 
 -- whether the chain is read no further, with a map of the log blocks read
 abbrev pub stops_in : ℕ → List ℕ → ℕ → Bool
@@ -53,9 +48,9 @@ LogRead words blocks chain before after r =
     let es = while_legal one blocks (slots_of (memory one words) chain) in
     (r ≡ length es) × Front es before after
 
--- the first n of these are legal entries
-abbrev pub AllLegal : List ℕ → ℕ → Type 0
-AllLegal entries n = all_of (legal one 1024) (take n entries) ≡ true
+-- these are legal entries
+abbrev pub AllLegal : List ℕ → Type 0
+AllLegal entries = all_of (legal one 1024) entries ≡ true
 
 -- a block's use by the maps of log blocks and of taken blocks
 unfoldable pub use_in : List ℕ → List ℕ → ℕ → ℕ
@@ -83,12 +78,10 @@ shared_by E m chain logs log table =
     let j = last_covering v log in
     fault_at m 8 (rule_of (not (taken logs (get_or table v 0)))) (block_of E chain j) (slot_of E j) v
 
--- what was read of an image of a right size: its log blocks with their number and map, its entries with theirs, and its file
-pub record Readings (words chained : List ℕ) (k : ℕ) (map written : List ℕ) (n : ℕ) (rows : List ℕ) (end : ℕ) : Type 0 where
+-- what was read of an image of a right size: its log blocks and their map, its entries, and its file
+pub record Readings (words chained map written rows : List ℕ) (end : ℕ) : Type 0 where
   pub size : wrong_size one words ≡ false
-  pub chain : chained ≡ padded chain_max (read_chain (block_count one words) (memory one words))
-  pub count : k ≡ length (read_chain (block_count one words) (memory one words))
+  pub chain : chained ≡ read_chain (block_count one words) (memory one words)
   pub logs : map ≡ map_with (read_chain (block_count one words) (memory one words))
-  pub entries : written ≡ padded log_max (read_log one (block_count one words) (memory one words))
-  pub entry_count : n ≡ length (read_log one (block_count one words) (memory one words))
+  pub entries : written ≡ read_log one (block_count one words) (memory one words)
   pub file : ◌≡◌ {A = Mapped} (record { table = rows; size = end }) (read_file one (block_count one words) (memory one words))

@@ -1,12 +1,15 @@
 // What can be read of an image: its log blocks, its entries, the file that these give, and what each block is used for.
-ghost use Rattle.std.specs.Prelude.{◌≡◌, true, false, List, [], ◌∷◌, ℕ, ◌+◌, ◌≤◌, ◌<◌, length, take};
+ghost use Rattle.std.specs.Prelude.{◌≡◌, true, [], ◌∷◌, ◌+◌, ◌≤◌, ◌<◌, length};
 ghost use Rattle.words.specs.Edition.{one};
-ghost use Rattle.words.specs.Logic.{list_from, one_if};
+ghost use Rattle.words.specs.Logic.{list_from};
 ghost use Rattle.words.specs.Memory.{memory};
 ghost use Rattle.words.specs.BlockMap.{taken, map_word, set_all};
 ghost use Rattle.block_log.specs.CatchUp.{TakenIn};
+ghost use Rattle.inspection.specs.Told.{use_number, use_numbers};
 ghost use Rattle.inspection.specs.Reading.{overruled_all, longest_free};
 ghost use Rattle.inspection.specs.Parts.{Front, stops_in, ReadsChain, Inside, PartRead, LogRead, AllLegal, use_in};
+
+use crate::Use;
 
 // The log blocks read: how many, and the map of them.
 #[derive(Clone, Copy)]
@@ -14,13 +17,6 @@ pub struct Chained {
     pub count: usize,
     pub map: [u64; 16],
 }
-
-// An array lent as a slice: from here on its length is a fact that proofs may use. Nothing is done.
-fn sized_words(array: &[u64]) {}
-
-fn sized_indexes(array: &[u16]) {}
-
-fn sized_bytes(array: &[u8]) {}
 
 // Whether the chain is read no further at an index: it is 0, outside the image, or read already.
 fn stops_at(map: &[u64; 16], blocks: u64, index: u64) -> bool
@@ -40,64 +36,46 @@ pub(crate) fn read_chain(image: &[u64], blocks: u64, chain: &mut [u16; 64]) -> C
     requires { blocks ≤ 1024 }
     ensures { ReadsChain image.now blocks chain.old chain.new result.count result.map }
 {
-    sized_indexes(chain);
     let mut map = [0u64; 16];
     let mut b = block_log::links::first_index(image);
-    let mut count: usize = 0;
-    while count < 64 {
+    for (count, next) in chain.iter_mut().enumerate() {
         if stops_at(&map, blocks, b) {
             return Chained { count, map };
         }
-        chain[count] = b as u16;
+        *next = b as u16;
         words::map::set_block(&mut map, b as usize, true);
         b = block_log::links::next_index(image, b);
-        count += 1;
     }
-    Chained { count, map }
+    Chained { count: 64, map }
 }
 
 // The slots of a log block are laid behind the first n entries, up to the first that is no legal entry; how many entries there are then.
 fn read_part(part: &[u64], blocks: u64, entries: &mut [u64; 3968], n: usize) -> usize
-    requires { n + length part.now ≤ 3970 }
+    requires { (2 ≤ length part.now) × (n + length part.now ≤ 3970) }
     ensures { PartRead part.now blocks n entries.old entries.new result }
 {
-    sized_words(entries);
-    let mut i: usize = 2;
-    let mut at = n;
-    while i < part.len() {
-        let e = part[i];
-        if !block_log::is_legal(e, blocks) {
-            return at;
+    for (i, e) in part[2..].iter().enumerate() {
+        if !block_log::is_legal(*e, blocks) {
+            return n + i;
         }
-        entries[at] = e;
-        i += 1;
-        at += 1;
+        entries[n + i] = *e;
     }
-    at
-}
-
-fn wide(x: u16) -> usize
-    ensures { result ≡ x }
-{
-    x as usize
+    n + part.len() - 2
 }
 
 // The entries that can be read in these log blocks; how many.
 pub(crate) fn read_log(
     image: &[u64],
     blocks: u64,
-    chain: &[u16; 64],
-    count: usize,
+    chain: &[u16],
     entries: &mut [u64; 3968],
 ) -> usize
-    requires { (count ≤ 64) × Inside image.now blocks (take count chain.now) }
-    ensures { LogRead image.now blocks (take count chain.now) entries.old entries.new result }
+    requires { Inside image.now blocks chain.now }
+    ensures { LogRead image.now blocks chain.now entries.old entries.new result }
 {
-    sized_indexes(chain);
-    sized_words(entries);
     let mut n: usize = 0;
-    for k in 0..count {
-        let part = words::image::block(image, wide(chain[k]));
+    for b in chain {
+        let part = words::image::block(image, usize::from(*b));
         let to = read_part(part, blocks, entries, n);
         if to < n + 62 {
             return to;
@@ -107,23 +85,16 @@ pub(crate) fn read_log(
     n
 }
 
-// The first n entries are taken in, one after the other; the length of the file.
-pub(crate) fn replay(entries: &[u64; 3968], n: usize, table: &mut [u16; 256]) -> u32
-    requires { (n ≤ 3968) × AllLegal entries.now n }
-    ensures { TakenIn (take n entries.now) table.old 0 table.new result }
+// Entries are taken in, one after the other; the length of the file.
+pub(crate) fn replay(entries: &[u64], table: &mut [u16; 256]) -> u32
+    requires { AllLegal entries.now }
+    ensures { TakenIn entries.now table.old 0 table.new result }
 {
-    sized_words(entries);
     let mut size: u32 = 0;
-    for j in 0..n {
-        size = block_log::ahead::take_entry(entries[j], table, size);
+    for e in entries {
+        size = block_log::ahead::take_entry(*e, table, size);
     }
     size
-}
-
-fn bit(on: bool) -> u64
-    ensures { result ≡ one_if on }
-{
-    if on { 1 } else { 0 }
 }
 
 // The word whose bits say which of n numbers from v on are in a map.
@@ -132,25 +103,19 @@ fn bits_of(map: &[u64; 16], v: usize, n: usize) -> u64
     ensures { result ≡ map_word (taken map.now) v n }
 {
     let mut w: u64 = 0;
-    let mut i = n;
-    while 0 < i {
-        i -= 1;
-        w = 2 * w + bit(words::map::is_taken(map, v + i));
+    for i in (0..n).rev() {
+        w = 2 * w + u64::from(words::map::is_taken(map, v + i));
     }
     w
 }
 
-// Of each of the first n entries, which of its blocks are overruled.
-pub(crate) fn mark_overruled(entries: &[u64; 3968], n: usize, marks: &mut [u64; 3968])
-    requires { (n ≤ 3968) × AllLegal entries.now n }
-    ensures { Front (overruled_all (take n entries.now)) marks.old marks.new }
+// Of each of these entries, which of its blocks are overruled.
+pub(crate) fn mark_overruled(entries: &[u64], marks: &mut [u64; 3968])
+    requires { (length entries.now ≤ 3968) × AllLegal entries.now }
+    ensures { Front (overruled_all entries.now) marks.old marks.new }
 {
-    sized_words(entries);
-    sized_words(marks);
     let mut later = [0u64; 16];
-    let mut j = n;
-    while 0 < j {
-        j -= 1;
+    for j in (0..entries.len()).rev() {
         let e = entries[j];
         let v = block_log::first_virtual(e) as usize;
         let count = block_log::count(e) as usize;
@@ -173,36 +138,35 @@ pub(crate) fn take_one(map: &mut [u64; 16], b: usize)
 pub(crate) fn take_rows(table: &[u16; 256], map: &mut [u64; 16])
     ensures { map.new ≡ set_all true map.old table.now }
 {
-    sized_indexes(table);
-    for v in 0..256 {
-        take_one(map, wide(table[v]));
+    for b in table {
+        take_one(map, usize::from(*b));
     }
 }
 
-// A block's use, by the maps of log blocks and of taken blocks: 0 superblock, 1 log, 2 live, 3 free.
-fn use_in(logs: &[u64; 16], map: &[u64; 16], b: usize) -> u8
-    ensures { result ≡ use_in logs.now map.now b }
+// A block's use, by the maps of log blocks and of taken blocks.
+fn use_in(logs: &[u64; 16], map: &[u64; 16], b: usize) -> Use
+    ensures { use_number result ≡ use_in logs.now map.now b }
 {
     if b == 0 {
-        return 0;
+        Use::Superblock
+    } else if words::map::is_taken(logs, b) {
+        Use::Log
+    } else if words::map::is_taken(map, b) {
+        Use::Live
+    } else {
+        Use::Free
     }
-    if words::map::is_taken(logs, b) {
-        return 1;
-    }
-    if words::map::is_taken(map, b) {
-        return 2;
-    }
-    3
 }
 
 // The use of every block.
-pub(crate) fn mark_uses(logs: &[u64; 16], map: &[u64; 16], uses: &mut [u8; 1024])
-    ensures { uses.new ≡ list_from 0 1024 (use_in logs.now map.now) }
+pub(crate) fn uses(logs: &[u64; 16], map: &[u64; 16]) -> [Use; 1024]
+    ensures { use_numbers result ≡ list_from 0 1024 (use_in logs.now map.now) }
 {
-    sized_bytes(uses);
-    for b in 0..1024 {
-        uses[b] = use_in(logs, map, b);
+    let mut uses = [Use::Free; 1024];
+    for (b, of) in uses.iter_mut().enumerate() {
+        *of = use_in(logs, map, b);
     }
+    uses
 }
 
 // The most free blocks in a row.
@@ -212,17 +176,13 @@ pub(crate) fn longest_free(map: &[u64; 16], blocks: usize) -> usize
 {
     let mut best: usize = 0;
     let mut row: usize = 0;
-    let mut b: usize = 1;
-    while b < blocks {
-        if words::map::is_taken(map, b) {
-            row = 0;
+    for b in 1..blocks {
+        row = if words::map::is_taken(map, b) {
+            0
         } else {
-            row += 1;
-        }
-        if best < row {
-            best = row;
-        }
-        b += 1;
+            row + 1
+        };
+        best = best.max(row);
     }
     best
 }

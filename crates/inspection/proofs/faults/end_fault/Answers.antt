@@ -13,5 +13,5 @@ returns c = let m = memory one c.args.image.now in
     let q = c.in_block.result in
     let k = c.first_byte-k.ensures.0 ∙ ap (λ (part : List ℕ). first_byte part (q + 1) (512 - (q + 1))) c.block.ensures in
     c.fault_at.ensures
-    ∙ end-named m c.args.table.now c.args.size _ _ q _ _ c.block-v.ensures c.wide-b.ensures c.in_block.ensures k
+    ∙ end-named m c.args.table.now c.args.size _ _ q _ _ c.block-v.ensures c.from-b.ensures c.in_block.ensures k
     c.whole_words.ensures

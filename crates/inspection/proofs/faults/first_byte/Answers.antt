@@ -30,4 +30,5 @@ loop-k-preserved c = let a = c.args in
 pub returns : goal.returns
 returns c = let a = c.args in
     let l = c.loop-k in
-    (sym (l.invariant.1 ∙ byte-over a.part.now l.k 512 c.loop-k-test.false), l.invariant.0)
+    let z : l.k ≡ 512 = omega (arith, l.invariant.0) in
+    (sym (l.invariant.1 ∙ byte-over a.part.now l.k 512 c.loop-k-test.false ∙ z), omega arith)

@@ -6,6 +6,3 @@ use Rattle.inspection.proofs.faults.first_byte.Given as goal
 
 abbrev pub invariant-loop-k : goal.invariant-loop-k
 invariant-loop-k l = (l.k ≤ 512) × (first_byte l.part l.from (512 - l.from) ≡ first_byte l.part l.k (512 - l.k))
-
-abbrev pub decreases-loop-k : goal.decreases-loop-k
-decreases-loop-k l = 512 - l.k

@@ -3,8 +3,7 @@ use mathlib.Core.Bool.{false}
 use mathlib.Core.List.{List}
 use Prim.Native.Nat.{ℕ, suc, ◌-◌, ◌<◌}
 use native.Mathlib.Omega.{arith}
-use lib.ListN.{drop, take, drop_of_length-le}
-use lib.Seq.{get_or-take}
+use lib.ListN.{length, drop, drop_of_length-le}
 use Rattle.words.specs.Logic.{some_of}
 use Rattle.block_log.specs.Entry.{covers}
 use Rattle.inspection.proofs.Searches.{last-here, last_none, covers-back}
@@ -15,23 +14,19 @@ none-behind : (v : ℕ) (xs : List ℕ) (j : ℕ) → 0 < j → some_of (covers 
 none-behind v xs j h e = let z : suc (j - 1) ≡ j = omega arith in rw z e
 
 pub loop-j-init : goal.loop-j-init
-loop-j-init c = let xs = take c.args.n c.args.entries.now in
-    (omega arith, ap (some_of (covers c.args.v)) (drop_of_length-le xs {i = c.args.n} (omega (arith, c.requires.1))))
+loop-j-init c = let xs = c.args.entries.now in ap (some_of (covers c.args.v)) (drop_of_length-le xs {i = length xs} (omega arith))
 
 pub returns-then-covers : goal.returns-then-covers
 returns-then-covers c = let l = c.loop-j in
-    let xs = take c.args.n c.args.entries.now in
-    let h = ap (covers c.args.v) (get_or-take c.args.n c.args.entries.now (l.j - 1) 0 (omega arith)) ∙ sym c.covers.ensures ∙ c.if-covers.true in
-    (sym (last-here c.args.v xs (l.j - 1) (omega (arith, c.requires.1)) h (none-behind c.args.v xs l.j (omega arith) l.invariant.1)), omega arith)
+    sym (last-here c.args.v c.args.entries.now (l.j - 1) (omega (arith, l.auto.j)) (sym c.covers.ensures ∙ c.if-covers.true)
+    (none-behind c.args.v c.args.entries.now l.j c.loop-j-test.true l.invariant))
 
 pub loop-j-preserved : goal.loop-j-preserved
 loop-j-preserved c = let l = c.loop-j in
-    let xs = take c.args.n c.args.entries.now in
-    let h = ap (covers c.args.v) (get_or-take c.args.n c.args.entries.now (l.j - 1) 0 (omega arith)) ∙ sym c.covers.ensures ∙ c.if-covers.false in
-    (omega arith, covers-back c.args.v xs (l.j - 1) (omega (arith, c.requires.1)) h (none-behind c.args.v xs l.j (omega arith) l.invariant.1))
+    covers-back c.args.v c.args.entries.now (l.j - 1) (omega (arith, l.auto.j)) (sym c.covers.ensures ∙ c.if-covers.false)
+    (none-behind c.args.v c.args.entries.now l.j c.loop-j-test.true l.invariant)
 
 pub returns : goal.returns
-returns c = let a = c.args in
-    let l = c.loop-j in
+returns c = let l = c.loop-j in
     let z : l.j ≡ 0 = omega arith in
-    (sym (last_none a.v (take a.n a.entries.now) (rw z at l.invariant.1)), omega arith)
+    sym (last_none c.args.v c.args.entries.now (rw z at l.invariant))

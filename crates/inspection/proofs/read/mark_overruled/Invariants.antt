@@ -3,7 +3,4 @@ use Rattle.inspection.proofs.Overruled.{Marked}
 use Rattle.inspection.proofs.read.mark_overruled.Given as goal
 
 abbrev pub invariant-loop-j : goal.invariant-loop-j
-invariant-loop-j l = Marked l.entries l.n l.initial.marks l.marks l.later l.j
-
-abbrev pub decreases-loop-j : goal.decreases-loop-j
-decreases-loop-j l = l.j
+invariant-loop-j l = Marked l.entries l.initial.marks l.marks l.later l.j

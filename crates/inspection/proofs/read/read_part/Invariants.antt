@@ -1,11 +1,6 @@
 -- The legal entries of the slots are those laid down so far, and those from here on.
-use Prim.Native.Nat.{◌-◌}
-use lib.ListN.{length}
 use Rattle.inspection.proofs.Legal.{Laid}
 use Rattle.inspection.proofs.read.read_part.Given as goal
 
 abbrev pub invariant-loop-i : goal.invariant-loop-i
-invariant-loop-i l = Laid l.part l.blocks l.initial.entries l.entries l.n l.i l.at
-
-abbrev pub decreases-loop-i : goal.decreases-loop-i
-decreases-loop-i l = length l.part - l.i
+invariant-loop-i l = Laid l.part l.blocks l.initial.entries l.entries l.n l.i

@@ -1,21 +1,16 @@
 use mathlib.Core.Path.{◌∙◌, sym, refl}
 use mathlib.Core.Bool.{false}
-use Prim.Native.Nat.{◌<◌}
 use native.Mathlib.Omega.{arith}
-use lib.ListN.{length}
 use Rattle.block_log.proofs.Taken.{live-marks, live_end}
 use Rattle.inspection.proofs.read.take_rows.Goals as goal
 
-pub loop-v-init : goal.loop-v-init
-loop-v-init c = (omega arith, refl)
+pub loop-b-init : goal.loop-b-init
+loop-b-init c = refl
 
-pub loop-v-preserved : goal.loop-v-preserved
-loop-v-preserved c = let l = c.loop-v in
-    let a = c.args in
-    let w = c.wide in
-    let h : l.v < length a.table.now = omega (arith, c.sized_indexes-arg-1.given) in
-    (omega arith, l.invariant.1 ∙ live-marks a.table.now l.map _ l.v h (rw w.ensures at c.take_one.ensures))
+pub loop-b-preserved : goal.loop-b-preserved
+loop-b-preserved c = let l = c.loop-b in
+    l.invariant ∙ live-marks c.args.table.now l.map _ l.b-index (omega (arith, c.loop-b-test.true)) (rw c.from.ensures at c.take_one.ensures)
 
 pub returns : goal.returns
-returns c = let l = c.loop-v in
-    sym (l.invariant.1 ∙ (live_end c.args.table.now l.map l.v false (omega (arith, c.sized_indexes-arg-1.given))).0)
+returns c = let l = c.loop-b in
+    sym (l.invariant ∙ (live_end c.args.table.now l.map l.b-index false (omega (arith, c.loop-b-test.false))).0)

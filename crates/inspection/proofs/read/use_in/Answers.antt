@@ -13,9 +13,9 @@ returns-then-is_taken c = let a = c.args in
 pub returns-then-is_taken-2 : goal.returns-then-is_taken-2
 returns-then-is_taken-2 c = let a = c.args in
     use-live a.logs.now a.map.now a.b c.if-b-eq0.false (sym c.is_taken.ensures ∙ c.if-is_taken.false)
-    (sym c.is_taken-2.ensures ∙ c.if-is_taken-2.true)
+    (sym c.is_taken-else-is_taken.ensures ∙ c.if-is_taken-2.true)
 
-pub returns : goal.returns
-returns c = let a = c.args in
+pub returns-else-is_taken-2 : goal.returns-else-is_taken-2
+returns-else-is_taken-2 c = let a = c.args in
     use-free a.logs.now a.map.now a.b c.if-b-eq0.false (sym c.is_taken.ensures ∙ c.if-is_taken.false)
-    (sym c.is_taken-2.ensures ∙ c.if-is_taken-2.false)
+    (sym c.is_taken-else-is_taken.ensures ∙ c.if-is_taken-2.false)
