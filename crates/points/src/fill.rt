@@ -28,7 +28,9 @@ pub(crate) fn text_word(text: &[u8; 1024], from: usize) -> u64
         | u64::from(text[from + 7]) << 56
 }
 
-// Word i of a block, as it is now; 0 for block 0, where nothing is mapped.
+// Word i of a block, as it is now; 0 for block 0, where nothing is mapped. (Compiled into each caller: with a call for each word a list of one point takes a
+// third longer.)
+#[inline(always)]
 pub(crate) fn mapped_word(image: &[u64], b: usize, i: usize) -> u64
     ensures { (j : ℕ) → j < 8 → byte_of result j ≡ mapped_byte (memory one image.now) b (8 * i + j) }
 {
@@ -65,6 +67,7 @@ pub(crate) fn edge_word(copied: u64, text: &[u8; 1024], lead: usize, end: usize,
 }
 
 // The word at bytes `at` to `at + 7` of the run, not all of which are the text's, from the word that is copied there.
+#[inline(always)]
 pub(crate) fn mixed_word(copied: u64, text: &[u8; 1024], lead: usize, end: usize, at: usize) -> u64
     requires { (end ≤ lead + 1024) × (at ≤ 1536) }
     ensures { result ≡ from_bytes (list_from at 8 (mixed_byte copied text.now lead end at)) }
