@@ -154,6 +154,7 @@ fn mark_live(table: &[u16; 256], scratch: &mut [u16])
     requires { TableFits table.now × LongEnough scratch.old }
     ensures { HasMarks (live_mark table.now 0 scratch.old) scratch.new }
 {
+    // Stays: `for (v, b) in table.iter().enumerate().rev()` is no plainer, since v is what is stored, and from the last one down.
     for v in (0..256usize).rev() {
         let b = table[v] as usize;
         scratch[b] = (v + 1) as u16;

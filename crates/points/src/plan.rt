@@ -49,6 +49,7 @@ pub enum Kind {
 
 // The answer; the log place and the write that the point has then; what is read in, freed and taken, 0 for no block; whether the text is cleared; what is
 // reported; and the store: word `word` from the first word of block `block` on gets `value`.
+// Stays: `takes` is 0 for no block, as the definitions `resting`, `extend` and `carried_out` have it; the superblock is never free.
 #[derive(Clone, Copy)]
 pub struct Plan {
     pub step: StepAnswer,

@@ -135,6 +135,7 @@ fn stores(kind: Kind) -> bool
 
 // The one store of a step, if it has one: the image is lent on as a mutable part that begins at the plan's block, for filling at the run's first word.
 // Answers which word of the image it was, 0 for none.
+// Stays: 0 for none, as the definition `stored_at` has it.
 fn store(image: &mut [u64], kind: Kind, block: u32, word: u32, value: u64) -> usize
     ensures { Stores image.old (store_of one kind block word value) image.new result }
 {
