@@ -1,5 +1,5 @@
 -- Opening: it asks of the scratch only whether it is long enough; and its ways out, by the reasons in their order.
-use mathlib.Core.Path.{◌≡◌, ◌∙◌, sym, refl, ap}
+use mathlib.Core.Path.{◌≡◌, ◌∙◌, refl, ap}
 use mathlib.Core.List.{List, ◌∷◌, [], ◌++◌}
 use mathlib.Core.Bool.{true, false}
 use Prim.Native.Nat.{ℕ, ◌≤◌, zero, suc, ◌<◌}

@@ -1,5 +1,5 @@
 -- Why a call is turned down: the number of each reason in document 01, and a reply by that number.
-use Rattle.std.specs.Prelude.{ℕ, Bool, true, false, List, [], ◌∷◌, eqb, Result, Ok, Err}
+use Rattle.std.specs.Prelude.{ℕ, true, false, List, [], ◌∷◌, eqb, Result, Ok, Err}
 use Rattle.block_log.specs.declared.Refusal.{Refusal}
 use Rattle.block_log.specs.declared.Refusal.TheVariants.{ImageSize, ScratchShort, SuperblockWrong, LogIndexOutside, ChainEndless, LogBlockWrong, EntryWrong, BlockShared, EndNotZero}
 use Rattle.block_log.specs.declared.Refusal.TheVariants.{SharedUnfit, RecordUnfit, NumberAbove, AlreadyJoined, NotJoined, WrongPhase, TextSize, PastEnd, LogBroken}

@@ -70,6 +70,7 @@ pub fn chain(image: &[u64], most: usize) -> Links<'_>
 }
 
 // The log place at the log's start: slot 2 of the first log block. Of the index 32 bits are kept.
+// Stays: `u32::try_from` has no number for an index of more bits, of which the clause keeps 32 where the image is any words.
 pub fn start(image: &[u64]) -> Place
     ensures { result ≡ record { block = first_index (memory one image.now) % 2 ^ 32; slot = 2 } }
 {

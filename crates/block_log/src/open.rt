@@ -1,11 +1,13 @@
 // Opening.
-ghost use Rattle.std.specs.Prelude.{◌≡◌, Err, true, not, [], ◌∷◌, ◌+◌, ◌*◌, ◌-◌, ◌≤◌, length};
+ghost use Rattle.std.specs.Prelude.{◌≡◌, List, ℕ, Ok, Err, true, false, not, [], ◌∷◌, ◌+◌, ◌*◌, ◌-◌, ◌≤◌, length};
 ghost use Rattle.words.specs.Edition.{one};
 ghost use Rattle.words.specs.Logic.{first, some_of, is_zero, up_from};
 ghost use Rattle.words.specs.Memory.{memory, wrong_size, byte_in};
 ghost use Rattle.words.specs.BlockMap.{set_all};
 ghost use Rattle.block_log.specs.Chain.{chain};
-ghost use Rattle.block_log.specs.Replay.{dirty_end};
+ghost use Rattle.block_log.specs.Replay.{shares_block, dirty_end};
+ghost use Rattle.block_log.specs.declared.Refusal.{Refusal};
+ghost use Rattle.block_log.specs.declared.Refusal.TheVariants.{BlockShared};
 ghost use Rattle.block_log.specs.Refusals.{Done};
 ghost use Rattle.block_log.specs.Opening.{Opens, nobody_joined, no_shared, reply_of, marked, cleared};
 ghost use Rattle.block_log.specs.Parts.{chain_reasons, early, TakesBlocks, TakesAll, Takable};
@@ -92,23 +94,19 @@ fn take_live(table: &[u16; 256], map: &mut [u64]) -> bool
     met
 }
 
-// The map of taken blocks, and whether a live block was met twice or is a log block (reason 8).
-#[derive(Clone, Copy)]
-struct Taken {
-    map: [u64; 16],
-    met: bool,
-}
-
-// Block 0, the log blocks and the live blocks become taken.
-fn take_all(image: &[u64], table: &[u16; 256]) -> Taken
+// The map of taken blocks: block 0, the log blocks and the live blocks. 8 where a live block is met twice or is a log block.
+fn take_all(image: &[u64], table: &[u16; 256]) -> Result<[u64; 16], Refusal>
     requires { Takable image.now table.now }
-    ensures { TakesAll image.now table.now result.map result.met }
+    ensures taken { (map : List ℕ) → result ≡ Ok map → TakesAll image.now table.now map false }
+    ensures met { (e : Refusal) → result ≡ Err e → (e ≡ BlockShared) × (shares_block table.now (chain (memory one image.now)) ≡ true) }
 {
     let mut map = [0u64; 16];
     words::map::set_block(&mut map, 0, true);
     take_chain(image, &mut map);
-    let met = take_live(table, &mut map);
-    Taken { map, met }
+    if take_live(table, &mut map) {
+        return Err(Refusal::BlockShared);
+    }
+    Ok(map)
 }
 
 // Whether a byte of a block from a place on is not 0.
@@ -156,6 +154,7 @@ fn mark_live(table: &[u16; 256], scratch: &mut [u16])
     requires { TableFits table.now × LongEnough scratch.old }
     ensures { HasMarks (live_mark table.now 0 scratch.old) scratch.new }
 {
+    // Stays: `for (v, b) in table.iter().enumerate().rev()` is no plainer, since v is what is stored, and from the last one down.
     for v in (0..256usize).rev() {
         let b = table[v] as usize;
         scratch[b] = (v + 1) as u16;
@@ -246,16 +245,15 @@ pub fn open(image: &[u64], scratch: &mut [u16]) -> Opened
     let mut table = [0u16; 256];
     let size = crate::ahead::catch_up(image, blocks, from, &mut table, 0);
     clear(scratch);
-    let taken = take_all(image, &table);
-    if taken.met {
-        return refused(Refusal::BlockShared);
-    }
+    let map = match take_all(image, &table) {
+        Ok(map) => map,
+        Err(refusal) => return refused(refusal),
+    };
     if dirty_end(image, &table, size) {
         return refused(Refusal::EndNotZero);
     }
     mark_scratch(image, &table, scratch);
     let n = entries(lookahead.place.slot, lookahead.entered);
-    let map = taken.map;
     let free = words::map::free_count(&map, blocks as usize) as u32;
     done(
         size,

@@ -10,6 +10,7 @@ ghost use Rattle.c_lent.specs.Batch.{AllReady, FillsAlone, PlainAt, RowIs, Lengt
 use points::serve::{Due, Row};
 
 // How many words a point has left to store, one by one, in one block: of its run, or of its log block. 0 where its next step is another.
+// Stays: a count, of which `plain_words` takes the least; with `Option<u32>` in its place each `left < least` would be a `match`.
 fn words_left(offset: u32, size: u32, phase: u32, k: u32) -> u32
     ensures { (h : List ℕ) → get_or h 4 0 ≡ offset → get_or h 5 0 ≡ size → get_or h 7 0 ≡ phase → get_or h 8 0 ≡ k → 0 < result → PlainAt result h }
 {
@@ -94,6 +95,7 @@ fn rows_for(
     ensures { (i : ℕ) → i < length heads.now → RowIs (get_or (get_or answers.now i []) 0 0)
         (get_or rows.new i None) (get_or heads.now i []) (get_or tables.now i []) }
 {
+    // Stays: `for (i, row) in rows[..heads.len()].iter_mut().enumerate()` is no plainer, since three more lists are read at i.
     for i in 0..heads.len() {
         rows[i] = row_for(answers[i][0], &heads[i], &tables[i]);
     }

@@ -39,6 +39,7 @@ fn all_rounds(
 {
     let mut bytes = [0u8; 1024];
     let mut left = most;
+    // Stays: a batch makes as many rounds at once as it can, so it is a count that goes down, by what was made, and no list or range.
     while 0 < left && anybody(answers) {
         let made = crate::batch::batch(
             image, shared, taken, heads, tables, texts, answers, &mut bytes, left,

@@ -54,22 +54,6 @@ module _ (f : ℕ → ℕ) where
       let z : 0 + n ≡ n = omega arith in
       sets-eq (list_from i n f) xs 0 (omega arith) ∙ rw (l, z)
 
-  -- eight stores, one after the other
-  pub sets-eight :
-      (xs : List ℕ) (at : ℕ)
-      → set (set (set (set (set (set (set (set xs at (f 0)) (at + 1) (f 1)) (at + 2) (f 2)) (at + 3) (f 3)) (at + 4) (f 4)) (at + 5) (f 5)) (at + 6) (f 6))
-      (at + 7) (f 7)
-      ≡ sets xs at (list_from 0 8 f)
-  sets-eight xs at =
-      let a : at + 1 ≡ suc at = omega arith in
-      let b : at + 2 ≡ suc (suc at) = omega arith in
-      let c : at + 3 ≡ suc (suc (suc at)) = omega arith in
-      let d : at + 4 ≡ suc (suc (suc (suc at))) = omega arith in
-      let e : at + 5 ≡ suc (suc (suc (suc (suc at)))) = omega arith in
-      let g : at + 6 ≡ suc (suc (suc (suc (suc (suc at))))) = omega arith in
-      let h : at + 7 ≡ suc (suc (suc (suc (suc (suc (suc at)))))) = omega arith in
-      rw (a, b, c, d, e, g, h)
-
 -- k of the n values f i, f (i + 1), .. are put into xs₀ from `at` on, which gave xs
 pub record Copied (f : ℕ → ℕ) (xs₀ : List ℕ) (at i n : ℕ) (xs : List ℕ) (k : ℕ) : Type 0 where
   pub inside : k ≤ n

@@ -5,7 +5,7 @@ use native.Mathlib.Nat.{mod-eq_of_lt, lt_of_lt_of_le, zero-div}
 use mathlib.Core.Path.{◌≡◌, refl, sym, ap, ◌∙◌}
 use mathlib.Core.Logic.{◌≢◌, ◌⊎◌, inl, inr}
 use mathlib.Core.Bool.{Bool, true, false, ◌&&◌}
-use mathlib.Core.List.{List, [], ◌∷◌}
+use mathlib.Core.List.{List}
 use lib.ListN.{get_or}
 use lib.Bits.{bit_or, or_shifted}
 use lib.Pow.{pow-add, pow_mono, shr_lt, shr-shr}
@@ -16,7 +16,6 @@ use Rattle.words.proofs.Choice.{choose, choose-true, choose-false}
 use Rattle.words.specs.Logic.{list_from}
 use Rattle.words.specs.Word.{byte_of, from_bytes}
 use Rattle.words.specs.Memory.{Memory, word_at}
-use Rattle.words.proofs.Word.{cat}
 use Rattle.block_log.specs.Replay.{Mapped, mapped_byte, file_byte}
 use native.Mathlib.Decide.{dec_le, dec_lt}
 use Rattle.words.specs.Edition.{Edition, block_bytes}
@@ -26,40 +25,6 @@ use Rattle.points.specs.declared.Head.{Head}
 use Rattle.points.specs.Fill.{new_word, new_byte, laid_byte, run_start}
 use Rattle.points.specs.Record.{file_at}
 use Rattle.points.specs.Lent.{mixed_byte}
-
--- eight bytes, each shifted to its place
-pub eight-bytes :
-    (a b c d e f g h : ℕ) → a < 256 → b < 256 → c < 256 → d < 256 → e < 256 → f < 256 → g < 256 → h < 256
-    → bit_or (bit_or (bit_or (bit_or (bit_or (bit_or (bit_or a (b * 2 ^ 8 % 2 ^ 64)) (c * 2 ^ 16 % 2 ^ 64)) (d * 2 ^ 24 % 2 ^ 64)) (e * 2 ^ 32 % 2 ^ 64))
-    (f * 2 ^ 40 % 2 ^ 64)) (g * 2 ^ 48 % 2 ^ 64)) (h * 2 ^ 56 % 2 ^ 64)
-    ≡ from_bytes (a ∷ b ∷ c ∷ d ∷ e ∷ f ∷ g ∷ h ∷ [])
-eight-bytes a b c d e f g h la lb lc ld le lf lg lh =
-    rw (
-      cat 8 64 a b (omega arith) (omega arith),
-      cat 16 64 (a + b * 2 ^ 8) c (omega arith) (omega arith),
-      cat 24 64 (a + b * 2 ^ 8 + c * 2 ^ 16) d (omega arith) (omega arith),
-      cat 32 64 (a + b * 2 ^ 8 + c * 2 ^ 16 + d * 2 ^ 24) e (omega arith) (omega arith),
-      cat 40 64 (a + b * 2 ^ 8 + c * 2 ^ 16 + d * 2 ^ 24 + e * 2 ^ 32) f (omega arith) (omega arith),
-      cat 48 64 (a + b * 2 ^ 8 + c * 2 ^ 16 + d * 2 ^ 24 + e * 2 ^ 32 + f * 2 ^ 40) g (omega arith) (omega arith),
-      cat 56 64 (a + b * 2 ^ 8 + c * 2 ^ 16 + d * 2 ^ 24 + e * 2 ^ 32 + f * 2 ^ 40 + g * 2 ^ 48) h (omega arith) (omega arith),
-    )
-    (omega arith)
-
--- they are the text's from a place on
-pub eight-of :
-    (text : List ℕ) (i : ℕ) {a b c d e f g h : ℕ}
-    → a ≡ get_or text i 0 → b ≡ get_or text (i + 1) 0 → c ≡ get_or text (i + 2) 0 → d ≡ get_or text (i + 3) 0
-    → e ≡ get_or text (i + 4) 0 → f ≡ get_or text (i + 5) 0 → g ≡ get_or text (i + 6) 0 → h ≡ get_or text (i + 7) 0
-    → from_bytes (a ∷ b ∷ c ∷ d ∷ e ∷ f ∷ g ∷ h ∷ []) ≡ from_bytes (list_from i 8 (λ k. get_or text k 0))
-eight-of text i ea eb ec ed ee ef eg eh =
-    let u1 : i + 1 ≡ suc i = omega arith in
-    let u2 : i + 2 ≡ suc (suc i) = omega arith in
-    let u3 : i + 3 ≡ suc (suc (suc i)) = omega arith in
-    let u4 : i + 4 ≡ suc (suc (suc (suc i))) = omega arith in
-    let u5 : i + 5 ≡ suc (suc (suc (suc (suc i)))) = omega arith in
-    let u6 : i + 6 ≡ suc (suc (suc (suc (suc (suc i))))) = omega arith in
-    let u7 : i + 7 ≡ suc (suc (suc (suc (suc (suc (suc i)))))) = omega arith in
-    rw (ea, eb, ec, ed, ee, ef, eg, eh, u1, u2, u3, u4, u5, u6, u7)
 
 -- a byte put below a word of seven
 pub byte-below : (w x : ℕ) → w < 2 ^ 56 → x < 256 → bit_or (w * 2 ^ 8 % 2 ^ 64) x ≡ x + 256 * w

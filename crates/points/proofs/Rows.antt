@@ -2,8 +2,7 @@
 use Prim.Native.Nat.{ℕ, zero, suc, ◌+◌, ◌*◌, ◌-◌, ◌/◌, ◌%◌, ◌^◌, ◌≤◌, ◌<◌, min}
 use native.Mathlib.Numerals.{add-one}
 use native.Mathlib.Omega.{arith}
-use native.Mathlib.Decide.{ℕ_discrete}
-use mathlib.Core.Path.{◌≡◌, refl, sym, ap, ◌∙◌, subst}
+use mathlib.Core.Path.{◌≡◌, refl, sym, ap, ◌∙◌}
 use mathlib.Core.Logic.{◌≢◌, ◌⊎◌, inl}
 use mathlib.Core.List.{List, []}
 use lib.ListN.{length, get_or, take, drop}
@@ -25,7 +24,7 @@ use Rattle.points.specs.Fill.{new_word}
 use Rattle.points.specs.Stepping.{turned}
 use Rattle.points.specs.Lent.{TextFits, mixed_byte}
 use Rattle.points.specs.Batch.{filled_at, filled_on, row_of, Fillable, Prepared, InRow, InOneBlock}
-use Rattle.points.specs.Batch.{copied_word, mixed_word, row_word, row_put, row_stored, round_stored, rounds_stored, RowFits}
+use Rattle.points.specs.Batch.{copied_word, mixed_word, row_word, row_put, row_stored, round_stored, rounds_stored}
 use Rattle.points.proofs.Spans.{lies}
 use Rattle.points.proofs.Planned.{word-from-put}
 use Rattle.points.proofs.NewWord.{new_word_lem, new-word-text, same_bytes}
@@ -222,12 +221,3 @@ pub rounds-next : (r n : ℕ) (rows : List (Option Due)) (texts : List (List ℕ
     → left ≡ round_stored r n rows texts now → left ≡ rounds_stored (r + 1) n rows texts words
 unfolding rounds_stored
 rounds-next r n rows texts words now left e f = rw add-one (f ∙ ap (λ (w : List ℕ). round_stored r n rows texts w) e)
-
--- one row more fits
-pub fits_next : (size m i : ℕ) (rows : List (Option Due)) → ((j : ℕ) → j < i → RowFits size m (get_or rows j None)) → RowFits size m (get_or rows i None)
-    → (j : ℕ) → j < i + 1 → RowFits size m (get_or rows j None)
-fits_next size m i rows before here j l = go (ℕ_discrete j i)
-  where
-    go : Dec (j ≡ i) → RowFits size m (get_or rows j None)
-    go (yes q) = subst (λ (k : ℕ). RowFits size m (get_or rows k None)) (sym q) here
-    go (no q) = before j (omega arith)

@@ -78,9 +78,6 @@ module _ {E : Edition} {words : List ℕ} {s : Shared} {p : Point} (r : Ready E 
         ∙ ap (carried_out E m s p) (on-zeroing E m s p zeroing ∙ zero-on E m p.head s.chain (lt-ltb _ _ l))
         ∙ zero-leaves E m s p l
 
-    pub zero-ready : Ready E (after E words (some zero_store)) s (with_head p (writing p.head zeroed_on))
-    zero-ready = stored-ready _ _ zero_turn
-
 -- ---- turns of one point
 
 -- the turn of a listed point that is unfinished

@@ -46,6 +46,7 @@ pub(crate) fn settle(
 }
 
 // The logical block of a virtual one; 0 where nothing is mapped, and past the table.
+// Stays: 0 for none, since the log's entries and C's table have 0 there (include/store.h); no block of a file is block 0.
 pub(crate) fn mapped(table: &[u16], v: usize) -> u16
     ensures { result ≡ get_or table.now v 0 }
 {

@@ -30,6 +30,7 @@ pub(crate) fn text_word(text: &[u8; 1024], from: usize) -> u64
 
 // Word i of a block, as it is now; 0 for block 0, where nothing is mapped. (Compiled into each caller: with a call for each word a list of one point takes a
 // third longer.)
+// Stays: 0 for none, as in the table's own numbers (`mapped`).
 #[inline(always)]
 pub(crate) fn mapped_word(image: &[u64], b: usize, i: usize) -> u64
     ensures { (j : ℕ) → j < 8 → byte_of result j ≡ mapped_byte (memory one image.now) b (8 * i + j) }

@@ -3,7 +3,10 @@ ghost use Rattle.std.specs.Prelude.{◌≡◌, false, ◌<◌};
 ghost use Rattle.words.specs.Edition.{one};
 ghost use Rattle.block_log.specs.Refusals.{number};
 ghost use Rattle.points.specs.Record.{run_words, no_write, head_of};
-ghost use Rattle.points.specs.Plan.{storing, resting};
+ghost use Rattle.points.specs.Plan.{resting};
+ghost use Rattle.points.specs.declared.plan.Reads.TheVariants.{NoEntry};
+ghost use Rattle.points.specs.declared.plan.Frees.TheVariants.{NoBlock};
+ghost use Rattle.points.specs.declared.plan.Reports.TheVariants.{NoReport};
 ghost use Rattle.points.specs.Stepping.{refused, turned, to_commit, retried, next_slot, entering};
 
 use crate::{Head, Phase, StepAnswer, Write};
@@ -46,6 +49,7 @@ pub enum Kind {
 
 // The answer; the log place and the write that the point has then; what is read in, freed and taken, 0 for no block; whether the text is cleared; what is
 // reported; and the store: word `word` from the first word of block `block` on gets `value`.
+// Stays: `takes` is 0 for no block, as the definitions `resting`, `extend` and `carried_out` have it; the superblock is never free.
 #[derive(Clone, Copy)]
 pub struct Plan {
     pub step: StepAnswer,
@@ -62,56 +66,19 @@ pub struct Plan {
     pub value: u64,
 }
 
-// A plan that stores a word, and changes no more than the point's log place and write, and what is reported.
-pub(crate) fn storing(
-    kind: Kind,
-    block: u32,
-    word: u32,
-    value: u64,
-    place: Place,
-    write: Write,
-    reports: Reports,
-) -> Plan
-    ensures { result ≡ storing kind block word value place write reports }
+// A plan that answers and changes nothing.
+pub(crate) fn still(head: Head, step: StepAnswer) -> Plan
+    ensures { result ≡ resting step head.place head.write NoEntry NoBlock 0 false NoReport }
 {
     Plan {
-        step: StepAnswer::Stored,
-        place,
-        write,
+        step,
+        place: head.place,
+        write: head.write,
         reads: Reads::NoEntry,
         frees: Frees::NoBlock,
         takes: 0,
         clears: false,
-        reports,
-        kind,
-        block,
-        word,
-        value,
-    }
-}
-
-// A plan that stores nothing.
-pub(crate) fn resting(
-    step: StepAnswer,
-    place: Place,
-    write: Write,
-    reads: Reads,
-    frees: Frees,
-    takes: u32,
-    clears: bool,
-    reports: Reports,
-) -> Plan
-    ensures { result ≡ resting step place write reads frees takes clears reports }
-{
-    Plan {
-        step,
-        place,
-        write,
-        reads,
-        frees,
-        takes,
-        clears,
-        reports,
+        reports: Reports::NoReport,
         kind: Kind::NoStore,
         block: 0,
         word: 0,
@@ -123,16 +90,7 @@ pub(crate) fn resting(
 pub(crate) fn refused(head: Head, refusal: Refusal) -> Plan
     ensures { result ≡ refused one head (number refusal) }
 {
-    resting(
-        StepAnswer::Refused(refusal),
-        head.place,
-        head.write,
-        Reads::NoEntry,
-        Frees::NoBlock,
-        0,
-        false,
-        Reports::NoReport,
-    )
+    still(head, StepAnswer::Refused(refusal))
 }
 
 // The write at another phase and position.

@@ -50,6 +50,7 @@ pub fn row_at(head: Head, table: &[u16; 256], k: u32) -> Row
 }
 
 // Word k of the run, by its row.
+// Stays: `fill_words` promises its words in any image, where one outside reads as 0; `next_word` and `copied_word` ask for a row that was tested (RowIn).
 fn row_word<'a>(image: &'a [u64], row: Row, text: &'a [u8; 1024], k: u32) -> u64
     requires { InRow row k }
     ensures { (h : Head) (table : List ℕ) → Prepared row h table k
@@ -99,6 +100,7 @@ pub fn fill_words(
 }
 
 // Word i of a block that lies inside, 0 for block 0.
+// Stays: 0 for none, as in the table's own numbers (`mapped`).
 fn copied_word(image: &[u64], b: u32, i: usize) -> u64
     requires { (64 * b + 64 ≤ length image.now) × (i < 64) }
     ensures { result ≡ copied_word image.now b i }

@@ -9,8 +9,8 @@ ghost use Rattle.points.specs.Plan.{read_in, text_after, stores, store_of};
 ghost use Rattle.points.specs.Stepping.{fill, filling, write_on, planned, StepLeaves};
 ghost use Rattle.points.specs.Lent.{Plans, Readable, StepsOn, TextFits, Lengthens, Stores, WriteTells, StepTells, stepped_of};
 
-use crate::plan::{Kind, Plan, Reads, Reports};
-use crate::{Head, LentStepped, Numbers, Point, Stepped};
+use crate::plan::{Kind, Plan, Reads};
+use crate::{Head, LentStepped, Numbers, Point, StepAnswer, Stepped};
 use block_log::{Place, Refusal, Shared};
 
 // Word k of the run is filled.
@@ -22,15 +22,14 @@ fn fill<'a>(image: &[u64], head: Head, table: &'a [u16; 256], text: &'a [u8; 102
     let phase = write.phase;
     let value = crate::fill::new_word(image, head, table, text, k);
     let filled = crate::plan::turned(write, phase, k + 1, write.zeroing, write.retries);
-    crate::plan::storing(
-        Kind::Fill,
-        write.run,
-        k,
+    Plan {
+        write: filled,
+        kind: Kind::Fill,
+        block: write.run,
+        word: k,
         value,
-        head.place,
-        filled,
-        Reports::NoReport,
-    )
+        ..crate::plan::still(head, StepAnswer::Stored)
+    }
 }
 
 // The next word of the run is filled; where none is left, the step commits.
@@ -136,6 +135,7 @@ fn stores(kind: Kind) -> bool
 
 // The one store of a step, if it has one: the image is lent on as a mutable part that begins at the plan's block, for filling at the run's first word.
 // Answers which word of the image it was, 0 for none.
+// Stays: 0 for none, as the definition `stored_at` has it.
 fn store(image: &mut [u64], kind: Kind, block: u32, word: u32, value: u64) -> usize
     ensures { Stores image.old (store_of one kind block word value) image.new result }
 {

@@ -1,6 +1,5 @@
 -- `block_log::ahead::take_entry`: an entry that is not taken in breaks the rules and may not be mapped, and the contract says nothing then.
 use native.Mathlib.Omega.{arith}
-use Rattle.words.specs.Edition.{one}
 use Rattle.block_log.proofs.Entry.{legal-mappable}
 use Rattle.block_log.proofs.ahead.take_entry.Goals as goal
 use Rattle.block_log.proofs.ahead.take_entry.Goals.{then-n-eq0-via-then-n-eq0, then-n-eq0-via-else-n-eq0+then-n-gt256}

@@ -1,6 +1,7 @@
 -- Each way out is a law of Outcome; what is known on the way is `past` and `held`.
-use mathlib.Core.Path.{◌≡◌, ◌∙◌, sym, ap, subst}
-use Prim.Native.Nat.{ℕ, suc, ◌-◌, ◌+◌, ◌≤◌, ◌*◌}
+use mathlib.Core.Path.{◌≡◌, ◌∙◌, refl, sym, ap, subst}
+use mathlib.Core.Bool.{true, false}
+use Prim.Native.Nat.{ℕ, ◌+◌, ◌≤◌, ◌*◌}
 use native.Mathlib.Omega.{arith}
 use lib.ListN.{length}
 use Rattle.words.specs.Edition.{one}
@@ -80,20 +81,20 @@ returns-then-lookahead c = let o = out-7 one (past (goal.at.returns-then-lookahe
 pub clear-requires : goal.clear-requires
 clear-requires c = scratch-enough one (past (goal.at.clear-requires c).In_default)
 
-pub take_all-taken-requires : goal.take_all-taken-requires
-take_all-taken-requires c = takable (held (goal.at.take_all-taken-requires c).After-catch_up-size)
+pub take_all-requires : goal.take_all-requires
+take_all-requires c = takable (held (goal.at.take_all-requires c).After-catch_up-size)
 
-pub returns-then-taken : goal.returns-then-taken
-returns-then-taken c = let t = c.take_all-taken in
-    let o = out-8 one (held (goal.at.returns-then-taken c).After-catch_up-size) t.result.met t.ensures.0 c.if-taken.true in
-    (c.refused-then-taken.ensures ∙ sym o.0, c.clear.ensures ∙ sym o.1)
+pub returns-in-Err-take_all : goal.returns-in-Err-take_all
+returns-in-Err-take_all c = let met = c.take_all.ensures.met _ c.in-Err-take_all.is in
+    let o = out-8 one (held (goal.at.returns-in-Err-take_all c).After-catch_up-size) true (sym met.1) refl in
+    (rw met.0 at c.refused-in-Err-take_all.ensures ∙ sym o.0, c.clear.ensures ∙ sym o.1)
 
 pub dirty_end-requires : goal.dirty_end-requires
 dirty_end-requires c = file-small one (held (goal.at.dirty_end-requires c).After-catch_up-size)
 
 pub returns-then-dirty_end : goal.returns-then-dirty_end
-returns-then-dirty_end c = let t = c.take_all-taken in
-    let o = out-9 one (held (goal.at.returns-then-dirty_end c).After-catch_up-size) t.result.met t.ensures.0 c.if-taken.false c.dirty_end.result
+returns-then-dirty_end c = let taken = c.take_all.ensures.taken _ c.in-Ok.is in
+    let o = out-9 one (held (goal.at.returns-then-dirty_end c).After-catch_up-size) false taken.0 refl c.dirty_end.result
     c.dirty_end.ensures c.if-dirty_end.true in
     (c.refused-then-dirty_end.ensures ∙ sym o.0, c.clear.ensures ∙ sym o.1)
 
@@ -107,7 +108,7 @@ pub overflow_cast-blocks-2 : goal.overflow_cast-blocks-2
 overflow_cast-blocks-2 c = omega (arith, blocks-small one (past (goal.at.overflow_cast-blocks-2 c).In_default))
 
 pub overflow_cast-free : goal.overflow_cast-free
-overflow_cast-free c = omega (arith, blocks-small one (past (goal.at.overflow_cast-free c).In_default), c.free_count-free.ensures, free-small c.take_all-taken.result.map c.whole_blocks-blocks.result)
+overflow_cast-free c = omega (arith, blocks-small one (past (goal.at.overflow_cast-free c).In_default), c.free_count-free.ensures, free-small c.in-Ok.map c.whole_blocks-blocks.result)
 
 pub overflow_add-lookahead : goal.overflow_add-lookahead
 overflow_add-lookahead c = let k = walked (goal.at.overflow_add-lookahead c).After-look-lookahead in omega (arith, k.2)
@@ -117,15 +118,14 @@ shape_of-scratch c = c.mark_scratch.auto.scratch ∙ c.clear.auto.scratch
 
 pub returns : goal.returns
 returns c = let h = held (goal.at.returns c).After-catch_up-size in
-    let t = c.take_all-taken in
-    let apart = c.if-taken.false in
+    let taken = c.take_all.ensures.taken _ c.in-Ok.is in
     let clean = c.if-dirty_end.false in
     let f = c.free_count-free in
     let blocks = c.whole_blocks-blocks.ensures in (
       rw (c.nobody_joined.ensures, blocks) at c.done.ensures
-          ∙ sym (out-opened one h t.result.met t.ensures.0 apart c.dirty_end.result c.dirty_end.ensures clean t.result.map
-          c.entries-n.result f.result _ t.ensures.1 ((walked (goal.at.returns c).After-look-lookahead).3 c.entries-n.result c.entries-n.ensures)
+          ∙ sym (out-opened one h false taken.0 refl c.dirty_end.result c.dirty_end.ensures clean c.in-Ok.map
+          c.entries-n.result f.result _ taken.1 ((walked (goal.at.returns c).After-look-lookahead).3 c.entries-n.result c.entries-n.ensures)
           (rw blocks at f.ensures) (walked (goal.at.returns c).After-look-lookahead).4),
-      out-scratch one h t.result.met t.ensures.0 apart c.dirty_end.result c.dirty_end.ensures clean c.clear.new.scratch
+      out-scratch one h false taken.0 refl c.dirty_end.result c.dirty_end.ensures clean c.clear.new.scratch
           c.mark_scratch.new.scratch c.clear.ensures c.mark_scratch.ensures,
     )
