@@ -92,8 +92,8 @@ fn rows_for(
     ensures { (i : ℕ) → i < length heads.now → RowIs (get_or (get_or answers.now i []) 0 0)
         (get_or rows.new i None) (get_or heads.now i []) (get_or tables.now i []) }
 {
-    for i in 0..heads.len() {
-        rows[i] = row_for(answers[i][0], &heads[i], &tables[i]);
+    for (i, head) in heads.iter().enumerate() {
+        rows[i] = row_for(answers[i][0], head, &tables[i]);
     }
 }
 

@@ -3,9 +3,9 @@ ghost use Rattle.std.specs.Prelude.{◌≡◌, true, false, List, ℕ, ◌+◌, 
 ghost use Rattle.words.specs.Edition.{one};
 ghost use Rattle.points.specs.Serving.{in_turn};
 ghost use Rattle.c_lent.specs.Numbers.{shared_lent, point_lent, is_known};
-ghost use Rattle.c_lent.specs.Serving.{kind_goes_on, begin_turn_for, step_turn_for, listed, asking, listed_at, common_lent, turn_left, listed_lent, asking_lent};
+ghost use Rattle.c_lent.specs.Serving.{kind_goes_on, begin_turn_for, step_turn_for, listed, asking, listed_at, common_lent, turn_left, listed_lent};
 ghost use Rattle.c_lent.specs.Batch.{AllReady, Ready, lists_lent, Steps, MovesOn, CommitsOn};
-ghost use Rattle.c_lent.specs.Serving.{Lent, begun_answer};
+ghost use Rattle.c_lent.specs.Serving.{Lent, asking_lent, begun_answer};
 
 // Stays: kinds are numbers here, since `answers` is C's list of pairs (`store_serve_parts`) and is read back in each round.
 pub(crate) use points::answers::goes_on;
