@@ -302,9 +302,6 @@ pub record AreOn (m : ℕ) (heads₀ answers₀ : List (List ℕ)) (i : ℕ) (he
   pub done : (tables texts : List (List ℕ)) (j : ℕ) → j < i → listed_at heads tables texts answers j ≡ words_on m (listed_at heads₀ tables texts answers₀ j)
   pub later : (tables texts : List (List ℕ)) (j : ℕ) → i ≤ j → listed_at heads tables texts answers j ≡ listed_at heads₀ tables texts answers₀ j
 
-pub are-start : (m : ℕ) (heads answers : List (List ℕ)) → AreOn m heads answers 0 heads answers
-are-start m heads answers = record { done = λ tables texts j l. absurd (omega arith); later = λ tables texts j l. refl }
-
 pub are-next : (m : ℕ) (heads₀ answers₀ heads answers : List (List ℕ)) (h a : List ℕ) (i : ℕ) → i < length heads → i < length answers
     → AreOn m heads₀ answers₀ i heads answers
     → ((table text : List ℕ) → listed_lent (point_as h table text) a ≡ words_on m (listed_lent (point_as (get_or heads i []) table text) (get_or answers i [])))

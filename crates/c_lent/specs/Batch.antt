@@ -9,7 +9,8 @@ use Rattle.points.specs.Record.{is_reading, run_words}
 use Rattle.points.specs.Stepping.{step_refusal}
 use Rattle.points.specs.Batch.{row_of, Fillable, Prepared, filled_at}
 use Rattle.c_lent.specs.Numbers.{SharedLent, PointLent, shared_as, shared_in, lend_point, head_from}
-use Rattle.c_lent.specs.Serving.{CommonLent, ListedLent, common_lent, listed_lent, point_as, turn_left, kind_goes_on, step_turn_for}
+use Rattle.points.specs.Serving.{rounds}
+use Rattle.c_lent.specs.Serving.{CommonLent, ListedLent, common_lent, listed, listed_at, listed_lent, point_as, turn_left, kind_goes_on, step_turn_for}
 
 -- ---- points that are known to fit
 
@@ -32,6 +33,36 @@ Going n f P = (i : ℕ) → i < n → kind_goes_on (get_or (f i).answer 0 0) ≡
 
 abbrev pub AllReady : CommonLent → ℕ → (ℕ → ListedLent) → Type 0
 AllReady c n f = Going n f (ReadyAt c)
+
+-- the four lists of n points
+abbrev pub Lengths : ℕ → List (List ℕ) → List (List ℕ) → List (List ℕ) → List (List ℕ) → Type 0
+Lengths n heads tables texts answers = (length heads ≡ n) × (length tables ≡ n) × (length texts ≡ n) × (length answers ≡ n)
+
+-- these lists, and what their points share
+pub record ListsLent : Type 0 where
+  pub common : CommonLent
+  pub heads : List (List ℕ)
+  pub tables : List (List ℕ)
+  pub texts : List (List ℕ)
+  pub answers : List (List ℕ)
+
+abbrev pub lists_lent : List ℕ → SharedLent → List (List ℕ) → List (List ℕ) → List (List ℕ) → List (List ℕ) → ListsLent
+lists_lent words s heads tables texts answers =
+    record { common = common_lent words s; heads = heads; tables = tables; texts = texts; answers = answers }
+
+abbrev pub points_of : ListsLent → List ListedLent
+points_of x = listed x.heads x.tables x.texts x.answers
+
+-- they are as long as each other, and each point whose write goes on is known to fit
+pub record Ready (x : ListsLent) : Type 0 where
+  pub lengths : Lengths (length x.heads) x.heads x.tables x.texts x.answers
+  pub fits : AllReady x.common (length x.heads) (listed_at x.heads x.tables x.texts x.answers)
+
+-- y is what m rounds of steps leave of x, and each point whose write goes on is known to fit again
+abbrev pub RoundsMade : ℕ → ListsLent → ListsLent → Type 0
+RoundsMade m x y =
+    (turn_left y.common (points_of y) ≡ rounds m step_turn_for x.common (points_of x))
+    × AllReady y.common (length x.heads) (listed_at y.heads y.tables y.texts y.answers)
 
 -- ---- steps without tests
 
@@ -65,6 +96,11 @@ PlainAt m h = Fills m h ⊎ Zeroes m h
 
 abbrev pub Plain : ℕ → ListedLent → Type 0
 Plain m x = PlainAt m x.point.head
+
+-- so it is of each point whose write goes on
+abbrev pub AllPlain : ℕ → List (List ℕ) → List (List ℕ) → Type 0
+AllPlain m heads answers =
+    (i : ℕ) → i < length heads → kind_goes_on (get_or (get_or answers i []) 0 0) ≡ true → PlainAt m (get_or heads i [])
 
 -- it is one point alone, and its write is being filled
 abbrev pub FillsAlone : List (List ℕ) → List (List ℕ) → Type 0
@@ -100,10 +136,6 @@ pub record StoresNext (words : List ℕ) (row : Due) (phase block k : ℕ) (text
   pub zeroed : phase ≡ 5 → left ≡ put one words (record { block = block; word = k; value = 0 })
   pub filled :
       (phase ≡ 5 → ⊥) → (h : Head) (table : List ℕ) → Prepared row.row h table k → left ≡ filled_at one h table text k words
-
--- the four lists of n points
-abbrev pub Lengths : ℕ → List (List ℕ) → List (List ℕ) → List (List ℕ) → List (List ℕ) → Type 0
-Lengths n heads tables texts answers = (length heads ≡ n) × (length tables ≡ n) × (length texts ≡ n) × (length answers ≡ n)
 
 -- the row of a point whose write goes on, and its next word; none for another
 pub record RowOn (r : Due) (h table : List ℕ) : Type 0 where

@@ -2,10 +2,9 @@
 ghost use Rattle.std.specs.Prelude.{◌≡◌, true, false, List, [], ◌∷◌, ℕ, ◌+◌, ◌-◌, ◌≤◌, ◌<◌, length, get_or, set, None};
 ghost use Rattle.words.specs.Edition.{one};
 ghost use Rattle.points.specs.Batch.{filled_on, InOneBlock};
-ghost use Rattle.points.specs.Serving.{rounds};
 ghost use Rattle.c_lent.specs.Numbers.{shared_lent, head_from, is_known};
-ghost use Rattle.c_lent.specs.Serving.{kind_goes_on, step_turn_for, listed, listed_at, common_lent, turn_left, listed_lent, point_as};
-ghost use Rattle.c_lent.specs.Batch.{AllReady, FillsAlone, PlainAt, RowIs, Lengths, words_on};
+ghost use Rattle.c_lent.specs.Serving.{kind_goes_on, listed_at, listed_lent, point_as};
+ghost use Rattle.c_lent.specs.Batch.{FillsAlone, PlainAt, AllPlain, RowIs, Ready, RoundsMade, lists_lent, words_on};
 
 use points::serve::{Due, Row};
 
@@ -47,8 +46,7 @@ fn least_left(least: u32, kind: u32, head: &[u32; 11]) -> u32
 // How many words every point whose write goes on has left so; 64 where there is none.
 fn plain_words(heads: &[[u32; 11]], answers: &[[u32; 2]]) -> u32
     requires { length answers.now ≡ length heads.now }
-    ensures { 0 < result → (i : ℕ) → i < length heads.now → kind_goes_on (get_or (get_or answers.now i []) 0 0) ≡ true
-        → PlainAt result (get_or heads.now i []) }
+    ensures { 0 < result → AllPlain result heads.now answers.now }
 {
     let mut least: u32 = 64;
     for (head, answer) in heads.iter().zip(answers) {
@@ -95,9 +93,8 @@ fn rows_for(
     ensures { (i : ℕ) → i < length heads.now → RowIs (get_or (get_or answers.now i []) 0 0)
         (get_or rows.new i None) (get_or heads.now i []) (get_or tables.now i []) }
 {
-    // Stays: `for (i, row) in rows[..heads.len()].iter_mut().enumerate()` is no plainer, since three more lists are read at i.
-    for i in 0..heads.len() {
-        rows[i] = row_for(answers[i][0], &heads[i], &tables[i]);
+    for (i, head) in heads.iter().enumerate() {
+        rows[i] = row_for(answers[i][0], head, &tables[i]);
     }
 }
 
@@ -122,8 +119,9 @@ fn all_go_on(heads: &mut [[u32; 11]], answers: &mut [[u32; 2]], m: u32)
         → listed_at heads.new tables texts answers.new i
         ≡ words_on m (listed_at heads.old tables texts answers.old i) }
 {
-    for i in 0..heads.len() {
-        go_on(&mut heads[i], &mut answers[i], m);
+    // Stays: answers by i: over `heads.iter_mut().zip(answers)` it was tried, and what heads and answers hold after the loop no proof knows.
+    for (i, head) in heads.iter_mut().enumerate() {
+        go_on(head, &mut answers[i], m);
     }
 }
 
@@ -138,14 +136,10 @@ fn by_rows(
     answers: &mut [[u32; 2]],
     m: u32,
 )
-    requires { Lengths (length heads.old) heads.old tables.now texts.now answers.old × (length heads.old ≤ 32) × (0 < m)
-        × AllReady (common_lent image.old (shared_lent shared.now taken.now)) (length heads.old) (listed_at heads.old tables.now texts.now answers.old)
-        × ((i : ℕ) → i < length heads.old → kind_goes_on (get_or (get_or answers.old i []) 0 0) ≡ true → PlainAt m (get_or heads.old i [])) }
-    ensures { let c = common_lent image.new (shared_lent shared.now taken.now) in
-        (turn_left c (listed heads.new tables.now texts.now answers.new)
-        ≡ rounds m step_turn_for (common_lent image.old (shared_lent shared.now taken.now))
-        (listed heads.old tables.now texts.now answers.old))
-        × AllReady c (length heads.old) (listed_at heads.new tables.now texts.now answers.new) }
+    requires { Ready (lists_lent image.old (shared_lent shared.now taken.now) heads.old tables.now texts.now answers.old)
+        × (length heads.old ≤ 32) × (0 < m) × AllPlain m heads.old answers.old }
+    ensures { let s = shared_lent shared.now taken.now in
+        RoundsMade m (lists_lent image.old s heads.old tables.now texts.now answers.old) (lists_lent image.new s heads.new tables.now texts.now answers.new) }
 {
     let mut rows: [Option<Due>; 32] = [None; 32];
     rows_for(heads, tables, answers, &mut rows);
@@ -198,14 +192,10 @@ fn plain_batch(
     answers: &mut [[u32; 2]],
     m: u32,
 )
-    requires { Lengths (length heads.old) heads.old tables.now texts.now answers.old × (length heads.old ≤ 32) × (0 < m)
-        × AllReady (common_lent image.old (shared_lent shared.now taken.now)) (length heads.old) (listed_at heads.old tables.now texts.now answers.old)
-        × ((i : ℕ) → i < length heads.old → kind_goes_on (get_or (get_or answers.old i []) 0 0) ≡ true → PlainAt m (get_or heads.old i [])) }
-    ensures { let c = common_lent image.new (shared_lent shared.now taken.now) in
-        (turn_left c (listed heads.new tables.now texts.now answers.new)
-        ≡ rounds m step_turn_for (common_lent image.old (shared_lent shared.now taken.now))
-        (listed heads.old tables.now texts.now answers.old))
-        × AllReady c (length heads.old) (listed_at heads.new tables.now texts.now answers.new) }
+    requires { Ready (lists_lent image.old (shared_lent shared.now taken.now) heads.old tables.now texts.now answers.old)
+        × (length heads.old ≤ 32) × (0 < m) × AllPlain m heads.old answers.old }
+    ensures { let s = shared_lent shared.now taken.now in
+        RoundsMade m (lists_lent image.old s heads.old tables.now texts.now answers.old) (lists_lent image.new s heads.new tables.now texts.now answers.new) }
 {
     if fills_alone(heads, answers) {
         fill_alone(
@@ -233,15 +223,11 @@ pub(crate) fn batch(
     bytes: &mut [u8; 1024],
     most: u32,
 ) -> u32
-    requires { Lengths (length heads.old) heads.old tables.old texts.old answers.old × (length heads.old ≤ 32) × (0 < most)
-        × AllReady (common_lent image.old (shared_lent shared.old taken.old)) (length heads.old) (listed_at heads.old tables.old texts.old answers.old) }
+    requires { Ready (lists_lent image.old (shared_lent shared.old taken.old) heads.old tables.old texts.old answers.old)
+        × (length heads.old ≤ 32) × (0 < most) }
     ensures { (0 < result) × (result ≤ most)
-        × (turn_left (common_lent image.new (shared_lent shared.new taken.new))
-        (listed heads.new tables.new texts.new answers.new)
-        ≡ rounds result step_turn_for (common_lent image.old (shared_lent shared.old taken.old))
-        (listed heads.old tables.old texts.old answers.old))
-        × AllReady (common_lent image.new (shared_lent shared.new taken.new)) (length heads.old)
-        (listed_at heads.new tables.new texts.new answers.new) }
+        × RoundsMade result (lists_lent image.old (shared_lent shared.old taken.old) heads.old tables.old texts.old answers.old)
+        (lists_lent image.new (shared_lent shared.new taken.new) heads.new tables.new texts.new answers.new) }
 {
     let words = plain_words(heads, answers);
     let m = words.min(most);

@@ -106,6 +106,7 @@ pub(crate) fn is_known(numbers: &[u32; 11]) -> bool
 }
 
 // The head of its numbers.
+// Stays: `is_known` is asked here, in `turn` and in `batch`: the numbers are C's (`store_serve_parts`); a type for it is a copy, an Option a test a turn.
 pub(crate) fn head(numbers: &[u32; 11]) -> points::Head
     requires { is_known numbers.now ≡ true }
     ensures { result ≡ head_from numbers.now }

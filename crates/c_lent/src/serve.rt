@@ -5,9 +5,8 @@ ghost use Rattle.words.specs.Logic.{member, list_from};
 ghost use Rattle.block_log.specs.Opening.{number_of};
 ghost use Rattle.points.specs.Serving.{rounds, serve_rounds, twice};
 ghost use Rattle.c_lent.specs.Numbers.{shared_lent};
-ghost use Rattle.c_lent.specs.Serving.{step_turn_for, listed, listed_at, common_lent, turn_left};
-ghost use Rattle.c_lent.specs.Batch.{AllReady};
-ghost use Rattle.c_lent.specs.Batch.{Lengths};
+ghost use Rattle.c_lent.specs.Serving.{step_turn_for, listed, common_lent, turn_left};
+ghost use Rattle.c_lent.specs.Batch.{Ready, lists_lent};
 ghost use Rattle.c_lent.specs.Serving.{one_for_each, any_goes_on, start_at, number_at, serve_reason, serve_left, serve_for};
 
 use block_log::{Refusal, Reply};
@@ -30,8 +29,7 @@ fn all_rounds(
     answers: &mut [[u32; 2]],
     most: u32,
 )
-    requires { Lengths (length heads.old) heads.old tables.old texts.old answers.old × (length heads.old ≤ 32)
-        × AllReady (common_lent image.old (shared_lent shared.old taken.old)) (length heads.old) (listed_at heads.old tables.old texts.old answers.old) }
+    requires { Ready (lists_lent image.old (shared_lent shared.old taken.old) heads.old tables.old texts.old answers.old) × (length heads.old ≤ 32) }
     ensures { turn_left (common_lent image.new (shared_lent shared.new taken.new))
         (listed heads.new tables.new texts.new answers.new)
         ≡ rounds most step_turn_for (common_lent image.old (shared_lent shared.old taken.old))

@@ -3,10 +3,9 @@ ghost use Rattle.std.specs.Prelude.{◌≡◌, true, false, List, ℕ, ◌+◌, 
 ghost use Rattle.words.specs.Edition.{one};
 ghost use Rattle.points.specs.Serving.{in_turn};
 ghost use Rattle.c_lent.specs.Numbers.{shared_lent, point_lent, is_known};
-ghost use Rattle.c_lent.specs.Serving.{kind_goes_on, begin_turn_for, step_turn_for, listed, asking, listed_at, common_lent, turn_left, listed_lent, asking_lent};
-ghost use Rattle.c_lent.specs.Batch.{AllReady, Steps, MovesOn, CommitsOn};
-ghost use Rattle.c_lent.specs.Batch.{Lengths};
-ghost use Rattle.c_lent.specs.Serving.{Lent, begun_answer};
+ghost use Rattle.c_lent.specs.Serving.{kind_goes_on, begin_turn_for, step_turn_for, listed, asking, listed_at, common_lent, turn_left, listed_lent};
+ghost use Rattle.c_lent.specs.Batch.{AllReady, Ready, lists_lent, Steps, MovesOn, CommitsOn};
+ghost use Rattle.c_lent.specs.Serving.{Lent, asking_lent, begun_answer};
 
 // Stays: kinds are numbers here, since `answers` is C's list of pairs (`store_serve_parts`) and is read back in each round.
 pub(crate) use points::answers::goes_on;
@@ -187,8 +186,7 @@ pub(crate) fn round(
     answers: &mut [[u32; 2]],
     bytes: &mut [u8; 1024],
 )
-    requires { Lengths (length heads.old) heads.old tables.old texts.old answers.old
-        × AllReady (common_lent image.old (shared_lent shared.old taken.old)) (length heads.old) (listed_at heads.old tables.old texts.old answers.old) }
+    requires { Ready (lists_lent image.old (shared_lent shared.old taken.old) heads.old tables.old texts.old answers.old) }
     ensures { let c = common_lent image.new (shared_lent shared.new taken.new) in
         (turn_left c (listed heads.new tables.new texts.new answers.new)
         ≡ in_turn step_turn_for (common_lent image.old (shared_lent shared.old taken.old))

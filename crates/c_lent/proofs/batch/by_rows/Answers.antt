@@ -12,14 +12,15 @@ pub rows_for-requires : goal.rows_for-requires
 rows_for-requires c = let a = c.args in
     let p = c.requires in
     let shared = shared_lent a.shared.now a.taken.now in
-    (p.0.1, p.0.3, p.1, all_known (common_lent a.image.now shared) a.heads.now a.tables.now a.texts.now a.answers.now p.0 p.3)
+    let l = p.0.lengths in
+    (l.1, l.3, p.1, all_known (common_lent a.image.now shared) a.heads.now a.tables.now a.texts.now a.answers.now l p.0.fits)
 
 pub all_go_on-requires : goal.all_go_on-requires
 all_go_on-requires c = let a = c.args in
     let p = c.requires in (
-      p.0.3,
+      p.0.lengths.3,
       words-few a.image.now (shared_lent a.shared.now a.taken.now) c.rows_for.new.rows a.heads.now a.tables.now a.texts.now
-          a.answers.now a.m p.0 p.2 p.3 p.4 c.rows_for.ensures,
+          a.answers.now a.m p.0.lengths p.2 p.0.fits p.3 c.rows_for.ensures,
     )
 
 pub returns : goal.returns
@@ -29,8 +30,8 @@ returns c = let on = c.all_go_on in
     let shared = shared_lent a.shared.now a.taken.now in
     let rows = c.rows_for.new.rows in
     let enough : length a.heads.now ≤ length c.rows_for.new.rows = omega (arith, p.1) in
-    let fit = rows_fit a.image.now shared rows a.heads.now a.tables.now a.texts.now a.answers.now a.m p.0 p.2 p.3 p.4
+    let fit = rows_fit a.image.now shared rows a.heads.now a.tables.now a.texts.now a.answers.now a.m p.0.lengths p.2 p.0.fits p.3
     c.rows_for.ensures enough in
-    rounds-made a.image.now shared rows a.heads.now a.tables.now a.texts.now a.answers.now a.m p.0 p.2 p.3 p.4
+    rounds-made a.image.now shared rows a.heads.now a.tables.now a.texts.now a.answers.now a.m p.0.lengths p.2 p.0.fits p.3
     c.rows_for.ensures c.fill_rounds.new.image on.new.heads on.new.answers c.heads-1.given (c.fill_rounds.ensures fit)
     (on.ensures a.tables.now a.texts.now)

@@ -1,5 +1,4 @@
 -- `c_lent::numbers::lead`: number by number; the reports are looked at once. Assumes nothing.
-use native.Mathlib.Omega.{arith}
 use Rattle.c_lent.proofs.Shared.{rest-whole}
 use Rattle.c_lent.proofs.numbers.lead.Goals as goal
 

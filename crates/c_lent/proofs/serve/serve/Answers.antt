@@ -29,9 +29,11 @@ begin_all-requires c = let x = each (goal.at.begin_all-requires c).In_default in
 pub all_rounds-requires : goal.all_rounds-requires
 all_rounds-requires c = let x = each (goal.at.all_rounds-requires c).In_default in
     let h = c.heads-1.given in (
-      (refl, c.tables-1.given ∙ x.tables-are ∙ sym h, c.texts-1.given ∙ x.texts-are ∙ sym h, c.answers-1.given ∙ x.answers_are ∙ sym h),
+      record {
+        lengths = (refl, c.tables-1.given ∙ x.tables-are ∙ sym h, c.texts-1.given ∙ x.texts-are ∙ sym h, c.answers-1.given ∙ x.answers_are ∙ sym h);
+        fits = λ i k g. c.begin_all.ensures.1 i (omega (arith, h, k)) g;
+      },
       omega (arith, x.most, h),
-      λ i k g. c.begin_all.ensures.1 i (omega (arith, h, k)) g,
     )
 
 pub returns : goal.returns

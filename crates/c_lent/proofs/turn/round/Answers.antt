@@ -16,9 +16,9 @@ loop-i-init c = let a = c.args in (
   omega arith,
   refl,
   refl,
-  c.requires.0,
+  c.requires.lengths,
   reached-start step_turn_for _ (length a.heads.now) _ (listed_at a.heads.now a.tables.now a.texts.now a.answers.now),
-  c.requires.1,
+  c.requires.fits,
 )
 
 pub turn-requires : goal.turn-requires
@@ -42,13 +42,13 @@ pub shape_of-heads : goal.shape_of-heads
 shape_of-heads c = c.loop-i.invariant.3.0
 
 pub shape_of-tables : goal.shape_of-tables
-shape_of-tables c = c.loop-i.invariant.3.1 ∙ sym c.requires.0.1
+shape_of-tables c = c.loop-i.invariant.3.1 ∙ sym c.requires.lengths.1
 
 pub shape_of-texts : goal.shape_of-texts
-shape_of-texts c = c.loop-i.invariant.3.2 ∙ sym c.requires.0.2
+shape_of-texts c = c.loop-i.invariant.3.2 ∙ sym c.requires.lengths.2
 
 pub shape_of-answers : goal.shape_of-answers
-shape_of-answers c = c.loop-i.invariant.3.3 ∙ sym c.requires.0.3
+shape_of-answers c = c.loop-i.invariant.3.3 ∙ sym c.requires.lengths.3
 
 pub returns : goal.returns
 returns c = let l = c.loop-i in (
