@@ -8,8 +8,8 @@ use Rattle.points.specs.declared.serve.Due.{Due}
 use Rattle.points.specs.Record.{is_reading, run_words}
 use Rattle.points.specs.Stepping.{step_refusal}
 use Rattle.points.specs.Batch.{row_of, Fillable, Prepared, filled_at}
-use Rattle.c_lent.specs.Numbers.{SharedLent, PointLent, shared_as, shared_in, lend_point, head_from}
 use Rattle.points.specs.Serving.{rounds}
+use Rattle.c_lent.specs.Numbers.{SharedLent, PointLent, shared_as, shared_in, lend_point, head_from}
 use Rattle.c_lent.specs.Serving.{CommonLent, ListedLent, common_lent, listed, listed_at, listed_lent, point_as, turn_left, kind_goes_on, step_turn_for}
 
 -- ---- points that are known to fit
