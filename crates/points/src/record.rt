@@ -269,6 +269,7 @@ pub fn fits(blocks: u32, head: Head, table: &[u16; 256]) -> bool
 }
 
 // The same of a record without a read, test by test. (A step of a write alone calls it: it becomes part of the step, whose numbers stay where they are.)
+// Stays: with `fits` and `unfit_numbers` for both, compiled into their callers, the fill of a copied word has 481 instructions in place of 387.
 pub(crate) fn fits_unread(blocks: u32, head: Head, table: &[u16; 256]) -> bool
     requires { is_reading head.write.phase ≡ false }
     ensures { result ≡ fits one blocks head table.now }

@@ -42,6 +42,7 @@ pub(crate) const NO_SHARED: Shared = Shared {
     reports: [0; 32],
 };
 
+// Stays: the image is the front of a room of fixed size, since the bench has no heap.
 #[derive(Drop)]
 pub struct Bench {
     pub room: [u64; 65600],
