@@ -55,56 +55,63 @@ fn accepts(first: u64, second: u64) -> bool
     reply.is_ok()
 }
 
-// A log goes into the slice behind the `count` logs there, if there is room and opening accepts it; how many there are then.
-fn keep(out: &mut [u64], count: usize, first: u64, second: u64) -> usize
-    requires { Room out.old count }
-    ensures { Keeps ((first ∷ second ∷ []) ∷ []) out.old count out.new result }
-{
-    let at = 2 * count;
-    if out.len() - at < 2 {
-        return count;
-    }
-    if !accepts(first, second) {
-        return count;
-    }
-    out[at] = first;
-    out[at + 1] = second;
-    count + 1
+// The logs that are kept: the slice that they go into, two words each, and how many it holds.
+#[derive(Drop)]
+struct Logs<'a> {
+    out: &'a mut [u64],
+    count: usize,
+    ghost room: { Room out.now count },
 }
 
-// The same of the log that has one entry more than the log of `first` alone, 0 for the empty log.
-fn keep_longer(out: &mut [u64], count: usize, first: u64, e: u64) -> usize
-    requires { Room out.old count }
-    ensures { Keeps ((log_of first ++ e ∷ []) ∷ []) out.old count out.new result }
-{
-    if first == 0 {
-        return keep(out, count, e, 0);
+impl<'a> Logs<'a> {
+    // A log goes in behind the others, if there is room and opening accepts it.
+    fn keep(&mut self, first: u64, second: u64)
+        ensures kept { Keeps ((first ∷ second ∷ []) ∷ []) self.old.out.now self.old.count self.new.out.now self.new.count }
+        ensures same_slice { self.new.out.ghost_name ≡ self.old.out.ghost_name }
+    {
+        let at = 2 * self.count;
+        if self.out.len() - at < 2 {
+            return;
+        }
+        if !accepts(first, second) {
+            return;
+        }
+        self.out[at] = first;
+        self.out[at + 1] = second;
+        self.count += 1;
     }
-    keep(out, count, first, e)
-}
 
-// The same of all logs that have one legal entry more than that.
-fn keep_each(out: &mut [u64], count: usize, first: u64) -> usize
-    requires { Room out.old count }
-    ensures { Keeps (one_more (log_of first)) out.old count out.new result }
-{
-    let mut n = count;
-    for k in 0..ENTRY_COUNT {
-        n = keep_longer(out, n, first, legal_entry(k));
+    // The same of the log that has one entry more than the log of `first` alone, 0 for the empty log.
+    fn keep_longer(&mut self, first: u64, e: u64)
+        ensures kept { Keeps ((log_of first ++ e ∷ []) ∷ []) self.old.out.now self.old.count self.new.out.now self.new.count }
+        ensures same_slice { self.new.out.ghost_name ≡ self.old.out.ghost_name }
+    {
+        if first == 0 {
+            self.keep(e, 0);
+            return;
+        }
+        self.keep(first, e);
     }
-    n
-}
 
-// The same of all logs of two legal entries.
-fn keep_pairs(out: &mut [u64], count: usize) -> usize
-    requires { Room out.old count }
-    ensures { Keeps pairs out.old count out.new result }
-{
-    let mut n = count;
-    for k in 0..ENTRY_COUNT {
-        n = keep_each(out, n, legal_entry(k));
+    // The same of all logs that have one legal entry more than that.
+    fn keep_each(&mut self, first: u64)
+        ensures kept { Keeps (one_more (log_of first)) self.old.out.now self.old.count self.new.out.now self.new.count }
+        ensures same_slice { self.new.out.ghost_name ≡ self.old.out.ghost_name }
+    {
+        for k in 0..ENTRY_COUNT {
+            self.keep_longer(first, legal_entry(k));
+        }
     }
-    n
+
+    // The same of all logs of two legal entries.
+    fn keep_pairs(&mut self)
+        ensures kept { Keeps pairs self.old.out.now self.old.count self.new.out.now self.new.count }
+        ensures same_slice { self.new.out.ghost_name ≡ self.old.out.ghost_name }
+    {
+        for k in 0..ENTRY_COUNT {
+            self.keep_each(legal_entry(k));
+        }
+    }
 }
 
 // All legal small logs go into the slice, as many as there is room for, two words each, 0 for an entry that a log does not have: 66 words hold all. The first
@@ -112,9 +119,11 @@ fn keep_pairs(out: &mut [u64], count: usize) -> usize
 pub fn every_log(out: &mut [u64]) -> usize
     ensures { Fills legal_logs out.old out.new result }
 {
-    let empty = keep(out, 0, 0, 0);
-    let ones = keep_each(out, empty, 0);
-    keep_pairs(out, ones)
+    let mut logs = Logs { out, count: 0 };
+    logs.keep(0, 0);
+    logs.keep_each(0);
+    logs.keep_pairs();
+    logs.count
 }
 
 // A hexadecimal digit, in capitals.
