@@ -90,6 +90,7 @@ fn begin_turn(
 }
 
 // All writes are begun, in list order; their texts stand one after the other.
+// Stays: image, shared record, points and answers go as `serve` is lent them; a struct of them would be made in `serve` and taken apart in three functions.
 fn begin_all(
     image: &[u64],
     shared: Shared,
