@@ -31,6 +31,7 @@ fn begun_numbers(reply: Reply) -> [u32; 2]
 }
 
 // Whether the texts are so long together.
+// Stays: c_lent has this loop too, against `start_at`; one for both would take a third definition of the sum and a law from it to each, longer than the loop.
 fn adds_up(writes: &[[usize; 2]], bytes: usize) -> bool
     ensures { result ≡ eqb (sizes_of writes.now) bytes }
 {
@@ -89,6 +90,7 @@ fn begin_turn(
 }
 
 // All writes are begun, in list order; their texts stand one after the other.
+// Stays: image, shared record, points and answers go as `serve` is lent them; a struct of them would be made in `serve` and taken apart in three functions.
 fn begin_all(
     image: &[u64],
     shared: Shared,
@@ -103,6 +105,7 @@ fn begin_all(
 {
     let mut left = shared;
     let mut start = 0;
+    // Stays: where two lists are zipped by `iter_mut` the prover knows their lengths afterwards and no element, so the answers and writes go by the index.
     for (i, point) in points.iter_mut().enumerate() {
         let end = start + writes[i][1];
         left = begin_turn(
@@ -119,6 +122,7 @@ fn begin_all(
 }
 
 // One point's turn in a round: a step if its write goes on.
+// Stays: the kind is read back as a number, since what a point answered last stands in the list of numbers that `serve` is lent, and nowhere else.
 fn step_turn(image: &mut [u64], shared: Shared, point: &mut Point, answer: &mut [u32; 2]) -> Shared
     ensures { (x : Listed) → x.point ≡ point.old → last_numbers x.last ≡ answer.old
         → TurnLeaves (step_turn one (common image.old shared) x) image.new result point.new answer.new }
@@ -145,6 +149,7 @@ fn round(
         → Leaves (in_turn (step_turn one) (common image.old shared) xs) image.new result points.new answers.new }
 {
     let mut left = shared;
+    // Stays: as in `begin_all`.
     for (i, point) in points.iter_mut().enumerate() {
         left = step_turn(image, left, point, &mut answers[i]);
     }
