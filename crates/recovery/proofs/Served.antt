@@ -17,7 +17,7 @@ use Rattle.points.specs.declared.Stepped.{Stepped}
 use Rattle.points.specs.declared.Left.{Left}
 use Rattle.points.specs.Calls.{joining, beginning, beginning_read, leaving}
 use Rattle.points.specs.Stepping.{stepping, StepLeaves}
-use Rattle.points.specs.Reading.{ReadLeaves, locate_refusal, locating}
+use Rattle.points.specs.Reading.{ReadLeaves, locating}
 use Rattle.block_log.proofs.Replies.{done_none, opened-replies}
 use Rattle.points.proofs.Replies.{locating-number}
 use Rattle.recovery.specs.World.{serve}
