@@ -1,5 +1,6 @@
 -- Laying out and opening (document 01, "The opened file", "Why a call is turned down").
-use Rattle.std.specs.Prelude.{Result, Ok, Err, ℕ, zero, suc, ◌*◌, ◌-◌, ◌≡◌, Bool, true, false, ◌||◌, not, List, [], ◌∷◌, ◌++◌, length, drop, replicate, ltb, eqb}
+use Rattle.std.specs.Prelude.{Result, Ok, Err}
+use Rattle.std.specs.Prelude.{ℕ, zero, suc, ◌*◌, ◌-◌, ◌≡◌, Bool, true, false, ◌||◌, not, List, [], ◌∷◌, ◌++◌, length, drop, replicate, ltb, eqb}
 use Rattle.words.specs.Edition.{Edition, one, blocks_max}
 use Rattle.words.specs.Logic.{is_zero, some_of, any, member, list_from, first, Reason, ◌when◌}
 use Rattle.words.specs.Memory.{Memory, memory, block_count, wrong_size}

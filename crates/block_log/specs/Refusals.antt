@@ -1,8 +1,10 @@
 -- Why a call is turned down: the number of each reason in document 01, and a reply by that number.
 use Rattle.std.specs.Prelude.{ℕ, true, false, List, [], ◌∷◌, eqb, Result, Ok, Err}
 use Rattle.block_log.specs.declared.Refusal.{Refusal}
-use Rattle.block_log.specs.declared.Refusal.TheVariants.{ImageSize, ScratchShort, SuperblockWrong, LogIndexOutside, ChainEndless, LogBlockWrong, EntryWrong, BlockShared, EndNotZero}
-use Rattle.block_log.specs.declared.Refusal.TheVariants.{SharedUnfit, RecordUnfit, NumberAbove, AlreadyJoined, NotJoined, WrongPhase, TextSize, PastEnd, LogBroken}
+use Rattle.block_log.specs.declared.Refusal.TheVariants.{ImageSize, ScratchShort, SuperblockWrong, LogIndexOutside, ChainEndless, LogBlockWrong}
+use Rattle.block_log.specs.declared.Refusal.TheVariants.{EntryWrong, BlockShared, EndNotZero}
+use Rattle.block_log.specs.declared.Refusal.TheVariants.{SharedUnfit, RecordUnfit, NumberAbove, AlreadyJoined, NotJoined, WrongPhase, TextSize}
+use Rattle.block_log.specs.declared.Refusal.TheVariants.{PastEnd, LogBroken}
 use Rattle.block_log.specs.declared.Refusal.TheVariants.{NoRun, LogFull, NoLogBlock, NotMapped, NotOneEach, ListedTwice}
 
 -- the number of a reason in document 01

@@ -187,7 +187,8 @@ pub fn catch_up(image: &[u64], blocks: u32, from: Place, table: &mut [u16; 256],
     }
 }
 
-// One entry is taken in, where its runs lie inside a table and an image of 1,024 blocks, as those of an entry that keeps the rules do. Otherwise nothing changes.
+// One entry is taken in, where its runs lie inside a table and an image of 1,024 blocks, as those of an entry that keeps the rules do. Otherwise nothing
+// changes.
 pub fn take_entry(e: u64, table: &mut [u16; 256], size: u32) -> u32
     ensures legal { (blocks : ℕ) → blocks ≤ 1024 → legal one blocks e ≡ true
         → TakenIn (e ∷ []) table.old size table.new result }

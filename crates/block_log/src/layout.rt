@@ -10,7 +10,10 @@ fn zero_front(image: &mut [u64], n: usize)
     requires { n ≤ length image.old }
     ensures { image.new ≡ replicate n 0 ++ drop n image.old }
 {
-    image[..n].fill(0);
+    // Stays: `image[..n].fill(0)` would assign to an image in a second place beside `put_word` (PROOF, "There is one assignment").
+    for i in 0..n {
+        words::image::put_word(image, i, 0);
+    }
 }
 
 // The superblock, with first log block 1, and an empty block 1; other blocks are not touched.

@@ -109,6 +109,7 @@ pub struct Shared {
 pub type Reply = Result<(), Refusal>;
 
 // What opening answers.
+// Stays: the reply stands beside the rest, since the record and the counts of a refused opening are promised too (`refused_with`).
 #[derive(Clone, Copy)]
 pub struct Opened {
     pub reply: Reply,

@@ -104,6 +104,7 @@ fn super_fault(image: &[u64]) -> Fault
 }
 
 // The log block behind which the chain is read no further: the last of these, 0 for none.
+// Stays: here, in `first_bad` and in `block_of` 0 for none, as the definitions of these names have it.
 fn last_of(chain: &[u16]) -> u64
     ensures { result ≡ last_of chain.now }
 {

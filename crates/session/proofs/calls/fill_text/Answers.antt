@@ -1,5 +1,4 @@
-use Prim.Native.Nat.{ℕ, ◌+◌, ◌*◌, ◌%◌, ◌<◌}
-use Rattle.std.proofs.Common.{◌≡◌, refl, sym, ◌∙◌, ap, arith}
+use Rattle.std.proofs.Common.{refl, arith}
 use Rattle.session.specs.Made.{text_byte}
 use Rattle.words.proofs.Logic.{list_from-next}
 use Rattle.session.proofs.MadeLaws.{text-start, text-next, text-end}
