@@ -69,13 +69,17 @@ fn move_on(image: &[u64], blocks: u32, head: Head) -> Plan
         last_edge(write) & seen.last,
         write,
     );
-    Plan {
-        place: seen.place,
-        write: later,
-        reads: Reads::AllAhead,
-        reports: Reports::Standing,
-        ..crate::plan::still(head, StepAnswer::Moved)
-    }
+    let place = seen.place;
+    crate::plan::resting(
+        StepAnswer::Moved,
+        place,
+        later,
+        Reads::AllAhead,
+        Frees::NoBlock,
+        0,
+        false,
+        Reports::Standing,
+    )
 }
 
 // The entry of the write.
@@ -104,16 +108,18 @@ fn commit(head: Head) -> Plan
     let entry = entry_for(head);
     let retries = head.write.retries;
     Plan {
+        step: StepAnswer::Committed(retries),
         place: crate::plan::next_slot(head.place),
         write: crate::plan::no_write(),
         reads: Reads::OwnEntry,
         frees: Frees::Replaced,
+        takes: 0,
         clears: true,
+        reports: Reports::NoReport,
         kind: Kind::Entry,
         block: head.place.block,
         word: head.place.slot,
         value: entry,
-        ..crate::plan::still(head, StepAnswer::Committed(retries))
     }
 }
 
@@ -121,12 +127,16 @@ fn commit(head: Head) -> Plan
 pub(crate) fn give_up(head: Head, refusal: Refusal) -> Plan
     ensures { result ≡ give_up one head (number refusal) }
 {
-    Plan {
-        write: crate::plan::no_write(),
-        frees: Frees::Held,
-        clears: true,
-        ..crate::plan::refused(head, refusal)
-    }
+    crate::plan::resting(
+        StepAnswer::Refused(refusal),
+        head.place,
+        crate::plan::no_write(),
+        Reads::NoEntry,
+        Frees::Held,
+        0,
+        true,
+        Reports::NoReport,
+    )
 }
 
 // A free block is taken, to be zeroed and linked.
@@ -135,11 +145,16 @@ fn extend(head: Head, b: u32) -> Plan
 {
     let write = head.write;
     let zeroing = crate::plan::turned(write, Phase::Zeroing, 0, b, write.retries);
-    Plan {
-        write: zeroing,
-        takes: b,
-        ..crate::plan::still(head, StepAnswer::Extending)
-    }
+    crate::plan::resting(
+        StepAnswer::Extending,
+        head.place,
+        zeroing,
+        Reads::NoEntry,
+        Frees::NoBlock,
+        b,
+        false,
+        Reports::NoReport,
+    )
 }
 
 // The log place is at slot 64 with no next index: the chain is extended, or the write ends by 20 or 21.

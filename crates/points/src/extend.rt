@@ -4,7 +4,7 @@ ghost use Rattle.words.specs.Edition.{one};
 ghost use Rattle.words.specs.Memory.{memory};
 ghost use Rattle.points.specs.Stepping.{zero_out, link, linking, give_back, extending};
 
-use crate::plan::{Frees, Kind, Plan, Reports};
+use crate::plan::{Frees, Kind, Plan, Reads, Reports};
 use crate::{Head, Phase, StepAnswer};
 use block_log::Refusal;
 
@@ -22,13 +22,15 @@ fn zero_out(head: Head) -> Plan
         write.zeroing,
         write.retries,
     );
-    Plan {
-        write: zeroed,
-        kind: Kind::Zero,
-        block: write.zeroing,
-        word: position,
-        ..crate::plan::still(head, StepAnswer::Stored)
-    }
+    crate::plan::storing(
+        Kind::Zero,
+        write.zeroing,
+        position,
+        0,
+        head.place,
+        zeroed,
+        Reports::NoReport,
+    )
 }
 
 // The zeroed block is the next log block from now on.
@@ -37,15 +39,15 @@ fn link(head: Head) -> Plan
 {
     let write = head.write;
     let zeroing = write.zeroing;
-    Plan {
-        place: crate::plan::entering(zeroing),
-        write: crate::plan::to_commit(write, write.retries),
-        reports: Reports::Linked,
-        kind: Kind::Link,
-        block: head.place.block,
-        value: u64::from(zeroing),
-        ..crate::plan::still(head, StepAnswer::Stored)
-    }
+    crate::plan::storing(
+        Kind::Link,
+        head.place.block,
+        0,
+        zeroing as u64,
+        crate::plan::entering(zeroing),
+        crate::plan::to_commit(write, write.retries),
+        Reports::Linked,
+    )
 }
 
 // A next index is there by now: the zeroed block is given back.
@@ -54,11 +56,16 @@ fn give_back(head: Head) -> Plan
 {
     let write = head.write;
     let later = crate::plan::to_commit(write, crate::plan::retried(write));
-    Plan {
-        write: later,
-        frees: Frees::Zeroed,
-        ..crate::plan::still(head, StepAnswer::Moved)
-    }
+    crate::plan::resting(
+        StepAnswer::Moved,
+        head.place,
+        later,
+        Reads::NoEntry,
+        Frees::Zeroed,
+        0,
+        false,
+        Reports::NoReport,
+    )
 }
 
 // The zeroed block is linked, unless the chain has 64 log blocks: then the write ends.

@@ -3,10 +3,7 @@ ghost use Rattle.std.specs.Prelude.{◌≡◌, false, ◌<◌};
 ghost use Rattle.words.specs.Edition.{one};
 ghost use Rattle.block_log.specs.Refusals.{number};
 ghost use Rattle.points.specs.Record.{run_words, no_write, head_of};
-ghost use Rattle.points.specs.Plan.{resting};
-ghost use Rattle.points.specs.declared.plan.Reads.TheVariants.{NoEntry};
-ghost use Rattle.points.specs.declared.plan.Frees.TheVariants.{NoBlock};
-ghost use Rattle.points.specs.declared.plan.Reports.TheVariants.{NoReport};
+ghost use Rattle.points.specs.Plan.{storing, resting};
 ghost use Rattle.points.specs.Stepping.{refused, turned, to_commit, retried, next_slot, entering};
 
 use crate::{Head, Phase, StepAnswer, Write};
@@ -66,19 +63,57 @@ pub struct Plan {
     pub value: u64,
 }
 
-// A plan that answers and changes nothing.
-pub(crate) fn still(head: Head, step: StepAnswer) -> Plan
-    ensures { result ≡ resting step head.place head.write NoEntry NoBlock 0 false NoReport }
+// A plan that stores a word, and changes no more than the point's log place and write, and what is reported.
+// Stays: by struct update over one plan that changes nothing, here and in `resting`, a fill has 432 instructions in place of 366.
+pub(crate) fn storing(
+    kind: Kind,
+    block: u32,
+    word: u32,
+    value: u64,
+    place: Place,
+    write: Write,
+    reports: Reports,
+) -> Plan
+    ensures { result ≡ storing kind block word value place write reports }
 {
     Plan {
-        step,
-        place: head.place,
-        write: head.write,
+        step: StepAnswer::Stored,
+        place,
+        write,
         reads: Reads::NoEntry,
         frees: Frees::NoBlock,
         takes: 0,
         clears: false,
-        reports: Reports::NoReport,
+        reports,
+        kind,
+        block,
+        word,
+        value,
+    }
+}
+
+// A plan that stores nothing.
+pub(crate) fn resting(
+    step: StepAnswer,
+    place: Place,
+    write: Write,
+    reads: Reads,
+    frees: Frees,
+    takes: u32,
+    clears: bool,
+    reports: Reports,
+) -> Plan
+    ensures { result ≡ resting step place write reads frees takes clears reports }
+{
+    Plan {
+        step,
+        place,
+        write,
+        reads,
+        frees,
+        takes,
+        clears,
+        reports,
         kind: Kind::NoStore,
         block: 0,
         word: 0,
@@ -90,7 +125,16 @@ pub(crate) fn still(head: Head, step: StepAnswer) -> Plan
 pub(crate) fn refused(head: Head, refusal: Refusal) -> Plan
     ensures { result ≡ refused one head (number refusal) }
 {
-    still(head, StepAnswer::Refused(refusal))
+    resting(
+        StepAnswer::Refused(refusal),
+        head.place,
+        head.write,
+        Reads::NoEntry,
+        Frees::NoBlock,
+        0,
+        false,
+        Reports::NoReport,
+    )
 }
 
 // The write at another phase and position.

@@ -9,8 +9,8 @@ ghost use Rattle.points.specs.Plan.{read_in, text_after, stores, store_of};
 ghost use Rattle.points.specs.Stepping.{fill, filling, write_on, planned, StepLeaves};
 ghost use Rattle.points.specs.Lent.{Plans, Readable, StepsOn, TextFits, Lengthens, Stores, WriteTells, StepTells, stepped_of};
 
-use crate::plan::{Kind, Plan, Reads};
-use crate::{Head, LentStepped, Numbers, Point, StepAnswer, Stepped};
+use crate::plan::{Kind, Plan, Reads, Reports};
+use crate::{Head, LentStepped, Numbers, Point, Stepped};
 use block_log::{Place, Refusal, Shared};
 
 // Word k of the run is filled.
@@ -22,14 +22,15 @@ fn fill<'a>(image: &[u64], head: Head, table: &'a [u16; 256], text: &'a [u8; 102
     let phase = write.phase;
     let value = crate::fill::new_word(image, head, table, text, k);
     let filled = crate::plan::turned(write, phase, k + 1, write.zeroing, write.retries);
-    Plan {
-        write: filled,
-        kind: Kind::Fill,
-        block: write.run,
-        word: k,
+    crate::plan::storing(
+        Kind::Fill,
+        write.run,
+        k,
         value,
-        ..crate::plan::still(head, StepAnswer::Stored)
-    }
+        head.place,
+        filled,
+        Reports::NoReport,
+    )
 }
 
 // The next word of the run is filled; where none is left, the step commits.

@@ -4,4 +4,4 @@ use Rattle.points.proofs.commit.commit.Goals as goal
 
 pub returns : goal.returns
 unfolding commit
-returns c = rw (c.still.ensures, c.no_write.ensures, c.next_slot.ensures, c.entry_for-entry.ensures)
+returns c = rw (c.no_write.ensures, c.next_slot.ensures, c.entry_for-entry.ensures)

@@ -4,4 +4,4 @@ use Rattle.points.proofs.commit.extend.Goals as goal
 
 pub returns : goal.returns
 unfolding extend
-returns c = rw (c.still.ensures, c.turned-zeroing.ensures)
+returns c = rw (c.resting.ensures, c.turned-zeroing.ensures)

@@ -42,6 +42,6 @@ returns-then-seen c = let a = c.args in
 
 pub returns : goal.returns
 returns c = let a = c.args in
-    rw c.still.ensures
-    (ap (λ (w : Write). resting Moved c.look-seen.result.place w AllAhead NoBlock 0 false Standing) (later (goal.at.returns c).After-refill-later))
+    c.resting.ensures
+    ∙ ap (λ (w : Write). resting Moved c.look-seen.result.place w AllAhead NoBlock 0 false Standing) (later (goal.at.returns c).After-refill-later)
     ∙ sym (move-goes one (memory one a.image.now) a.head a.blocks c.look-seen.result (seen (goal.at.returns c).After-look-seen) c.if-seen.false)

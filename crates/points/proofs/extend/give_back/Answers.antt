@@ -4,4 +4,4 @@ use Rattle.points.proofs.extend.give_back.Goals as goal
 
 pub returns : goal.returns
 unfolding give_back
-returns c = rw (c.still.ensures, c.to_commit-later.ensures, c.retried.ensures)
+returns c = rw (c.resting.ensures, c.to_commit-later.ensures, c.retried.ensures)

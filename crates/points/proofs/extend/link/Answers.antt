@@ -4,4 +4,4 @@ use Rattle.points.proofs.extend.link.Goals as goal
 
 pub returns : goal.returns
 unfolding link
-returns c = rw (c.still.ensures, c.from.ensures, c.to_commit.ensures, c.entering.ensures)
+returns c = rw (c.storing.ensures, c.to_commit.ensures, c.entering.ensures)

@@ -5,4 +5,4 @@ use Rattle.points.proofs.extend.zero_out.Goals as goal
 
 pub returns : goal.returns
 unfolding zero_out
-returns c = rw (c.still.ensures, c.turned-zeroed.ensures, add-one)
+returns c = rw (c.storing.ensures, c.turned-zeroed.ensures, add-one)

@@ -5,4 +5,4 @@ use Rattle.points.proofs.step.fill.Goals as goal
 
 pub returns : goal.returns
 unfolding fill
-returns c s = rw (c.still.ensures, c.turned-filled.ensures, c.new_word-value.ensures, add-one)
+returns c s = rw (c.storing.ensures, c.turned-filled.ensures, c.new_word-value.ensures, add-one)
