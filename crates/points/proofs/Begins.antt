@@ -1,10 +1,13 @@
 -- Beginning: its reasons in their order, the text in its array, and what it answers. Assumes nothing.
-use Prim.Native.Nat.{ℕ, zero, suc, ◌-◌, ◌≤◌}
+use Prim.Native.Nat.{ℕ, zero, suc, ◌+◌, ◌-◌, ◌≤◌, ◌<◌}
+use native.Mathlib.Numerals.{add-one}
+use native.Mathlib.Nat.{zero-add}
 use native.Mathlib.Omega.{arith}
-use mathlib.Core.Path.{◌≡◌, refl, sym, ◌∙◌, ap}
+use mathlib.Core.Path.{◌≡◌, refl, sym, ◌∙◌, ap, subst}
 use mathlib.Core.Bool.{true, false, not}
 use mathlib.Core.List.{◌++◌, List, [], ◌∷◌}
-use lib.ListN.{length, replicate, drop}
+use lib.ListN.{length, replicate, drop, set, get_or}
+use lib.Seq.{paste, paste-suc, take-length}
 use Rattle.words.specs.Edition.{Edition, one}
 use Rattle.words.specs.Logic.{Reason, first, ◌when◌}
 use Rattle.words.specs.Memory.{memory}
@@ -48,6 +51,23 @@ drop-zeros (suc n) (suc m) = let e : suc m - suc n ≡ m - n = omega arith in rw
 pub text-put : (text : List ℕ) → text ++ drop (length text) no_text ≡ text_of text
 unfolding no_text
 text-put text = rw drop-zeros
+
+text-length : length no_text ≡ 1024
+unfolding no_text
+text-length = refl
+
+-- a turn of the loop that copies, and its end
+pub text-next :
+    (text : List ℕ) (i : ℕ) (bytes : List ℕ) → i < length text → length text ≤ 1024 → bytes ≡ paste no_text 0 text i
+    → set bytes i (get_or text i 0) ≡ paste no_text 0 text (i + 1)
+text-next text i bytes l h e =
+    rw (e, add-one)
+    (subst (λ (k : ℕ). set (paste no_text 0 text i) k (get_or text i 0) ≡ paste no_text 0 text (suc i)) (zero-add i)
+    (paste-suc no_text 0 text i 0 (omega (arith, text-length)) l))
+
+pub text-end : (text : List ℕ) → paste no_text 0 text (length text) ≡ text_of text
+unfolding no_text
+text-end text = rw (take-length, zero-add, drop-zeros)
 
 -- ---- the reasons
 

@@ -1,11 +1,13 @@
 -- A read's word: where it lies, the bytes that its step copies, and those that its last step hands over. Over plain lists and numbers. Assumes nothing.
 use Prim.Native.Nat.{ℕ, zero, suc, ◌+◌, ◌*◌, ◌-◌, ◌/◌, ◌%◌, ◌≤◌, ◌<◌, max, min}
 use native.Mathlib.Omega.{arith}
+use native.Mathlib.Numerals.{add-one}
+use native.Mathlib.Nat.{zero-add}
 use mathlib.Core.Path.{◌≡◌, refl, sym, ◌∙◌, ap}
 use mathlib.Core.Logic.{◌≢◌, ◌⊎◌, inl, inr}
-use mathlib.Core.List.{List, [], ◌∷◌}
-use lib.ListN.{length, set, get_or, length-set}
-use lib.Seq.{sets, get_or-set_same, get_or-set_other}
+use mathlib.Core.List.{List, [], ◌∷◌, ◌++◌}
+use lib.ListN.{length, take, drop, set, get_or, length-set}
+use lib.Seq.{paste-suc, sets, get_or-set_same, get_or-set_other}
 use borrow.Author.Tests.{lt-ltb, le-ltb}
 use Rattle.words.specs.Edition.{Edition, block_bytes}
 use Rattle.words.specs.Logic.{list_from}
@@ -19,6 +21,14 @@ use Rattle.points.specs.Record.{range_words}
 use Rattle.points.specs.ReadSteps.{copy_at, copy_from, copy_to, shown_byte, with_word}
 use Rattle.points.proofs.Copied.{list_from-same, sets-three}
 use Rattle.points.proofs.FilePieces.{file-piece}
+
+pub handed-next :
+    (text bytes₀ bytes : List ℕ) (i : ℕ) → i < length text → i < length bytes₀ → bytes ≡ take i text ++ drop i bytes₀
+    → set bytes i (get_or text i 0) ≡ take (i + 1) text ++ drop (i + 1) bytes₀
+handed-next text bytes₀ bytes i l h e =
+    let z : 0 + i ≡ i = zero-add i in
+    let y : 0 + suc i ≡ suc i = zero-add (suc i) in
+    rw (e, add-one) (rw (y, z) at (paste-suc bytes₀ 0 text i 0 (omega arith) l))
 
 -- ---- where the word lies
 

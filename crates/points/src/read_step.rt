@@ -88,7 +88,10 @@ fn hand_over(text: &[u8], bytes: &mut [u8], n: usize)
     requires { (n ≤ length text.now) × (n ≤ length bytes.old) }
     ensures { bytes.new ≡ take n text.now ++ drop n bytes.old }
 {
-    bytes[..n].copy_from_slice(&text[..n]);
+    // Stays: as in `put_text`.
+    for i in 0..n {
+        bytes[i] = text[i];
+    }
 }
 
 // The last step: the record catches up; then the copy begins again, or the bytes are answered and the point is idle.
