@@ -13,9 +13,13 @@ use Rattle.words.specs.Edition.{one}
 use Rattle.words.specs.Logic.{between, all_of, every, list_from, first, ◌when◌}
 use Rattle.words.proofs.Logic.{and_left, and_right, every-all, length-list_from}
 use Rattle.words.proofs.Choice.{chosen-zero, chosen-suc}
+use Rattle.block_log.specs.Refusals.{number, refusal}
+use Rattle.block_log.specs.Opening.{number_of}
+use Rattle.block_log.proofs.Replies.{known-back, number-first}
 use Rattle.points.specs.declared.Point.{Point}
 use Rattle.points.specs.Serving.{Turned, Request, Common, Listed, asking, begin_turn, step_turn, row, serve_rounds, twice, serve_refusal, point_numbers, lasts_of}
 use Rattle.points.proofs.Alike.{Pairs, Alike}
+use Rattle.recovery.specs.Served.{ServeServed}
 use Rattle.recovery.proofs.Row.Served.{is-served, is-stopped, serve-served}
 use Rattle.c_lent.specs.Numbers.{shared_in, is_known}
 use Rattle.c_lent.specs.Serving.{CommonLent, ListedLent, asking_at, begin_turn_for, step_turn_for, number_at, start_at, Lent, one_for_each, serve_reason}
@@ -82,6 +86,14 @@ module _ (heads tables texts answers writes : List (List ℕ)) (bytes : List ℕ
         w,
         sym (ap (start_at writes) w) ∙ eqb-true (start_at writes (length writes)) (length bytes) f,
       )
+
+  -- the reason is one of document 01's numbers, so that the reply tells it
+  why-told : (k : ℕ) → why ≡ suc k → number (refusal (suc k)) ≡ suc k
+  unfolding serve_reason
+  why-told k e =
+      let each = one_for_each n (length tables) (length texts) (length writes) (length answers) in
+      let whole = eqb (start_at writes (length writes)) (length bytes) in
+      known-back (26 when not each ∷ 26 when not whole ∷ 27 when twice (list_from 0 n (number_at heads)) ∷ []) refl k e
 
   not_lent : (Lent heads tables texts answers writes bytes → ⊥) → why ≡ 26
   not_lent never = go _ refl _ refl
@@ -151,6 +163,7 @@ module _ (heads tables texts answers writes : List (List ℕ)) (bytes : List ℕ
               rw (is_row e) (record {
                 lasts = lasts_of ys;
                 known = heads-known xs ys p;
+                told = refl;
                 answers = λ z. answers-same xs ys p;
                 served = serve-served one c.image (shared_in c.shared) points requests _ (rw (alike.common, points-same xs ys p)
                     (sym (is-served one c.image (shared_in c.shared) points requests (sym (same-reason l) ∙ e))));
@@ -158,6 +171,7 @@ module _ (heads tables texts answers writes : List (List ℕ)) (bytes : List ℕ
           go (suc k) e = rw (is-refused k e) (record {
             lasts = [];
             known = known;
+            told = why-told k e;
             answers = λ z. absurd (omega arith);
             served = serve-served one c.image (shared_in c.shared) points requests _
                 (sym (is-stopped one c.image (shared_in c.shared) points requests k (sym (same-reason l) ∙ e)));
@@ -167,3 +181,14 @@ module _ (heads tables texts answers writes : List (List ℕ)) (bytes : List ℕ
     unfolding ServeServedFor
     serve-for l e = subst (ServeServedFor c heads tables texts answers writes bytes) (sym e)
         (served-as, λ never. refused_why ∙ not_lent never, unchanged)
+
+-- so the number that is told is the reason's, 27 no other than 27
+pub told-reason :
+    {c : CommonLent} {heads tables texts writes : List (List ℕ)} {bytes : List ℕ} {l : ServeLeft} → ServeServedAs c heads tables texts writes bytes l
+    → l.refused ≡ serve_refusal (point_numbers (points_in heads tables texts)) (length (requests_in writes bytes))
+unfolding ServeServed serve_refusal
+told-reason {heads} {tables} {texts} {writes} {bytes} x =
+    let numbers = point_numbers (points_in heads tables texts) in
+    let wrote = length (requests_in writes bytes) in
+    let lists = 26 when (not (between 1 (length numbers) 32) || not (eqb wrote (length numbers))) ∷ 27 when twice numbers ∷ [] in
+    sym x.told ∙ ap number_of x.served.0 ∙ number-first lists refl

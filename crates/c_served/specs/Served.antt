@@ -6,7 +6,7 @@ use Rattle.std.specs.Prelude.{ℕ, zero, suc, ◌≡◌, Bool, true, ◌≢◌, 
 use Rattle.words.specs.Edition.{one}
 use Rattle.words.specs.Logic.{between, all_of, list_from}
 use Rattle.block_log.specs.Refusals.{refusal}
-use Rattle.block_log.specs.Opening.{reply_of, open_refusal}
+use Rattle.block_log.specs.Opening.{reply_of, number_of, open_refusal}
 use Rattle.points.specs.declared.StepAnswer.{StepAnswer}
 use Rattle.points.specs.declared.StepAnswer.TheVariants.{Stored, Moved, Extending, Committed, Refused, Copied, Bytes}
 use Rattle.points.specs.declared.Joined.{Joined}
@@ -132,10 +132,11 @@ service_from l lasts =
     record { reply = reply_of l.refused; common = common_in l.common; points = points_in l.heads l.tables l.texts; lasts = lasts }
 
 module _ (c : CommonLent) (heads tables texts : List (List ℕ)) where
-  -- the lent list has the numbers of these answers. (They are not read back: the numbers of a refused beginning are those of a refused step)
+  -- the reply's number is told, and the lent list has the numbers of these answers. (Those are not read back: a refused beginning's are a refused step's)
   pub record ServeServedAs (writes : List (List ℕ)) (bytes : List ℕ) (l : ServeLeft) : Type 0 where
     pub lasts : List Last
     pub known : all_of is_known l.heads ≡ true
+    pub told : number_of (reply_of l.refused) ≡ l.refused
     pub answers : l.refused ≡ 0 → l.answers ≡ map last_numbers lasts
     pub served : ServeServed one c.image (shared_in c.shared) (points_in heads tables texts) (requests_in writes bytes) (service_from l lasts)
 
