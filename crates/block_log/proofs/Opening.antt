@@ -1,8 +1,9 @@
 -- Opening: it asks of the scratch only whether it is long enough; and its ways out, by the reasons in their order.
-use mathlib.Core.Path.{◌≡◌, ◌∙◌, refl, ap}
+use mathlib.Core.Path.{◌≡◌, ◌∙◌, refl, sym, ap}
+use mathlib.Core.Logic.{◌≢◌}
 use mathlib.Core.List.{List, ◌∷◌, [], ◌++◌}
 use mathlib.Core.Bool.{true, false}
-use Prim.Native.Nat.{ℕ, ◌≤◌, zero, suc, ◌<◌}
+use Prim.Native.Nat.{ℕ, ◌≤◌, zero, suc, ◌<◌, ◌-◌}
 use native.Mathlib.Omega.{arith}
 use lib.Dec.{ltb, leb}
 use lib.ListN.{length, drop, replicate}
@@ -123,7 +124,10 @@ module _ (words scratch : List ℕ) where
   unfolding early
   early-few k e = leb-true (suc k) 6 (first-is (λ n. leb n 6) (early words (length scratch)) refl k e)
 
-  -- refused by one of them
+  -- refused by one of them: by its number, and what is answered and left
+  pub early-refusal : (r : ℕ) → r ≡ first (early words (length scratch)) → r ≢ 0 → open_refusal one words scratch ≡ suc (r - 1)
+  early-refusal r er ne = all-reasons ∙ first-front (early words (length scratch)) (late one words scratch) (λ z. ne (er ∙ z)) ∙ sym er ∙ omega arith
+
   pub early-out :
       (e : Refusal) → reply_of (first (early words (length scratch))) ≡ Err e
       → (opened one words scratch ≡ record { reply = Err e; length = 0; entries = 0; free = 0; shared = no_shared }) × (scratch_after one words scratch ≡ scratch)
@@ -134,8 +138,7 @@ module _ (words scratch : List ℕ) where
       go zero x = let z = ap number_of (rw x at h) in let l = number-some e in absurd (omega arith)
       go (suc k) x =
           let q : reply_of (suc k) ≡ Err e = rw x at h in
-          let r : open_refusal one words scratch ≡ suc k =
-          all-reasons ∙ first-front (early words (length scratch)) (late one words scratch) (λ z. absurd (omega (arith, x, z))) ∙ x in (
+          let r : open_refusal one words scratch ≡ suc k = early-refusal (suc k) (sym x) (λ z. absurd (omega (arith, z))) ∙ omega arith in (
             refused-opened one words scratch k r
                 ∙ ap (λ (y : Reply). record { reply = y; length = 0; entries = 0; free = 0; shared = no_shared }) q,
             refused-scratch one words scratch k r (omega (arith, early-few k x)),

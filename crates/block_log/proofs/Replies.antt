@@ -1,5 +1,6 @@
 -- A reason and its number, a reply and its number; a call that goes by its refusal's number replies that number, and so does opening. Assumes nothing.
 use mathlib.Core.Path.{◌≡◌, refl, sym, ap, ◌∙◌}
+use mathlib.Core.Logic.{◌≢◌}
 use mathlib.Core.Bool.{Bool, true}
 use mathlib.Core.List.{List, [], ◌∷◌}
 use Prim.Native.Nat.{ℕ, zero, suc, ◌≤◌}
@@ -85,12 +86,17 @@ reply-again (Err e) = go (number e) refl (number-some e)
 abbrev pub known : ℕ → Bool
 known n = eqb (number (refusal n)) n
 
+-- the reply by a reason's number, or by 0, has that number
+pub number-back : (n : ℕ) → (n ≢ 0 → known n ≡ true) → number_of (reply_of n) ≡ n
+number-back zero k = refl
+number-back (suc n) k = eqb-true _ _ (k (λ z. absurd (omega (arith, z))))
+
 -- the first of such reasons replies its number
 pub known-back : (rs : List Reason) → all_of (λ (r : Reason). known r.number) rs ≡ true → (k : ℕ) → first rs ≡ suc k → number (refusal (suc k)) ≡ suc k
 known-back rs a k e = eqb-true _ _ (first-is known rs a k e)
 
-pub number-back : (rs : List Reason) → all_of (λ (r : Reason). known r.number) rs ≡ true → number_of (reply_of (first rs)) ≡ first rs
-number-back rs a = go (first rs) refl
+pub number-first : (rs : List Reason) → all_of (λ (r : Reason). known r.number) rs ≡ true → number_of (reply_of (first rs)) ≡ first rs
+number-first rs a = go (first rs) refl
   where
     go : (n : ℕ) → first rs ≡ n → number_of (reply_of n) ≡ n
     go zero e = refl
@@ -133,8 +139,8 @@ pub opened-number : (E : Edition) (words scratch : List ℕ) → number_of (open
 unfolding open_refusal content_reasons
 opened-number E words scratch =
     ap number_of (opened-replies E words scratch)
-    ∙ number-back (1 when wrong_size E words ∷ 2 when short_scratch scratch ∷ content_reasons E (block_count E words) (memory E words)) refl
+    ∙ number-first (1 when wrong_size E words ∷ 2 when short_scratch scratch ∷ content_reasons E (block_count E words) (memory E words)) refl
 
 pub layout-number : (E : Edition) (words : List ℕ) → number_of (reply_of (layout_refusal E words)) ≡ layout_refusal E words
 unfolding layout_refusal
-layout-number E words = number-back (1 when wrong_size E words ∷ []) refl
+layout-number E words = number-first (1 when wrong_size E words ∷ []) refl

@@ -7,7 +7,7 @@ use Prim.Native.Nat.{ℕ, suc, ◌-◌, ◌*◌, ◌<◌}
 use native.Mathlib.Omega.{arith}
 use lib.ListN.{length, get_or}
 use borrow.Author.Tests.{eq-eqb, le-leb, lt-ltb}
-use Rattle.words.specs.Edition.{Edition}
+use Rattle.words.specs.Edition.{Edition, one}
 use Rattle.words.specs.Logic.{is_zero, some_of, every}
 use Rattle.words.specs.Memory.{Memory, memory, block_count, word_at}
 use Rattle.words.proofs.Logic.{all-every}
@@ -99,6 +99,9 @@ module _ (E : Edition) (words scratch : List ℕ) (e : open_refusal E words scra
   j-in : j < (E.block_words - 2) * length cs
   j-in = omega (arith, broken.inside, place-count E words cs inside)
 
+  pub seven-in : length (read_log E (block_count E words) (memory E words)) < (E.block_words - 2) * length (read_chain (block_count E words) (memory E words))
+  seven-in = rw (chain_same passed) j-in
+
   value : word_at (memory E words) (block_of E cs j) (slot_of E j) ≡ get_or (slots_of (memory E words) cs) j 0
   value = place-word E words cs inside j j-in
 
@@ -132,3 +135,9 @@ module _ (E : Edition) (words scratch : List ℕ) (e : open_refusal E words scra
 
   pub breaks-7 : breaks E words scratch (first_fault E words scratch) ≡ true
   breaks-7 = rw named (by_number E words scratch (entry_fault E (block_count E words) (memory E words) cs j) 6 number entry-breaks)
+
+-- edition one's, as the code asks for it
+pub seven-inside :
+    (words scratch : List ℕ) → open_refusal one words scratch ≡ 7
+    → length (read_log one (block_count one words) (memory one words)) < 62 * length (read_chain (block_count one words) (memory one words))
+seven-inside words scratch e = seven-in one words scratch e

@@ -2,6 +2,7 @@
 use Prim.Native.Nat.{ℕ, zero, suc, ◌+◌, ◌*◌, ◌-◌, ◌/◌, ◌^◌, ◌≤◌, ◌<◌, max}
 use native.Mathlib.Omega.{arith}
 use mathlib.Core.Path.{◌≡◌, refl, sym, ◌∙◌, ap}
+use mathlib.Core.Logic.{◌≢◌}
 use mathlib.Core.Bool.{Bool, true, false, ◌&&◌, ◌||◌, not, and-true, and_assoc, or-false, or_assoc}
 use mathlib.Core.List.{List, [], ◌∷◌}
 use lib.ListN.{length}
@@ -21,7 +22,8 @@ use Rattle.block_log.specs.declared.Shared.{Shared}
 use Rattle.points.specs.declared.Write.{Write}
 use Rattle.points.specs.declared.Head.{Head}
 use Rattle.points.specs.declared.Numbers.{Numbers}
-use Rattle.points.specs.Record.{is_idle, is_zeroing, is_reading, span, run_words, range_words, bad_shared, bad_text, past_end}
+use Rattle.points.specs.declared.Phase.TheVariants.{Idle}
+use Rattle.points.specs.Record.{phase_of, is_idle, is_zeroing, is_reading, span, run_words, range_words, bad_shared, bad_text, past_end}
 use Rattle.points.specs.Record.{inside, place_fits, zeroing_fits, write_fits, range_fits, work_fits, head_fits, all_below, fits}
 use Rattle.points.specs.Search.{Known, numbers_of}
 
@@ -176,6 +178,18 @@ module _ (E : Edition) (blocks : ℕ) (h : Head) where
           sym (choose-false (is_reading h.write.phase) (range_fits E h.write) (write_fits E blocks h.place h.write) r)
           ∙ sym (choose-false (is_idle h.write.phase) true (work_fits E blocks h.place h.write) e)
           ∙ the-write
+
+-- ---- a number that is no phase's but Idle's
+
+pub phase-none : (n : ℕ) → n ≢ 1 → n ≢ 2 → n ≢ 3 → n ≢ 4 → n ≢ 5 → n ≢ 6 → Idle ≡ phase_of n
+phase-none zero a b c d e f = refl
+phase-none (suc zero) a b c d e f = absurd (a refl)
+phase-none (suc (suc zero)) a b c d e f = absurd (b refl)
+phase-none (suc (suc (suc zero))) a b c d e f = absurd (c refl)
+phase-none (suc (suc (suc (suc zero)))) a b c d e f = absurd (d refl)
+phase-none (suc (suc (suc (suc (suc zero))))) a b c d e f = absurd (e refl)
+phase-none (suc (suc (suc (suc (suc (suc zero)))))) a b c d e f = absurd (f refl)
+phase-none (suc (suc (suc (suc (suc (suc (suc n))))))) a b c d e f = refl
 
 -- ---- the table
 

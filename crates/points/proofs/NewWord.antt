@@ -151,6 +151,12 @@ mixed-copied copied text lead end at small out =
         let d : at + j - at ≡ 0 + j = omega arith in
         mixed-after copied text lead end at (at + j) (omega arith) ∙ rw d
 
+-- word k of the run, from the word copied there and `lead`, the run's bytes before the text. `mixed`: byte by byte. `same`: the copied word itself, where
+-- none of its bytes is the text's
+pub record Laid (E : Edition) (m : Memory) (h : Head) (table text : List ℕ) (k copied lead : ℕ) : Type 0 where
+  pub mixed : new_word E m h table text k ≡ from_bytes (list_from (8 * k) 8 (mixed_byte copied text lead (lead + h.write.size) (8 * k)))
+  pub same : copied < 2 ^ 64 → (8 * k + 8 ≤ lead) ⊎ (lead + h.write.size ≤ 8 * k) → new_word E m h table text k ≡ copied
+
 -- word k of the run lies at word i of virtual block v
 module _ (E : Edition) (m : Memory) (h : Head) (table text : List ℕ) (k copied lead v i : ℕ) (is_lead : lead ≡ h.write.offset % block_bytes E)
     (is_block : v ≡ h.write.offset / block_bytes E + k / E.block_words) (is_word : i ≡ k % E.block_words) where
@@ -196,6 +202,9 @@ module _ (E : Edition) (m : Memory) (h : Head) (table text : List ℕ) (k copied
   pub new_word_lem : Copied → new_word E m h table text k ≡ from_bytes (list_from (8 * k) 8 mixed)
   unfolding new_word
   new_word_lem c = same_bytes (run_start E h.write + 8 * k) (8 * k) 8 (new_byte E m h table text) mixed (new-byte c)
+
+  pub laid : Copied → Laid E m h table text k copied lead
+  laid c = record { mixed = new_word_lem c; same = λ small out. new_word_lem c ∙ mixed-copied copied text lead end (8 * k) small out }
 
 -- where all of its bytes are the text's, they are eight in a row of it
 pub new-word-text :

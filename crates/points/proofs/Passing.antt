@@ -1,6 +1,6 @@
 -- Moving on by one entry: where one legal entry is ahead that maps none of the write's blocks, a step takes it in, no word is filled again, and the log
 -- place goes on by one slot. Assumes nothing.
-use Prim.Native.Nat.{ℕ, suc, ◌+◌, ◌-◌, ◌≤◌, ◌<◌}
+use Prim.Native.Nat.{ℕ, suc, ◌+◌, ◌-◌, ◌≤◌, ◌<◌, max}
 use native.Mathlib.Numerals.{add-one}
 use native.Mathlib.Omega.{arith}
 use mathlib.Core.Path.{◌≡◌, refl, sym, ap, ◌∙◌}
@@ -17,9 +17,9 @@ use Rattle.words.specs.Memory.{Memory, memory, block_at}
 use Rattle.words.proofs.Logic.{up_to_zero-end, up_to_zero-next}
 use Rattle.block_log.specs.declared.Place.{Place}
 use Rattle.block_log.specs.declared.Shared.{Shared}
-use Rattle.block_log.specs.Entry.{entry_v, entry_n, legal, covers}
+use Rattle.block_log.specs.Entry.{entry_v, entry_b, entry_n, entry_end, legal, covers}
 use Rattle.block_log.specs.Opening.{bad_entry}
-use Rattle.block_log.specs.Replay.{Mapped, apply, replay_on}
+use Rattle.block_log.specs.Replay.{Mapped, map_run, apply, replay_on}
 use Rattle.block_log.specs.CatchUp.{ended, ahead, broken}
 use Rattle.block_log.proofs.Walk.{here, walk-stop}
 use Rattle.points.specs.declared.Write.{Write}
@@ -120,3 +120,10 @@ moves-by-one words blocks h g table left e length x f k =
 
 pub stays : (words : List ℕ) (blocks : ℕ) (h : Head) (table : List ℕ) → MovesByOne words blocks h table None table
 stays words blocks h table = record { moved = λ g d. cc; stayed = λ d. refl }
+
+-- an entry taken in, by its fields
+pub taken_in :
+    (table left : List ℕ) (length size e v b n : ℕ) → left ≡ map_run table v b n → v ≡ entry_v e → b ≡ entry_b e → n ≡ entry_n e
+    → size ≡ max length (entry_end one e) → record { table = left; size = size } ≡ apply one (record { table = table; size = length }) e
+unfolding apply
+taken_in table left length size e v b n el ev eb en es = rw (es, el, ev, eb, en)

@@ -15,7 +15,7 @@ use Rattle.words.proofs.Tests.{or_split}
 use Rattle.block_log.specs.declared.Shared.{Shared}
 use Rattle.block_log.specs.Refusals.{number, refusal}
 use Rattle.block_log.specs.Opening.{reply_of, number_of}
-use Rattle.block_log.proofs.Replies.{replies, number-back, known-back}
+use Rattle.block_log.proofs.Replies.{replies, number-first, known-back}
 use Rattle.points.specs.declared.Point.{Point}
 use Rattle.points.specs.declared.Head.{Head}
 use Rattle.points.specs.declared.Joined.{Joined}
@@ -74,22 +74,22 @@ module _ (E : Edition) (I : List ℕ) (s : Shared) where
   unfolding join_refusal
   joining-number n =
       ap number_of (join-replies E I s n)
-      ∙ number-back (10 when bad_shared E I s ∷ 12 when ltb 31 n ∷ 13 when is_joined s n ∷ 18 when bad_first s.blocks (memory E I) ∷ []) refl
+      ∙ number-first (10 when bad_shared E I s ∷ 12 when ltb 31 n ∷ 13 when is_joined s n ∷ 18 when bad_first s.blocks (memory E I) ∷ []) refl
 
   module _ (p : Point) where
     pub leaving-number : number_of (leaving E I s p).reply ≡ unfit E I s p.head p.table
     unfolding unfit
-    leaving-number = ap number_of (leave-replies E I s p) ∙ number-back (record_reasons E I s p.head p.table) refl
+    leaving-number = ap number_of (leave-replies E I s p) ∙ number-first (record_reasons E I s p.head p.table) refl
 
     pub beginning-number : (o : ℕ) (text : List ℕ) → number_of (beginning E I s p o text).reply ≡ begin_refusal E I s p.head p.table o (length text)
     unfolding begin_refusal
     beginning-number o text =
         ap number_of (begin-replies E I s p o text)
-        ∙ number-back (begin_reasons E I s p.head p.table o (length text) (19 when is_zero (search s (span E o (length text))) ∷ [])) refl
+        ∙ number-first (begin_reasons E I s p.head p.table o (length text) (19 when is_zero (search s (span E o (length text))) ∷ [])) refl
 
     pub beginning-read-number : (o size : ℕ) → number_of (beginning_read E I s p o size).reply ≡ begin_read_refusal E I s p.head p.table o size
     unfolding begin_read_refusal
-    beginning-read-number o size = ap number_of (begin-read-replies E I s p o size) ∙ number-back (begin_reasons E I s p.head p.table o size []) refl
+    beginning-read-number o size = ap number_of (begin-read-replies E I s p o size) ∙ number-first (begin_reasons E I s p.head p.table o size []) refl
 
     -- the reason of a step that is refused has that number
     pub step-number : (k : ℕ) → step_refusal E I s p.head p.table ≡ suc k → number (refusal (suc k)) ≡ suc k
@@ -99,7 +99,7 @@ module _ (E : Edition) (I : List ℕ) (s : Shared) where
   pub locating-number : (h : Head) (table : List ℕ) (v : ℕ) → number_of (locating E I s h table v).reply ≡ locate_refusal E I s h table v
   unfolding locating locate_refusal
   locating-number h table v =
-      number-back
+      number-first
       (record_reasons E I s h table ++ 17 when leb file_blocks v ∷ broken_ahead E I s h ∷ 22 when is_zero (get_or (seen E I s h table).table v 0) ∷ [])
       refl
 
