@@ -50,7 +50,10 @@ fn adds_up(writes: &[[usize; 2]], bytes: usize) -> bool
 fn lent_for_each(n: usize, answers: usize, writes: &[[usize; 2]], bytes: usize) -> bool
     ensures { result ≡ lent_for_each n answers writes.now bytes }
 {
-    (answers == n) & (writes.len() == n) & adds_up(writes, bytes)
+    if answers != n || writes.len() != n {
+        return false;
+    }
+    adds_up(writes, bytes)
 }
 
 // Whether a point of this number is listed.
